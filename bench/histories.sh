@@ -1,13 +1,14 @@
 #!/usr/bin/env bash
 # Times a full listing of a table's history over the built program: n entries (100,000 and 200,000
-# unless told otherwise), half of them of rows that were inserted and half of what an update made of each, with
-# texts of 16 and of 1,024 bytes (or the numbers in WIDTHS). Prints the seconds that the listing
-# adds to opening the archive, and those that a listing of the second column alone adds, which comes
-# in another order than it is stored in; beside these what writing the bytes of the first takes a
-# bare program in C, from a buffer and line by line with printf, without what reading them takes it;
-# the most memory of opening in KiB; and the most memory that the listing takes beside the archive,
-# in bytes an entry, in a process that has made the archive itself and given back what that took for
-# a while: texts have no part in it, since a listing borrows them. It prints what it measures, and ends with 1 only where a reply is wrong.
+# unless told otherwise), half of them of rows that were inserted and half of what an update made
+# of each, with texts of 16 and of 1,024 bytes (or the numbers in WIDTHS). Prints the seconds of a
+# listing, a tenth of what ten more of it add to a process that lists once, and those of a listing
+# of the second column alone, which comes in another order than it is stored in; beside these what
+# writing the bytes of the first takes a bare program in C, from a buffer and line by line with
+# printf, without what reading them takes it; the most memory of opening in KiB; and the most
+# memory that the listing takes beside the archive, in bytes an entry, in a process that has made
+# the archive itself and given back what that took for a while: texts have no part in it, since a
+# listing borrows them. It prints what it measures, and ends with 1 only where a reply is wrong.
 # Files stand in memory where the machine has a folder there. PROGRAM names another build to be
 # timed in place of this one.
 set -eu
@@ -21,8 +22,8 @@ fi
 scratch=$(mktemp -d)
 trap 'rm -rf "$scratch"' EXIT
 cat >"$scratch/bare.c" <<'C'
-// Reads the file that is named, and writes its lines: not at all, from one buffer, or each by itself
-// with printf.
+// Reads the file that is named, and writes its lines: not at all, from one buffer, or each by
+// itself with printf.
 #include <stdio.h>
 #include <stdlib.h>
 #include <string.h>
@@ -142,38 +143,40 @@ def listing_memory(folder, commands, n):
     return most - before
 
 
-print(f"{'width':>6} {'entries':>8} {'reply':>11} {'listing':>8} {'of b':>8} {'write':>8} {'printf':>8} "
-      f"{'open KiB':>9} {'list KiB':>9} {'B/entry':>8}")
+print(f"{'width':>6} {'entries':>8} {'reply':>11} {'listing':>8} {'of b':>8} {'write':>8} "
+      f"{'printf':>8} {'open KiB':>9} {'list KiB':>9} {'B/entry':>8}")
 for width in widths:
     for n in sizes:
         with tempfile.TemporaryDirectory(dir=in_memory) as folder:
             paths = [os.path.join(folder, name)
-                for name in ("script", "nothing", "query", "other", "replies")]
+                for name in ("script", "nothing", "one", "many", "other", "others", "replies")]
             commands = list(load(n, width))
             with open(paths[0], "w") as it:
                 it.writelines(line + "\n" for line in commands)
             open(paths[1], "w").close()
-            for path, asked in zip(paths[2:4], (QUERY, OTHER)):
+            asked = (QUERY, 11 * QUERY, OTHER, 11 * OTHER)
+            for path, questions in zip(paths[2:6], asked):
                 with open(path, "wb") as it:
-                    it.write(asked)
-            script, nothing, query, other = (open(path, "rb") for path in paths[:4])
-            with open(paths[4], "w+b") as replies:
+                    it.write(questions)
+            script, nothing, once, often, other, others = (open(path, "rb") for path in paths[:6])
+            with open(paths[6], "w+b") as replies:
                 run([program, "run"], folder, script, replies)
                 replies.seek(0)
                 if b"error" in replies.read():
                     sys.exit("a command was refused")
-                opening, open_most = least([program, "run"], folder, nothing, replies)
-                of_one, _ = least([program, "run"], folder, other, replies)
-                listing, _ = least([program, "run"], folder, query, replies)
+                _, open_most = least([program, "run"], folder, nothing, replies)
+                times = [least([program, "run"], folder, questions, replies)[0]
+                    for questions in (others, other, often, once)]
+                of_one, listing = (times[0] - times[1]) / 10, (times[2] - times[3]) / 10
                 replies.seek(0)
                 said = replies.read()
             if not said.endswith(f"end {n}\n".encode()) or said.count(b"\n") != n + 1:
                 sys.exit("the listing is not of all entries")
             with open(paths[0], "w+b") as out:
-                read, block, lines = (least([bare, paths[4], how], folder, nothing, out)[0]
+                read, block, lines = (least([bare, paths[6], how], folder, nothing, out)[0]
                     for how in ("nothing", "block", "lines"))
             taken = listing_memory(folder, commands, n)
         grown = taken * 1024 / n
-        print(f"{width:>6} {n:>8} {len(said):>11} {listing - opening:>8.3f} "
-              f"{of_one - opening:>8.3f} {block - read:>8.3f} {lines - read:>8.3f} {open_most:>9} {taken:>9} {grown:>8.1f}")
+        print(f"{width:>6} {n:>8} {len(said):>11} {listing:>8.3f} {of_one:>8.3f} "
+              f"{block - read:>8.3f} {lines - read:>8.3f} {open_most:>9} {taken:>9} {grown:>8.1f}")
 PYTHON
