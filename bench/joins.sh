@@ -1,15 +1,15 @@
 #!/usr/bin/env bash
 # Times joins over time, over the built program: two tables of n rows each, and more beside them,
-# for each n (1,000, 10,000 and 100,000 unless told otherwise). Prints for each question the seconds
-# that it adds to the load, and below them the most KiB that the process had, with the load: an
-# equality on a key; an equality that nothing meets; an equality on texts of 100 bytes; three tables; rows whose periods never overlap;
-# KEEP over all entries; a few rows of a join; versions of one key beside a row that outlasts them
-# (10,000 at most); the product of 3,000 rows with 3,000, and of 200 with 200 with 200, where no
-# equality links them and the answer is one value; and a full listing, to compare with. Where an
-# answer is short or as long as the tables, ten times the rows should take little more than ten
-# times as long; the products should take little more memory than `few`, and texts little more than
-# `key`, since joins and listings borrow them. PROGRAM names another build to be timed in place of
-# this one.
+# for each n (1,000, 10,000 and 100,000 unless told otherwise). Prints for each question the
+# seconds that it adds to the load, and below them the most KiB that the process had, with the
+# load: an equality on a key; an equality that nothing meets; an equality on texts of 100 bytes;
+# three tables; rows whose periods never overlap; KEEP over all entries; a few rows of a join;
+# versions of one key beside a row that outlasts them (10,000 at most); the product of 3,000 rows
+# with 3,000, and of 200 with 200 with 200, where no equality links them and the answer is one
+# value; and a full listing, to compare with. Where an answer is short or as long as the tables,
+# ten times the rows should take little more than ten times as long; the products should take
+# little more memory than `few`, and texts little more than `key`, since joins and listings borrow
+# them. PROGRAM names another build to be timed in place of this one.
 set -eu
 top=$(cd "$(dirname "$0")/.." && pwd)
 if [ -z "${PROGRAM:-}" ]; then

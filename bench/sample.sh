@@ -1,12 +1,13 @@
 #!/usr/bin/env bash
 # Tells what a sample's history takes in memory once its archive is open: for each size (1,000 and
-# 2,000 rows unless told otherwise) the keys and cells that are stored, by SHOW SIZES, and the memory
-# of a process that has opened the archive and waits, beside one with an archive of no command, in
-# KiB; then what each row and each cell more of the greatest size take beside those of the least, in
-# bytes. The archives end with a CHECKPOINT, so that an opening makes the stored tables from an
-# image; what the opening took for a while is given back by then, but for small blocks. It prints
-# what it measures, and ends with 1 only where a reply is wrong. Files stand in memory where the
-# machine has a folder there. PROGRAM names another build to be measured in place of this one.
+# 2,000 rows unless told otherwise) the keys and cells that are stored, by SHOW SIZES, and the
+# memory of a process that has opened the archive and waits, beside one with an archive of no
+# command, in KiB; then what each row and each cell more of the greatest size take beside those of
+# the least, in bytes. The archives end with a CHECKPOINT, so that an opening makes the stored
+# tables from an image; what the opening took for a while is given back by then, but for small
+# blocks. It prints what it measures, and ends with 1 only where a reply is wrong. Files stand in
+# memory where the machine has a folder there. PROGRAM names another build to be measured in place
+# of this one.
 set -eu
 top=$(cd "$(dirname "$0")/.." && pwd)
 if [ -z "${PROGRAM:-}" ]; then
