@@ -16,7 +16,7 @@ mod reader;
 mod tree_reader;
 mod value_reader;
 
-pub use command_encoder::{encode, put_name, put_op, put_value};
+pub use command_encoder::{encode, encode_changes, encode_operator, put_name, put_op, put_value};
 pub use decoder::decode;
 pub use fault::CodecFault;
 pub use field::{borrowed_name, column_type, name, sign, value};

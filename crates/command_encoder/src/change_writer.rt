@@ -6,7 +6,8 @@ ghost use Rattle.prima_base.specs.Bytes.{IsName};
 ghost use Rattle.cond_expr.specs.Seen.{test};
 ghost use Rattle.smo_types.specs.Changes.{change_of, changes_of, set_of_expr, sets_of, insertion};
 ghost use Rattle.smo_types.specs.Changes.{deletion, update};
-ghost use Rattle.smo_types.specs.Commands.{body_of};
+ghost use Rattle.smo_types.specs.Commands.{changing, evolving};
+ghost use Rattle.smo_types.specs.Operators.{operator_of, operators_of};
 ghost use Rattle.command_spelling.specs.Spelling.{cell_bytes, set_bytes, list_bytes, change_bytes};
 ghost use Rattle.command_spelling.specs.Spelling.{body_bytes, name_bytes, test_bytes};
 ghost use Rattle.command_spelling.specs.Valid.{IsValue, IsWritableTree, TestFits, TreeNamed};
@@ -18,7 +19,7 @@ use crate::part::{put, put_u32, write_name, write_value};
 use crate::tree_writer::{write_cond, write_expr};
 use cond_expr::{Cond, Expr};
 use prima_base::{Name, NoMemory, Value};
-use smo_types::{Body, Change};
+use smo_types::{Change, Op};
 
 // A column's name and its value.
 fn write_cell(out: &mut Vec<u8>, cell: &(Name, Value)) -> Result<(), NoMemory>
@@ -164,23 +165,28 @@ fn write_changes(out: &mut Vec<u8>, changes: &[Change]) -> Result<(), NoMemory>
     Ok(())
 }
 
-/// Writes the spelling of what a command does after what is there.
-pub(crate) fn write_body(out: &mut Vec<u8>, body: &Body) -> Result<(), NoMemory>
-    requires { IsWritableBody (body_of body.now) }
-    ensures ok { OnOk result (out.new.items ≡ out.old.items ++ body_bytes (body_of body.now)) }
-    ensures named { OnOk result (BodyNamed (body_of body.now)) }
+/// Writes changes as what a command does, after what is there.
+pub(crate) fn write_changing(out: &mut Vec<u8>, changes: &[Change]) -> Result<(), NoMemory>
+    requires { IsWritableBody (changing (changes_of changes.now)) }
+    ensures ok { OnOk result (out.new.items
+        ≡ out.old.items ++ body_bytes (changing (changes_of changes.now))) }
+    ensures named { OnOk result (BodyNamed (changing (changes_of changes.now))) }
 {
-    match body {
-        Body::Changes(changes) => {
-            put(out, &[0])?;
-            write_changes(out, changes)?;
-            Ok(())
-        }
-        Body::Evolve { op, inverse } => {
-            put(out, &[1])?;
-            write_op(out, op)?;
-            write_ops(out, inverse)?;
-            Ok(())
-        }
-    }
+    put(out, &[0])?;
+    write_changes(out, changes)?;
+    Ok(())
+}
+
+/// Writes an operator and its inverse as what a command does, after what is there.
+pub(crate) fn write_evolving(out: &mut Vec<u8>, op: &Op, inverse: &[Op]) -> Result<(), NoMemory>
+    requires { IsWritableBody (evolving (operator_of op.now) (operators_of inverse.now)) }
+    ensures ok { OnOk result (out.new.items ≡ out.old.items
+        ++ body_bytes (evolving (operator_of op.now) (operators_of inverse.now))) }
+    ensures named { OnOk result (BodyNamed
+        (evolving (operator_of op.now) (operators_of inverse.now))) }
+{
+    put(out, &[1])?;
+    write_op(out, op)?;
+    write_ops(out, inverse)?;
+    Ok(())
 }

@@ -7,7 +7,7 @@ ghost use Rattle.prima_base.specs.Order.{shown};
 ghost use Rattle.cond_expr.specs.Seen.{tree, test, trees_of, tests_of};
 ghost use Rattle.smo_types.specs.Operators.{operator_of, operators_of, decompose_table};
 ghost use Rattle.smo_types.specs.Changes.{change_of, changes_of, sets_of};
-ghost use Rattle.smo_types.specs.Commands.{body_of};
+ghost use Rattle.smo_types.specs.Commands.{changing, evolving};
 ghost use Rattle.command_spelling.specs.Spelling.{name_bytes, value_bytes, tree_bytes, trees_bytes};
 ghost use Rattle.command_spelling.specs.Spelling.{test_bytes, tests_bytes, column_bytes};
 ghost use Rattle.command_spelling.specs.Spelling.{operator_bytes, cell_bytes, set_bytes};
@@ -15,7 +15,7 @@ ghost use Rattle.command_spelling.specs.Spelling.{change_bytes, body_bytes};
 
 use cond_expr::{Cond, Expr};
 use prima_base::{ColType, Name, Val, Value};
-use smo_types::{Body, Change, Op};
+use smo_types::{Change, Op};
 
 /// The bytes of a name; at most 64.
 #[tactic(auto, using(crate::proofs::Lengths::lengths))]
@@ -265,16 +265,20 @@ fn changes_size(list: &[Change]) -> u64
     size
 }
 
-/// The bytes of what a command does.
+/// The bytes of changes as what a command does.
 #[tactic(auto, using(crate::proofs::Lengths::lengths))]
-pub(crate) fn body_size(body: &Body) -> u64
-    ensures { result ≡ min (length (body_bytes (body_of body.now))) u64.MAX }
+pub(crate) fn changing_size(changes: &[Change]) -> u64
+    ensures { result ≡ min (length (body_bytes (changing (changes_of changes.now)))) u64.MAX }
 {
-    match body {
-        Body::Changes(changes) => changes_size(changes).saturating_add(5),
-        Body::Evolve { op, inverse } => {
-            let ops = op_size(op).saturating_add(ops_size(inverse));
-            ops.saturating_add(5)
-        }
-    }
+    changes_size(changes).saturating_add(5)
+}
+
+/// The bytes of an operator and its inverse as what a command does.
+#[tactic(auto, using(crate::proofs::Lengths::lengths))]
+pub(crate) fn evolving_size(op: &Op, inverse: &[Op]) -> u64
+    ensures { result ≡ min (length (body_bytes
+        (evolving (operator_of op.now) (operators_of inverse.now)))) u64.MAX }
+{
+    let ops = op_size(op).saturating_add(ops_size(inverse));
+    ops.saturating_add(5)
 }
