@@ -1,5 +1,5 @@
 -- What an archive on a disk answers to a command.
-use Rattle.std.specs.Prelude.{◌≡◌, ℕ, ◌+◌, ◌∷◌, [], nat_le, Option, Some, None, Result, Ok, Err}
+use Rattle.std.specs.Prelude.{◌≡◌, ℕ, ◌+◌, ◌∷◌, [], nat_le, Some, None, Result, Ok, Err}
 use Rattle.std.specs.Prelude.{⊤}
 use Rattle.prima_base.specs.declared.refusal.Refusal.TheVariants.{JournalFull}
 use Rattle.smo_types.specs.Commands.{PlainCommand}
@@ -7,14 +7,15 @@ use Rattle.smo_meaning.specs.First.{unless, first_refusal}
 use Rattle.smo_meaning.specs.Checks.{Fault}
 use Rattle.smo_meaning.specs.Accepts.{command_fault}
 use Rattle.smo_meaning.specs.Past.{Past, past_with}
-use Rattle.schema_catalog.specs.Tables.{Tables}
 use Rattle.journal.specs.Records.{Record}
 use Rattle.journal.specs.JournalFiles.{needs}
 use Rattle.journal.specs.declared.sealed.Sealed.{Sealed}
 use Rattle.archive_file.specs.LogRecords.{logged, record_of}
+use Rattle.archive_state.specs.declared.accepted_command.AcceptedCommand.{AcceptedCommand}
 use Rattle.archive_state.specs.declared.archive.Done.{Done}
+use Rattle.archive_state.specs.AcceptedCommands.{IsAcceptedAfter}
 use Rattle.archive_state.specs.ArchiveContents.{ArchiveContent, RepresentsPast}
-use Rattle.archive_state.specs.Committing.{IsAsBefore, IsDone, Finds}
+use Rattle.archive_state.specs.Committing.{IsAsBefore, IsDone}
 use Rattle.archive_core.specs.declared.fault.CommitFault.{CommitFault}
 use Rattle.archive_core.specs.declared.fault.CommitFault.TheVariants.{Broken, Refused, Disk}
 use Rattle.archive_core.specs.declared.fault.CommitFault.TheVariants.{NoMemory}
@@ -54,8 +55,8 @@ Commits past command at limit old (Err NoMemory) new = IsUnchanged past old new
 
 -- a command that is accepted was judged, and this was found; another is refused by its first
 -- refusal
-abbrev pub IsJudged : Past → PlainCommand → Result (Option Tables × Sealed) CommitFault → Type 0
-IsJudged past command (Ok it) = Finds past command it.0
+abbrev pub IsJudged : Past → PlainCommand → Result (AcceptedCommand × Sealed) CommitFault → Type 0
+IsJudged past command (Ok it) = IsAcceptedAfter past it.0
 IsJudged past command (Err (Refused r)) = command_fault past command ≡ Some r
 IsJudged past command (Err Disk) = ⊥
 IsJudged past command (Err Broken) = ⊥

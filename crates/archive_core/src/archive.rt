@@ -31,13 +31,13 @@ use crate::preparation::{judge_and_seal, seal_checkpoint};
 use crate::replay::restore;
 use crate::{AskFault, CommitFault, MountFault};
 use answer_text::Listing;
-use archive_state::{ArchiveState, Done, next_version};
+use archive_state::{AcceptedCommand, ArchiveState, Done};
 use disk_model::Disk;
 use journal::{Journal, PutFault, Sealed};
 use piece_texts::Explained;
 use prima_base::{Refusal, Steps};
 use rule_book::{Rule, RuleBook};
-use smo_types::{Body, Command};
+use smo_types::Command;
 use std::alloc::Global;
 use std::sync::ledger::Ledger;
 use store_image::an_image_shows_its_archive;
@@ -188,20 +188,21 @@ impl<D: Disk> Archive<D> {
         if self.broken {
             return Err(CommitFault::Broken);
         }
-        let (found, sealed) = judge_and_seal(self.alloc, &self.state, &command)?;
-        let stamp = command.stamp();
-        match command.into_body() {
-            Body::Changes(changes) => {
+        let (accepted, sealed) = judge_and_seal(self.alloc, &self.state, command)?;
+        match accepted {
+            AcceptedCommand::Changes {
+                stamp,
+                changes,
+                places,
+            } => {
                 let judged = Judged::Changes {
                     stamp,
                     changes: &changes,
+                    places,
                 };
                 self.accept(judged, &sealed)
             }
-            Body::Evolve { op, inverse } => {
-                let version = next_version(stamp, op, inverse, found);
-                self.accept(Judged::Evolve(version), &sealed)
-            }
+            AcceptedCommand::Evolve(version) => self.accept(Judged::Evolve(version), &sealed),
         }
     }
 

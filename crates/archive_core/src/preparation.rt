@@ -1,10 +1,13 @@
 //! All that a command or a checkpoint needs before the disk is called.
 
-ghost use Rattle.std.specs.Prelude.{◌≡◌, IfOk, OnOk};
+ghost use Rattle.std.specs.Prelude.{◌≡◌, ◌<◌, IfOk, OnOk};
+ghost use Rattle.relations.specs.Spans.{forever};
 ghost use Rattle.smo_types.specs.Commands.{command_of};
 ghost use Rattle.smo_meaning.specs.Past.{Past};
+ghost use Rattle.command_spelling.specs.Found.{Spells};
 ghost use Rattle.command_spelling.specs.Valid.{IsCommand, IsWritable};
 ghost use Rattle.journal.specs.JournalFiles.{sealed_record};
+ghost use Rattle.archive_state.specs.AcceptedCommands.{accepted_command};
 ghost use Rattle.archive_state.specs.ArchiveContents.{RepresentsPast, RepresentsSome};
 ghost use Rattle.archive_file.specs.LogRecords.{logged, record_of};
 ghost use Rattle.archive_core.specs.Committing.{IsJudged};
@@ -12,46 +15,61 @@ ghost use Rattle.archive_core.specs.Checkpointing.{checkpoint_of};
 ghost use Rattle.store_image.specs.ImageIn.{GroupsHold};
 
 use crate::CommitFault;
-use archive_state::{ArchiveState, CommitFault as StateFault};
-use command_codec::encode;
+use archive_state::{AcceptedCommand, ArchiveState, CommitFault as StateFault};
+use command_codec::{encode_changes, encode_operator};
 use command_spelling::accepted_commands_can_be_written;
 use journal::{CHECKPOINT, COMMAND, Sealed};
 use prima_base::NoMemory;
-use schema_catalog::Schema;
 use smo_types::Command;
 use std::alloc::Global;
 use store_image::image_of;
 
-// The record of a command.
-fn seal(alloc: Global, command: &Command) -> Result<Sealed, NoMemory>
-    requires { IsWritable (command_of command.now) }
-    ensures sealed { IfOk result (λ s. sealed_record s
-        ≡ record_of (logged (command_of command.now))) }
-    ensures spelled { OnOk result (IsCommand (command_of command.now)) }
+// The spelling of an accepted command.
+fn spelled(alloc: Global, accepted: &AcceptedCommand) -> Result<Vec<u8>, NoMemory>
+    requires valid { (accepted_command accepted.now).stamp < forever }
+    requires writable { IsWritable (accepted_command accepted.now) }
+    ensures { IfOk result (λ v. Spells (accepted_command accepted.now) v.items) }
 {
-    let bytes = encode(alloc, command)?;
+    match accepted {
+        AcceptedCommand::Changes { stamp, changes, .. } => encode_changes(alloc, *stamp, changes),
+        AcceptedCommand::Evolve(version) => {
+            encode_operator(alloc, version.stamp, &version.op, &version.inverse)
+        }
+    }
+}
+
+// The record of an accepted command.
+fn seal(alloc: Global, accepted: &AcceptedCommand) -> Result<Sealed, NoMemory>
+    requires valid { (accepted_command accepted.now).stamp < forever }
+    requires writable { IsWritable (accepted_command accepted.now) }
+    ensures sealed { IfOk result (λ s. sealed_record s
+        ≡ record_of (logged (accepted_command accepted.now))) }
+    ensures spelled { OnOk result (IsCommand (accepted_command accepted.now)) }
+{
+    let bytes = spelled(alloc, accepted)?;
     Sealed::new(alloc, COMMAND, &bytes)
 }
 
-/// Judges the command, which is still whole, and seals the record of an accepted one; what judging
-/// found is told. No device is called, and what stands in memory stays as it is.
+/// Judges the command, and seals the record of an accepted one, which is answered with what judging
+/// found. No device is called, and what stands in memory stays as it is.
 pub(crate) fn judge_and_seal(
     alloc: Global,
     state: &ArchiveState,
-    command: &Command,
-) -> Result<(Option<Schema>, Sealed), CommitFault>
+    command: Command,
+) -> Result<(AcceptedCommand, Sealed), CommitFault>
+    ensures same { IfOk result (λ it. accepted_command it.0 ≡ command_of command) }
     ensures judged { (past : Past) → RepresentsPast state.now past
-        → IsJudged past (command_of command.now) result }
+        → IsJudged past (command_of command) result }
     ensures sealed { IfOk result (λ it. sealed_record it.1
-        ≡ record_of (logged (command_of command.now))) }
-    ensures spelled { OnOk result (IsCommand (command_of command.now)) }
+        ≡ record_of (logged (command_of command))) }
+    ensures spelled { OnOk result (IsCommand (command_of command)) }
     ensures represents { RepresentsSome state.now }
 {
     match state.judge(command) {
-        Ok(found) => {
+        Ok(accepted) => {
             accepted_commands_can_be_written();
-            let sealed = seal(alloc, command)?;
-            Ok((found, sealed))
+            let sealed = seal(alloc, &accepted)?;
+            Ok((accepted, sealed))
         }
         Err(StateFault::Refused(refusal)) => Err(CommitFault::Refused(refusal)),
         Err(StateFault::NoMemory) => Err(CommitFault::NoMemory),

@@ -1,8 +1,11 @@
 -- How the tests of a command are joined.
-use Rattle.std.proofs.Common.{◌≡◌, ◌≤◌, ◌<◌, ℕ, List, ◌∷◌, length, refl, sym, subst, ◌∙◌, arith}
+use Rattle.std.proofs.Common.{◌≡◌, ◌≤◌, ◌<◌, ℕ, List, ◌∷◌, length, refl, sym, ap, subst}
+use Rattle.std.proofs.Common.{◌∙◌, arith}
+use Rattle.std.specs.Borrow.{Bor}
+use Rattle.std.specs.Global.{Vec}
 use Rattle.std.specs.Prelude.{Option, Some, None, Result, Ok, Err, IfOk}
 use Rattle.std.proofs.lemmas.List.{length-map}
-use Rattle.prima_base.specs.Faults.{IsTested}
+use Rattle.prima_base.specs.Faults.{IsTested, IsTestedAs}
 use Rattle.prima_base.specs.declared.fault.CallFault.{CallFault}
 use Rattle.prima_base.specs.declared.fault.CallFault.TheVariants.{Refused, NoMemory}
 use Rattle.prima_base.specs.declared.refusal.Refusal.{Refusal}
@@ -11,7 +14,9 @@ use Rattle.relations.specs.Spans.{forever}
 use Rattle.schema_catalog.specs.Tables.{Tables}
 use Rattle.smo_types.specs.declared.op.Op.{Op}
 use Rattle.smo_types.specs.Operators.{Operator, operator_of, operators_of}
-use Rattle.smo_types.specs.Commands.{evolving, PlainCommand}
+use Rattle.smo_types.specs.Changes.{changes_of}
+use Rattle.smo_types.specs.Commands.{changing, evolving, PlainCommand}
+use Rattle.smo_types.specs.declared.change.Change.{Change}
 use Rattle.smo_meaning.specs.Checks.{Fault}
 use Rattle.smo_meaning.specs.Counts.{first_excess}
 use Rattle.smo_meaning.specs.Accepts.{count_fault, command_fault}
@@ -19,11 +24,17 @@ use Rattle.smo_meaning.specs.First.{first_refusal}
 use Rattle.smo_meaning.specs.Preconditions.{AreNarrow}
 use Rattle.smo_meaning.specs.ValidValues.{BodyHolds}
 use Rattle.smo_meaning.specs.Past.{Past, newest_tables}
+use Rattle.smo_ops.specs.TablePlaces.{StandAt}
 use Rattle.smo_meaning.proofs.CountedOperators.{counted_length}
 use Rattle.smo_meaning.proofs.Firsts.{first_at, first_later}
 use Rattle.version_groups.specs.Groups.{Kept}
+use Rattle.version_groups.specs.Judged.{IsAcceptedAs, IsAccepted}
+use Rattle.version_groups.specs.Steps.{a_command}
+use Rattle.version_groups.specs.declared.judged.Judged.TheVariants as judged
 use Rattle.version_groups.specs.Representation.{Represents}
-use Rattle.archive_state.specs.Committing.{schema_found, Finds, Judges}
+use Rattle.archive_state.specs.declared.accepted_command.AcceptedCommand.{AcceptedCommand}
+use Rattle.archive_state.specs.declared.accepted_command.AcceptedCommand.TheVariants.{Changes}
+use Rattle.archive_state.specs.AcceptedCommands.{accepted_command, HasFound, IsAcceptedAfter}
 
 -- an inverse whose count is within its limit
 pub few_operators : (op : Operator) (inverse : List Op)
@@ -62,25 +73,31 @@ pub second_decides : (first second : Fault) (tests : List Fault) (r : Refusal) �
 second_decides first second tests r e f = first_later first (second ∷ tests) e
     ∙ first_at second tests r f
 
--- what is found of a command that passes each test
-pub found_accepted : (past : Past) (command : PlainCommand)
-    (result : Result (Option Tables) (CallFault Refusal))
-    → IsTested (command_fault past command) result
-    → IfOk result (λ found. found ≡ schema_found past command.body) → command.stamp < forever
-    → BodyHolds command.body → IfOk result (λ found. Finds past command found)
-found_accepted past command (Ok found) none is stamp hold = record {
-  accepted = none;
-  stamp = stamp;
-  constants = hold;
-  schema = is;
-}
-found_accepted past command (Err e) none is stamp hold = tt
-
--- and with it what judging answers
+-- what judging a command answers, by its tests and what it found
 pub answers : (past : Past) (command : PlainCommand)
-    (result : Result (Option Tables) (CallFault Refusal))
+    (result : Result AcceptedCommand (CallFault Refusal))
     → IsTested (command_fault past command) result
-    → IfOk result (λ found. Finds past command found) → Judges past command result
-answers past command (Ok found) none finds = finds
-answers past command (Err (Refused r)) refused finds = refused
-answers past command (Err NoMemory) refused finds = tt
+    → IfOk result (λ accepted. accepted_command accepted ≡ command)
+    → IfOk result (λ accepted. HasFound past accepted) → command.stamp < forever
+    → BodyHolds command.body
+    → IsTestedAs (IsAcceptedAfter past) (command_fault past command) result
+answers past command (Ok it) none same found stamp hold = (
+  none,
+  record {
+    accepted = ap (command_fault past) same ∙ none;
+    stamp = subst (λ (c : PlainCommand). c.stamp < forever) (sym same) stamp;
+    constants = subst (λ (c : PlainCommand). BodyHolds c.body) (sym same) hold;
+    found = found;
+  },
+)
+answers past command (Err (Refused r)) refused same found stamp hold = refused
+answers past command (Err NoMemory) refused same found stamp hold = tt
+
+-- an accepted command with changes is so, however they are borrowed
+pub borrowed : (past : Past) (stamp : ℕ) (changes : Vec Change) (places : Vec ℕ)
+    (lent : Bor (List Change)) → lent.now ≡ changes.items
+    → IsAcceptedAfter past (Changes stamp changes places)
+    → IsAccepted past (judged.Changes stamp lent places)
+borrowed past stamp changes places lent is accepted = subst (λ (items : List Change).
+    IsAcceptedAs past (a_command stamp (changing (changes_of items)))
+    (StandAt (newest_tables past) (changes_of items) places.items)) (sym is) accepted

@@ -1,38 +1,15 @@
 -- What an archive answers to a command.
-use Rattle.std.specs.Prelude.{◌≡◌, ℕ, ◌<◌, length, Option, Some, None, Result, Ok, Err, ⊤}
+use Rattle.std.specs.Prelude.{◌≡◌, ℕ, length, Option, Some, None, Result, Ok, Err}
 use Rattle.prima_base.specs.declared.fault.CallFault.{CallFault}
 use Rattle.prima_base.specs.declared.fault.CallFault.TheVariants.{Refused, NoMemory}
 use Rattle.prima_base.specs.declared.refusal.Refusal.{Refusal}
-use Rattle.relations.specs.Spans.{forever}
-use Rattle.schema_catalog.specs.Tables.{Tables}
 use Rattle.smo_types.specs.Commands.{PlainBody, changing, evolving, PlainCommand}
 use Rattle.smo_meaning.specs.Accepts.{command_fault}
-use Rattle.smo_meaning.specs.After.{schema_after}
-use Rattle.smo_meaning.specs.ValidValues.{BodyHolds}
-use Rattle.smo_meaning.specs.Past.{Past, newest_tables, past_with}
+use Rattle.smo_meaning.specs.Past.{Past, past_with}
 use Rattle.version_groups.specs.Room.{IsSame}
 use Rattle.version_groups.specs.Steps.{rows_gained, rows_lost}
 use Rattle.archive_state.specs.declared.archive.Done.{Done}
 use Rattle.archive_state.specs.ArchiveContents.{ArchiveContent, RepresentsPast}
-
--- the schema that judging finds: of an operator the one that is after it, and of changes none
-abbrev pub schema_found : Past → PlainBody → Option Tables
-schema_found past (changing changes) = None
-schema_found past (evolving op inverse) = Some (schema_after (newest_tables past) op)
-
--- the command is accepted after the past, its constants are valid values, and this was found
-pub record Finds (past : Past) (command : PlainCommand) (found : Option Tables) : Type 0 where
-  pub accepted : command_fault past command ≡ None
-  pub stamp : command.stamp < forever
-  pub constants : BodyHolds command.body
-  pub schema : found ≡ schema_found past command.body
-
--- what judging a command answers: another is refused by its first refusal; that memory runs out is
--- free
-abbrev pub Judges : Past → PlainCommand → Result (Option Tables) (CallFault Refusal) → Type 0
-Judges past command (Ok found) = Finds past command found
-Judges past command (Err (Refused r)) = command_fault past command ≡ Some r
-Judges past command (Err NoMemory) = ⊤
 
 -- the newest version, where the command made it
 abbrev pub version_made : PlainBody → ℕ → Option ℕ

@@ -1,3 +1,4 @@
 pub mod ArchiveContents
+pub mod AcceptedCommands
 pub mod Committing
 pub mod Asking

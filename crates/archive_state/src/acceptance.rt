@@ -3,12 +3,12 @@
 
 ghost use Rattle.std.specs.Prelude.{◌≡◌, ◌≤◌, length, nat_lt, IfOk, OnOk, None};
 ghost use Rattle.std.specs.Option.{option_map};
-ghost use Rattle.prima_base.specs.Faults.{IsTested};
+ghost use Rattle.prima_base.specs.Faults.{IsTested, IsTestedAs};
 ghost use Rattle.prima_base.specs.declared.refusal.What.TheVariants.{Versions};
 ghost use Rattle.prima_base.specs.declared.refusal.Refusal.TheVariants.{TooMany};
 ghost use Rattle.prima_base.specs.Limits.{max_versions};
 ghost use Rattle.smo_meaning.specs.First.{unless, first_refusal};
-ghost use Rattle.smo_types.specs.Commands.{evolving, body_of, command_of, version_of};
+ghost use Rattle.smo_types.specs.Commands.{evolving, body_of, command_of};
 ghost use Rattle.smo_types.specs.Operators.{Operator, operator_of, operators_of};
 ghost use Rattle.smo_meaning.specs.Counts.{first_excess};
 ghost use Rattle.smo_meaning.specs.After.{op_fault, schema_after, HasFewNodes, HaveFewNodes};
@@ -16,11 +16,13 @@ ghost use Rattle.smo_meaning.specs.ValidValues.{BodyHolds};
 ghost use Rattle.smo_meaning.specs.Inverses.{inverse_fault};
 ghost use Rattle.smo_meaning.specs.Accepts.{operator_refusal, count_fault, stamp_fault, body_tests};
 ghost use Rattle.smo_meaning.specs.Accepts.{command_fault};
-ghost use Rattle.smo_meaning.specs.Past.{Past, newest_tables, next_version};
+ghost use Rattle.smo_meaning.specs.Past.{Past, newest_tables};
 ghost use Rattle.version_groups.specs.Representation.{Represents};
-ghost use Rattle.archive_state.specs.Committing.{schema_found, Finds};
+ghost use Rattle.version_groups.specs.Steps.{a_command};
+ghost use Rattle.archive_state.specs.AcceptedCommands.{accepted_command, HasFound};
+ghost use Rattle.archive_state.specs.AcceptedCommands.{IsAcceptedAfter};
 
-use crate::CommitFault;
+use crate::{AcceptedCommand, CommitFault};
 use prima_base::limits::MAX_VERSIONS;
 use prima_base::{Refusal, What};
 use schema_catalog::Schema;
@@ -126,67 +128,61 @@ fn judge_evolve(
     Ok(next)
 }
 
-// What the command does; for an operator the schema after it.
+// What the command does from the stamp on, with what judging it finds.
 #[tactic(auto, using(crate::proofs::Judging::narrow_newest))]
-fn judge_body(alloc: Global, groups: &Groups, body: &Body) -> Result<Option<Schema>, CommitFault>
-    requires counted { first_excess (body_of body.now) ≡ None }
+fn judge_body(
+    alloc: Global,
+    groups: &Groups,
+    stamp: u64,
+    body: Body,
+) -> Result<AcceptedCommand, CommitFault>
+    requires counted { first_excess (body_of body) ≡ None }
     requires represents { (past : Past) × Represents groups.now past }
     ensures tested { (past : Past) → Represents groups.now past
-        → IsTested (first_refusal (body_tests past (body_of body.now))) result }
-    ensures schema { (past : Past) → Represents groups.now past
-        → IfOk result (λ found. found ≡ schema_found past (body_of body.now)) }
+        → IsTested (first_refusal (body_tests past (body_of body))) result }
+    ensures same { IfOk result (λ accepted. accepted_command accepted
+        ≡ a_command stamp (body_of body)) }
+    ensures found { (past : Past) → Represents groups.now past
+        → IfOk result (λ accepted. HasFound past accepted) }
 {
     match body {
         Body::Changes(changes) => {
-            check_changes(alloc, groups.newest_schema(), changes)?;
-            Ok(None)
+            let places = check_changes(alloc, groups.newest_schema(), &changes)?;
+            Ok(AcceptedCommand::Changes {
+                stamp,
+                changes,
+                places,
+            })
         }
         Body::Evolve { op, inverse } => {
-            let next = judge_evolve(alloc, groups, op, inverse)?;
-            Ok(Some(next))
+            let schema = judge_evolve(alloc, groups, &op, &inverse)?;
+            Ok(AcceptedCommand::Evolve(Version {
+                stamp,
+                op,
+                inverse,
+                schema,
+            }))
         }
     }
 }
 
-/// Whether the command is accepted after the past that the groups show, with this last stamp, and
-/// then what judging it found; else its first refusal in the one order: its counts, its stamp, and
-/// then what it does.
+/// Whether the command is accepted after the past that the groups represent, with this last stamp,
+/// and then what judging it found; else its first refusal in the one order: its counts, its stamp,
+/// and then what it does.
 #[tactic(auto, using(crate::proofs::Judging::judged_after, crate::proofs::Judging::first_decides, crate::proofs::Judging::second_decides))]
 pub(crate) fn judge(
     alloc: Global,
     groups: &Groups,
     last: Option<u64>,
-    command: &Command,
-) -> Result<Option<Schema>, CommitFault>
+    command: Command,
+) -> Result<AcceptedCommand, CommitFault>
     requires represents { (past : Past) × Represents groups.now past × (last ≡ past.last) }
-    ensures tested { (past : Past) → Represents groups.now past → last ≡ past.last
-        → IsTested (command_fault past (command_of command.now)) result }
-    ensures found { (past : Past) → Represents groups.now past → last ≡ past.last
-        → IfOk result (λ found. Finds past (command_of command.now) found) }
+    ensures same { IfOk result (λ accepted. accepted_command accepted ≡ command_of command) }
+    ensures judges { (past : Past) → Represents groups.now past → last ≡ past.last
+        → IsTestedAs (IsAcceptedAfter past) (command_fault past (command_of command)) result }
 {
-    judge_counts(command)?;
-    judge_stamp(last, command.stamp())?;
-    judge_body(alloc, groups, command.body())
-}
-
-/// The version that an accepted operator makes at the stamp, with the schema that judging found.
-/// The operator and its inverse move into it. It takes no memory.
-pub fn next_version(stamp: u64, op: Op, inverse: Vec<Op>, found: Option<Schema>) -> Version
-    requires judged { (past : Past)
-        × (found ≡ schema_found past (evolving (operator_of op) (operators_of inverse.items))) }
-    ensures { (past : Past)
-        → found ≡ schema_found past (evolving (operator_of op) (operators_of inverse.items))
-        → version_of result ≡ next_version stamp (operator_of op) (operators_of inverse.items)
-        past }
-{
-    let Some(schema) = found else {
-        // Of an operator a schema was found, the one that is after it (`judged`).
-        unreachable!();
-    };
-    Version {
-        stamp,
-        op,
-        inverse,
-        schema,
-    }
+    let stamp = command.stamp();
+    judge_counts(&command)?;
+    judge_stamp(last, stamp)?;
+    judge_body(alloc, groups, stamp, command.into_body())
 }

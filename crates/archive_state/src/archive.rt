@@ -1,12 +1,11 @@
-use crate::acceptance::{judge, next_version};
+use crate::acceptance::judge;
 use crate::question::{ask, explain_query};
-use crate::{AskFault, CommitFault};
+use crate::{AcceptedCommand, AskFault, CommitFault};
 use answer_text::Listing;
 use piece_texts::Explained;
 use prima_base::{NoMemory, Steps};
 use rule_book::{Rule, RuleBook};
-use schema_catalog::Schema;
-use smo_ops::{Body, Command};
+use smo_ops::Command;
 use std::alloc::Global;
 use std::marker::Model;
 use std::sync::ledger::Ledger;
@@ -62,13 +61,16 @@ impl ArchiveState {
     ghost use Rattle.std.specs.Prelude.{◌≡◌, ◌+◌, ◌≤◌, List, IfOk};
     ghost use Rattle.relations.specs.Sets.{In};
     ghost use Rattle.smo_types.specs.Commands.{command_of, PlainCommand};
+    ghost use Rattle.prima_base.specs.Faults.{IsTestedAs};
+    ghost use Rattle.smo_meaning.specs.Accepts.{command_fault};
     ghost use Rattle.smo_meaning.specs.Past.{Past, beginning, past_with};
     ghost use Rattle.version_groups.specs.Judged.{judged_command, IsAccepted};
     ghost use Rattle.version_groups.specs.Steps.{Prepares};
     ghost use Rattle.archive_state.specs.ArchiveContents.{RepresentsPast, RepresentsSome};
     ghost use Rattle.archive_state.specs.ArchiveContents.{archive_content};
     ghost use Rattle.query_types.specs.Queries.{query_of};
-    ghost use Rattle.archive_state.specs.Committing.{Judges, IsAsBefore, IsDone, Accepts};
+    ghost use Rattle.archive_state.specs.AcceptedCommands.{accepted_command, IsAcceptedAfter};
+    ghost use Rattle.archive_state.specs.Committing.{IsAsBefore, IsDone, Accepts};
     ghost use Rattle.rewrite.specs.Books.{meaning_of, EachOf};
     ghost use Rattle.piece_texts.specs.ExplainedPieces.{PlainExplained};
     ghost use Rattle.query_exec.specs.Borrowed.{BorrowedByBranch, AreSpared, AreBorrowedBy};
@@ -116,14 +118,16 @@ impl ArchiveState {
         &self.groups
     }
 
-    /// Judges the command. Of an accepted one it answers what it found: of an operator the schema
-    /// that is after it, and of changes none. Another is refused by the first refusal in the one
-    /// order: its counts (38); its stamp (20); of changes, one after the other, each whole before
-    /// the next (22, 27, 23, 35, 25); of an operator the number of versions (38), its preconditions
-    /// in written order, and then its inverse (32). `NoMemory` comes where memory runs out.
-    pub fn judge(&self, command: &Command) -> Result<Option<Schema>, CommitFault>
+    /// Judges the command. An accepted one is answered with what was found, for `prepare`: of each
+    /// change where its table stands, and of an operator the version that it makes, with the schema
+    /// that is after it. Another is refused by the first refusal in the one order: its counts (38);
+    /// its stamp (20); of changes, one after the other, each whole before the next (22, 27, 23, 35,
+    /// 25); of an operator the number of versions (38), its preconditions in written order, and
+    /// then its inverse (32). `NoMemory` comes where memory runs out.
+    pub fn judge(&self, command: Command) -> Result<AcceptedCommand, CommitFault>
+        ensures same { IfOk result (λ accepted. accepted_command accepted ≡ command_of command) }
         ensures judges { (past : Past) → RepresentsPast self.now past
-            → Judges past (command_of command.now) result }
+            → IsTestedAs (IsAcceptedAfter past) (command_fault past (command_of command)) result }
         ensures represents { RepresentsSome self.now }
     {
         judge(self.alloc, &self.groups, self.last, command)
@@ -179,16 +183,18 @@ impl ArchiveState {
             → Accepts past (command_of command) self.old result self.new }
         ensures represents { RepresentsSome self.old × RepresentsSome self.new }
     {
-        let found = self.judge(&command)?;
-        let stamp = command.stamp();
-        match command.into_body() {
-            Body::Changes(changes) => self.accept(Judged::Changes {
+        let accepted = self.judge(command)?;
+        match accepted {
+            AcceptedCommand::Changes {
+                stamp,
+                changes,
+                places,
+            } => self.accept(Judged::Changes {
                 stamp,
                 changes: &changes,
+                places,
             }),
-            Body::Evolve { op, inverse } => {
-                self.accept(Judged::Evolve(next_version(stamp, op, inverse, found)))
-            }
+            AcceptedCommand::Evolve(version) => self.accept(Judged::Evolve(version)),
         }
     }
 

@@ -6,10 +6,11 @@
 #![tactic(auto)]
 
 mod acceptance;
+mod accepted_command;
 mod archive;
 mod fault;
 mod question;
 
-pub use acceptance::next_version;
+pub use accepted_command::AcceptedCommand;
 pub use archive::{ArchiveState, Done};
 pub use fault::{AskFault, CommitFault};

@@ -102,11 +102,10 @@ module _ (tables : Tables) (database : Database) (stamp : ℕ) (made : List Made
       (stored_there made k d ordered l)
 
   pub changeable : (changes : List PlainChange) → changes_fault tables changes ≡ None
-      → AreChangeable tables stamp changes made
+      → AreChangeable stamp changes made
   changeable changes accepted k d l =
       let h = stands_at k d l in
       record {
-        columns = h.columns;
         accepted = accepted_of tables (get_or made k d).name (get_or made k d).store.columns
             h.columns changes 0 accepted;
         before = h.before;

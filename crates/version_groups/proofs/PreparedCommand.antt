@@ -35,12 +35,14 @@ use Rattle.smo_meaning.proofs.ValueLaws.{beginning_holds}
 use Rattle.version_tables.specs.declared.made_table.MadeTable.{MadeTable}
 use Rattle.version_tables.specs.Stored.{stored_as, names_of}
 use Rattle.version_tables.specs.Room.{IsSameTable, AreSameTables}
-use Rattle.version_tables.specs.Changing.{AreChangeable, AreReady, all_gained, all_lost}
+use Rattle.version_tables.specs.Changing.{AreChangeable, AreOfSchema, AreReady, all_gained}
+use Rattle.version_tables.specs.Changing.{all_lost}
 use Rattle.version_tables.specs.Evolving.{IsEvolved}
 use Rattle.version_tables.specs.NewestTables.{AreStored}
 use Rattle.version_tables.specs.Places.{at_places}
 use Rattle.version_tables.proofs.TablesInTurn.{same_table, same_after}
 use Rattle.version_tables.proofs.Places.{same_at}
+use Rattle.version_tables.proofs.SchemaTables.{of_schema}
 use Rattle.version_groups.specs.Sizes.{HasSize, AreWritten}
 use Rattle.version_groups.specs.Covering.{line_of, AreCovered}
 use Rattle.version_groups.specs.Lifelines.{lifelines_of}
@@ -201,9 +203,16 @@ module _ (kept : Kept) (past : Past) (stamp : ℕ) (changes : List PlainChange)
   in_order : Ascends bytes_cmp (names_of (group_of kept (length past.versions)))
   in_order = subst (λ j. Ascends bytes_cmp (names_of (group_of kept j))) number ordered
 
-  pub changeable_now : AreChangeable (newest_tables past) stamp changes (newest_group kept)
+  pub of_newest_schema : AreOfSchema (newest_tables past) (newest_group kept)
+  of_newest_schema =
+      subst (λ j. AreOfSchema (newest_tables past) (group_of kept j)) (sym number)
+      (of_schema (newest_tables past) (newest_database past) stamp
+      (group_of kept (length past.versions)) in_order
+      (stands kept past stamp (changing changes) represents valid accepted))
+
+  pub changeable_now : AreChangeable stamp changes (newest_group kept)
   changeable_now =
-      subst (λ j. AreChangeable (newest_tables past) stamp changes (group_of kept j)) (sym number)
+      subst (λ j. AreChangeable stamp changes (group_of kept j)) (sym number)
       (changeable (newest_tables past) (newest_database past) stamp
       (group_of kept (length past.versions)) in_order
       (stands kept past stamp (changing changes) represents valid accepted) changes

@@ -114,6 +114,7 @@ impl Groups {
     ghost use Rattle.smo_meaning.specs.Past.{version_at, past_with};
     ghost use Rattle.smo_meaning.specs.Past.{newest_tables};
     ghost use Rattle.smo_meaning.specs.Sizes.{Size};
+    ghost use Rattle.smo_ops.specs.TablePlaces.{StandAt};
     ghost use Rattle.version_tables.specs.Stored.{names_of};
     ghost use Rattle.version_tables.specs.Places.{at_places, AreWithin};
     ghost use Rattle.version_tables.specs.Changing.{HaveRoom};
@@ -300,10 +301,10 @@ impl Groups {
     }
 
     /// Makes a command ready, and all the room that installing it needs. The command was judged,
-    /// and is accepted after the past that is shown, which stays as it is; for an operator judging
-    /// found the schema that is after it. `Next` has its stamp; for changes it has the counts of
-    /// the rows that are gained and lost, summed over the tables, and for an operator none. The one
-    /// error is `NoMemory`, where memory runs out.
+    /// and is accepted after the past that is shown, which stays as it is; judging found of each
+    /// change where its table stands, and of an operator the schema that is after it. `Next` has
+    /// its stamp; for changes it has the counts of the rows that are gained and lost, summed over
+    /// the tables, and for an operator none. The one error is `NoMemory`, where memory runs out.
     ///
     /// A table that has INSERTs alone costs a search for each row. Any other that the command names
     /// costs for each UPDATE or DELETE a look at the rows between two cuts, by the constants to
@@ -319,7 +320,11 @@ impl Groups {
             → IfOk result (λ next. Prepares self.new past (judged_command judged.entry) next) }
     {
         match judged {
-            Judged::Changes { stamp, changes } => self.prepare_changes(stamp, changes),
+            Judged::Changes {
+                stamp,
+                changes,
+                places,
+            } => self.prepare_changes(stamp, changes, &places),
             Judged::Evolve(version) => self.prepare_version(version),
         }
     }
@@ -389,16 +394,18 @@ impl Groups {
         self.earlier.push_reserved(before);
     }
 
-    // Makes changes ready.
+    // Makes changes ready, of each of which it is told where its table stands in the newest schema.
     fn prepare_changes<'a>(
         &mut self,
         stamp: u64,
         changes: &'a [Change],
+        places: &[usize],
     ) -> Result<Next<'a>, NoMemory>
         requires valid { stamp < forever }
         requires constants { BodyHolds (changing (changes_of changes.now)) }
         requires accepted { (past : Past) × Represents self.old past
-            × (command_fault past (a_command stamp (changing (changes_of changes.now))) ≡ None) }
+            × (command_fault past (a_command stamp (changing (changes_of changes.now))) ≡ None)
+            × StandAt (newest_tables past) (changes_of changes.now) places.now }
         ensures same { IsSame self.old self.new }
         ensures next { (past : Past) → Represents self.old past
             → command_fault past (a_command stamp (changing (changes_of changes.now))) ≡ None
@@ -413,6 +420,7 @@ impl Groups {
             &self.newest,
             stamp,
             changes,
+            places,
         )?;
         let Changes {
             gained,

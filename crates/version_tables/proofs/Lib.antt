@@ -11,6 +11,7 @@ pub mod PlacedTables
 pub mod GivenTables
 pub mod CarriedTables
 pub mod RestoredTables
+pub mod SchemaTables
 pub mod ChangeGroups
 pub mod TablesChanged
 pub mod TablesCounted

@@ -1,7 +1,7 @@
 -- The changes of a command, table by table.
-use Rattle.std.specs.Prelude.{◌≡◌, ℕ, ◌+◌, ◌<◌, List, [], ◌∷◌, length, Option, Some, None}
+use Rattle.std.specs.Prelude.{◌≡◌, ℕ, ◌+◌, ◌<◌, List, [], ◌∷◌, map, length, Option, Some, None}
 use Rattle.std.specs.Prelude.{slice_index_or}
-use Rattle.std.specs.FinMap.{get}
+use Rattle.std.specs.FinMap.{entries}
 use Rattle.schema_catalog.specs.Tables.{Tables}
 use Rattle.history_store.specs.Store.{AllBefore, relation_at}
 use Rattle.history_store.specs.Change.{PreparedChange}
@@ -25,18 +25,20 @@ rows_after_own stamp own table = relation_after_each table.store.columns own (ro
 abbrev pub rows_after : ℕ → List PlainChange → MadeTable → Relation
 rows_after stamp changes table = rows_after_own stamp (of_table table.name changes) table
 
--- it has the columns of the schema's table, these changes of it are accepted, and each of its
--- stamps is earlier
-pub record IsChangeable (tables : Tables) (stamp : ℕ) (own : List PlainChange) (table : MadeTable) :
-    Type 0 where
-  pub columns : get tables table.name ≡ Some table.store.columns
+-- these changes of it are accepted, and each of its stamps is earlier
+pub record IsChangeable (stamp : ℕ) (own : List PlainChange) (table : MadeTable) : Type 0 where
   pub accepted : AreAccepted table.store.columns own
   pub before : AllBefore table.store stamp
 
-abbrev pub AreChangeable : Tables → ℕ → List PlainChange → List MadeTable → Type 0
-AreChangeable tables stamp changes made = (k : ℕ) → (d : MadeTable) → k < length made
-    → IsChangeable tables stamp (of_table (slice_index_or made k d).name changes)
+abbrev pub AreChangeable : ℕ → List PlainChange → List MadeTable → Type 0
+AreChangeable stamp changes made = (k : ℕ) → (d : MadeTable) → k < length made
+    → IsChangeable stamp (of_table (slice_index_or made k d).name changes)
     (slice_index_or made k d)
+
+-- the tables of the schema are these, each with its columns, in the order of their names
+abbrev pub AreOfSchema : Tables → List MadeTable → Type 0
+AreOfSchema tables made = entries tables
+    ≡ map (λ (table : MadeTable). (table.name, table.store.columns)) made
 
 -- of each table, in turn, a change that leads to the rows after its changes
 pub record AreReady (stamp : ℕ) (changes : List PlainChange) (tables : List MadeTable)

@@ -16,9 +16,6 @@ of_table name changes = filter (λ change. same (table_of change) name) changes
 abbrev pub by_table : List (List ℕ) → List PlainChange → List (List PlainChange)
 by_table names changes = map (λ name. of_table name changes) names
 
--- groups of changes, and names, that are borrowed
+-- groups of changes that are borrowed
 abbrev pub grouped : List (Vec (Bor Change)) → List (List PlainChange)
 grouped groups = map (λ (group : Vec (Bor Change)). borrowed_changes group.items) groups
-
-abbrev pub borrowed_names : List (Bor (List ℕ)) → List (List ℕ)
-borrowed_names names = map (λ (name : Bor (List ℕ)). name.now) names

@@ -5,14 +5,16 @@ ghost use Rattle.std.specs.Prelude.{vec_len, vec_capacity};
 ghost use Rattle.relations.specs.Sets.{In, Ascends};
 ghost use Rattle.relations.specs.Spans.{forever};
 ghost use Rattle.prima_base.specs.Order.{bytes_cmp};
+ghost use Rattle.prima_base.specs.Columns.{AreColumns};
 ghost use Rattle.smo_types.specs.Changes.{changes_of};
+ghost use Rattle.smo_ops.specs.TablePlaces.{StandAt};
 ghost use Rattle.smo_meaning.specs.Effects.{gained_rows};
 ghost use Rattle.version_tables.specs.declared.made_table.MadeTable.{MadeTable as Stored};
 ghost use Rattle.table_changes.specs.Changing.{IsChange, borrowed_changes};
 ghost use Rattle.version_tables.specs.Becoming.{Leads, IsMade, HasRoom, AreMadeBy};
 ghost use Rattle.version_tables.specs.Changing.{IsChangeable, AreChangeable, AreReady, HaveRoom};
 ghost use Rattle.version_tables.specs.Changing.{AreMade, rows_now, rows_after_own, all_gained};
-ghost use Rattle.version_tables.specs.Changing.{all_lost, gained_by, lost_by};
+ghost use Rattle.version_tables.specs.Changing.{all_lost, gained_by, lost_by, AreOfSchema};
 ghost use Rattle.version_tables.specs.Room.{IsSameTable, AreSameTables};
 ghost use Rattle.version_tables.specs.Stored.{names_of};
 ghost use Rattle.version_tables.specs.Places.{at_places, AreWithin};
@@ -20,7 +22,7 @@ ghost use Rattle.version_tables.specs.Places.{at_places, AreWithin};
 use crate::change_group::changes_by_table;
 use crate::made_table::MadeTable;
 use history_store::Prepared;
-use prima_base::NoMemory;
+use prima_base::{ColType, Name, NoMemory};
 use schema_catalog::Schema;
 use smo_ops::Change;
 use std::alloc::Global;
@@ -34,43 +36,17 @@ pub struct Changes<'a> {
     pub plans: Vec<Option<Prepared<'a>>>,
 }
 
-// Makes the changes of one table ready.
-fn prepare_touched<'a>(
-    alloc: Global,
-    schema: &Schema,
-    table: &mut MadeTable,
-    stamp: u64,
-    changes: &[&'a Change],
-) -> Result<Prepared<'a>, NoMemory>
-    requires changeable { IsChangeable schema.now stamp (borrowed_changes changes.now) table.old }
-    requires valid { stamp < forever }
-    ensures same { IsSameTable table.old table.new }
-    ensures change { IfOk result (λ p. IsChange table.new.store stamp
-        (rows_after_own stamp (borrowed_changes changes.now) table.old) p) }
-    ensures gained { IfOk result (λ p. length p.gained
-        ≡ length (gained_rows (rows_now stamp table.old)
-        (rows_after_own stamp (borrowed_changes changes.now) table.old))) }
-    ensures lost { IfOk result (λ p. length p.lost
-        ≡ length (gained_rows (rows_after_own stamp (borrowed_changes changes.now) table.old)
-        (rows_now stamp table.old))) }
-{
-    let Some(of_schema) = schema.table(&table.name) else {
-        // The schema has the table with its columns (`IsChangeable`).
-        unreachable!();
-    };
-    let columns = of_schema.columns();
-    prepare_table(alloc, columns, &mut table.store, stamp, changes)
-}
-
-// Makes the changes of one table ready, where there are any.
+// Makes the changes of one table with these columns ready, where there are any.
 fn prepare_one<'a>(
     alloc: Global,
-    schema: &Schema,
+    columns: &[(Name, ColType)],
     table: &mut MadeTable,
     stamp: u64,
     changes: &[&'a Change],
 ) -> Result<Option<Prepared<'a>>, NoMemory>
-    requires changeable { IsChangeable schema.now stamp (borrowed_changes changes.now) table.old }
+    requires columns { AreColumns columns.now }
+    requires own { table.old.store.columns ≡ columns.now }
+    requires changeable { IsChangeable stamp (borrowed_changes changes.now) table.old }
     requires valid { stamp < forever }
     ensures same { IsSameTable table.old table.new }
     ensures leads { IfOk result (λ p. Leads table.new.store stamp
@@ -85,7 +61,7 @@ fn prepare_one<'a>(
     if changes.is_empty() {
         return Ok(None);
     }
-    let prepared = prepare_touched(alloc, schema, table, stamp, changes)?;
+    let prepared = prepare_table(alloc, columns, &mut table.store, stamp, changes)?;
     Ok(Some(prepared))
 }
 
@@ -121,9 +97,10 @@ fn sum(a: u64, b: u64) -> Result<u64, NoMemory>
 }
 
 /// Makes the changes of each table at these places ready, from the stamp on, and all the room that
-/// installing them needs. The changes are looked through once, to group them by table, and only
-/// tables that a change is of are looked at. The one error is `NoMemory`, where memory runs out.
-/// What the tables stand for stays as it is.
+/// installing them needs. The tables are those of the schema, and of each change it is told where
+/// its table stands among them. The changes are looked through once, to group them by table, and
+/// only tables that a change is of are looked at. The one error is `NoMemory`, where memory runs
+/// out. What the tables stand for stays as it is.
 pub fn prepare_tables<'a>(
     alloc: Global,
     schema: &Schema,
@@ -131,10 +108,13 @@ pub fn prepare_tables<'a>(
     places: &[usize],
     stamp: u64,
     changes: &'a [Change],
+    of_changes: &[usize],
 ) -> Result<Changes<'a>, NoMemory>
     requires there { AreWithin places.now (length tables.old.items) }
     requires ordered { Ascends bytes_cmp (names_of (at_places tables.old.items places.now)) }
-    requires changeable { AreChangeable schema.now stamp (changes_of changes.now)
+    requires schema { AreOfSchema schema.now (at_places tables.old.items places.now) }
+    requires changes { StandAt schema.now (changes_of changes.now) of_changes.now }
+    requires changeable { AreChangeable stamp (changes_of changes.now)
         (at_places tables.old.items places.now) }
     requires valid { stamp < forever }
     ensures same { AreSameTables tables.old.items tables.new.items }
@@ -147,12 +127,13 @@ pub fn prepare_tables<'a>(
     ensures lost { IfOk result (λ c. c.lost ≡ all_lost stamp (changes_of changes.now)
         (at_places tables.old.items places.now)) }
 {
-    let groups = changes_by_table(alloc, tables, places, changes)?;
+    let groups = changes_by_table(alloc, schema, changes, of_changes)?;
     let mut plans = Vec::with_capacity(alloc, places.len())?;
     let mut gained = 0;
     let mut lost = 0;
     for i in 0..places.len() {
-        let plan = prepare_one(alloc, schema, &mut tables[places[i]], stamp, &groups[i])?;
+        let columns = schema.at(i).columns();
+        let plan = prepare_one(alloc, columns, &mut tables[places[i]], stamp, &groups[i])?;
         gained = sum(gained, gained_by(&plan))?;
         lost = sum(lost, lost_by(&plan))?;
         plans.push(plan)?;

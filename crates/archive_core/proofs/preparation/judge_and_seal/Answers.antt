@@ -1,8 +1,13 @@
-use Rattle.smo_types.specs.Commands.{command_of}
+use Rattle.archive_state.specs.AcceptedCommands.{accepted_command}
 use Rattle.archive_core.proofs.preparation.judge_and_seal.Goals as goal
 
-pub seal-requires : goal.seal-requires
-seal-requires c =
+pub seal-requires-clause-valid : goal.seal-requires-clause-valid
+seal-requires-clause-valid c =
     let some = c.in-Ok.ensures.represents in
-    c.accepted_commands_can_be_written.ensures.past some.0 (command_of c.args.command.now)
-    some.1.groups.valid (c.in-Ok.ensures.judges some.0 some.1).accepted
+    (c.in-Ok.ensures.judges some.0 some.1).1.stamp
+
+pub seal-requires-clause-writable : goal.seal-requires-clause-writable
+seal-requires-clause-writable c =
+    let some = c.in-Ok.ensures.represents in
+    c.accepted_commands_can_be_written.ensures.past some.0 (accepted_command c.in-Ok.accepted)
+    some.1.groups.valid (c.in-Ok.ensures.judges some.0 some.1).1.accepted

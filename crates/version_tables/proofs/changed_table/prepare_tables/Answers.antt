@@ -8,11 +8,12 @@ use Rattle.smo_meaning.specs.Effects.{gained_rows}
 use Rattle.version_tables.specs.declared.made_table.MadeTable.{MadeTable}
 use Rattle.version_tables.specs.Becoming.{Leads}
 use Rattle.version_tables.specs.Changing.{IsChangeable, rows_now, rows_after_own}
-use Rattle.version_tables.specs.Grouping.{of_table}
+use Rattle.version_tables.specs.Grouping.{of_table, by_table}
 use Rattle.version_tables.specs.Places.{at_places}
 use Rattle.version_tables.proofs.ChangeGroups.{as_many_tables, own_changes}
 use Rattle.version_tables.proofs.Places.{at_count, at_get, at_set, place_within, places_within}
 use Rattle.version_tables.proofs.Places.{apart_by_names, none_same, set_again}
+use Rattle.version_tables.proofs.SchemaTables.{same_names, as_many_as, columns_at}
 use Rattle.version_tables.proofs.TablesInTurn.{ReadyTo, none_ready, one_ready, was, gained_is}
 use Rattle.version_tables.proofs.TablesInTurn.{lost_is, are_ready}
 use Rattle.version_tables.proofs.changed_table.prepare_tables.Goals as goal
@@ -24,15 +25,45 @@ index_mut-requires c =
     let count = c.loop-i.invariant.same.count in
     omega (arith, within, count)
 
+pub at-requires : goal.at-requires
+at-requires c =
+    let old = at_places c.args.tables.now.items c.args.places.now in
+    let many = as_many_as c.args.schema.now old c.requires.schema in
+    let count = at_count c.args.tables.now.items c.args.places.now c.requires.there in
+    let under = c.loop-i-test.true in
+    omega (arith, many, count, under)
+
 pub index-requires : goal.index-requires
 index-requires c =
     let places = c.args.places.now in
-    let many = as_many_tables (at_places c.args.tables.now.items places)
-    c.in_ok-groups.groups.items (changes_of c.args.changes.now)
-    (rw c.deref.ensures.value at c.in_ok-groups.ensures) in
+    let old = at_places c.args.tables.now.items places in
+    let many = as_many_tables old c.in_ok-groups.groups.items (changes_of c.args.changes.now)
+    (c.in_ok-groups.ensures ∙ ap (λ names. by_table names (changes_of c.args.changes.now))
+    (same_names c.args.schema.now old c.requires.schema)) in
     let count = at_count c.args.tables.now.items places c.requires.there in
     let under = c.loop-i-test.true in
     omega (arith, many, count, under)
+
+pub prepare_one-requires-clause-own : goal.prepare_one-requires-clause-own
+prepare_one-requires-clause-own c =
+    let old = c.args.tables.now.items in
+    let places = c.args.places.now in
+    let now = at_places c.loop-i.tables.items places in
+    let t = c.index_mut.result.now in
+    let there = places_within places (length old) (length c.loop-i.tables.items)
+    (let count = c.loop-i.invariant.same.count in omega (arith, count)) c.requires.there in
+    let n = at_count c.loop-i.tables.items places there in
+    let under = c.loop-i-test.true in
+    let is : t ≡ get_or now c.loop-i.i t = c.index_mut.ensures.value
+    ∙ sym (at_get c.loop-i.tables.items places c.loop-i.i 0 t there c.loop-i-test.true) in
+    let first : get_or (at_places old places) c.loop-i.i t ≡ t =
+    was c.args.stamp (changes_of c.args.changes.now) (at_places old places) now
+    c.loop-i.plans.items c.loop-i.gained c.loop-i.lost c.loop-i.i c.loop-i.invariant.turn t
+    (omega (arith, n, under)) is t in
+    let m = at_count old places c.requires.there in
+    columns_at c.args.schema.now (at_places old places) c.requires.schema c.loop-i.i t
+    c.at.result.now (omega (arith, m, under)) first c.at.ensures.table
+    ∙ sym c.columns-columns.ensures.value
 
 pub prepare_one-requires-clause-changeable : goal.prepare_one-requires-clause-changeable
 prepare_one-requires-clause-changeable c =
@@ -53,11 +84,12 @@ prepare_one-requires-clause-changeable c =
     let m = at_count old places c.requires.there in
     let within : c.loop-i.i < length (at_places old places) = omega (arith, m, under) in
     let own = own_changes (at_places old places) c.in_ok-groups.groups.items its c.loop-i.i t
-    c.index.result.now c.deref-in-loop-i.result.now
-    (rw c.deref.ensures.value at c.in_ok-groups.ensures) within first c.index.ensures
-    c.deref-in-loop-i.ensures.value in
-    subst (λ (cs : List PlainChange). IsChangeable c.args.schema.now c.args.stamp cs t) (sym own)
-    (subst (λ (x : MadeTable). IsChangeable c.args.schema.now c.args.stamp (of_table x.name its) x)
+    c.index.result.now c.deref.result.now
+    (c.in_ok-groups.ensures ∙ ap (λ names. by_table names its)
+    (same_names c.args.schema.now (at_places old places) c.requires.schema)) within first
+    c.index.ensures c.deref.ensures.value in
+    subst (λ (cs : List PlainChange). IsChangeable c.args.stamp cs t) (sym own)
+    (subst (λ (x : MadeTable). IsChangeable c.args.stamp (of_table x.name its) x)
     first (c.requires.changeable c.loop-i.i t within))
 
 pub loop-i-init : goal.loop-i-init
@@ -97,8 +129,9 @@ loop-i-preserved c =
     c.loop-i.lost i c.loop-i.invariant.turn t (omega (arith, n, under)) is t in
     let m = at_count c.args.tables.now.items places c.requires.there in
     let own = own_changes old c.in_ok-groups.groups.items changes i t c.index.result.now
-    c.deref-in-loop-i.result.now (rw c.deref.ensures.value at c.in_ok-groups.ensures)
-    (omega (arith, m, under)) first c.index.ensures c.deref-in-loop-i.ensures.value in
+    c.deref.result.now (c.in_ok-groups.ensures ∙ ap (λ names. by_table names changes)
+    (same_names c.args.schema.now old c.requires.schema)) (omega (arith, m, under)) first
+    c.index.ensures c.deref.ensures.value in
     let more = one_ready stamp changes old now c.loop-i.plans.items c.loop-i.gained c.loop-i.lost i
     c.loop-i.invariant.turn t u c.in_ok-plan.plan c.gained_by.result c.lost_by.result
     (omega (arith, n, under)) is c.prepare_one.ensures.same

@@ -3,7 +3,10 @@ use Rattle.std.specs.Result.{IfOk}
 use Rattle.relations.specs.Spans.{forever}
 use Rattle.smo_meaning.specs.Accepts.{command_fault}
 use Rattle.smo_meaning.specs.ValidValues.{BodyHolds}
-use Rattle.version_groups.specs.Judged.{judged_command, IsAccepted}
+use Rattle.smo_types.specs.Changes.{changes_of}
+use Rattle.smo_meaning.specs.Past.{newest_tables}
+use Rattle.smo_ops.specs.TablePlaces.{StandAt}
+use Rattle.version_groups.specs.Judged.{judged_command, IsFound, IsAccepted}
 use Rattle.version_groups.specs.Steps.{Prepares}
 use Rattle.version_groups.specs.declared.judged.Judged.{Judged}
 use Rattle.version_groups.proofs.PreparedCommand.{shows_same}
@@ -24,6 +27,9 @@ prepare_changes-requires-clause-accepted c = (
   c.requires.1,
   subst (λ (j : Judged). command_fault c.requires.0 (judged_command j) ≡ None) c.in-Changes.is
       c.requires.2.accepted,
+  subst (λ ps. StandAt (newest_tables c.requires.0) (changes_of c.in-Changes.changes.now) ps)
+      (sym c.deref.ensures.value)
+      (subst (IsFound c.requires.0) c.in-Changes.is c.requires.2.found),
 )
 
 pub returns-in-Changes-clause-represents : goal.returns-in-Changes-clause-represents

@@ -3,10 +3,12 @@ use Rattle.relations.specs.Sets.{Ascends}
 use Rattle.prima_base.specs.Order.{bytes_cmp}
 use Rattle.schema_catalog.specs.Tables.{Tables}
 use Rattle.smo_types.specs.Changes.{changes_of}
+use Rattle.smo_ops.specs.TablePlaces.{StandAt}
 use Rattle.version_tables.specs.declared.made_table.MadeTable.{MadeTable}
 use Rattle.version_tables.specs.Stored.{names_of}
 use Rattle.std.specs.Prelude.{List, length}
-use Rattle.version_tables.specs.Changing.{AreChangeable, AreReady, all_gained, all_lost}
+use Rattle.version_tables.specs.Changing.{AreChangeable, AreOfSchema, AreReady, all_gained}
+use Rattle.version_tables.specs.Changing.{all_lost}
 use Rattle.version_tables.specs.Places.{at_places, AreWithin}
 use Rattle.version_groups.specs.declared.groups.Groups.TheInside.{Inside}
 use Rattle.version_groups.specs.Groups.{Kept, newest_group}
@@ -14,7 +16,8 @@ use Rattle.version_groups.specs.GroupFields.{groups_view}
 use Rattle.version_groups.specs.Room.{IsSame}
 use Rattle.version_groups.proofs.GroupPlaces.{newest_is, view_same, are_groups, names_kept}
 use Rattle.version_groups.proofs.GroupPlaces.{lines_kept}
-use Rattle.version_groups.proofs.PreparedCommand.{schema_is, changeable_now, changes_ready}
+use Rattle.version_groups.proofs.PreparedCommand.{schema_is, of_newest_schema, changeable_now}
+use Rattle.version_groups.proofs.PreparedCommand.{changes_ready}
 use Rattle.version_groups.proofs.groups.Groups.prepare_changes.Goals as goal
 
 pub prepare_tables-requires-clause-there : goal.prepare_tables-requires-clause-there
@@ -27,8 +30,8 @@ prepare_tables-requires-clause-ordered c = subst
     (λ ps. Ascends bytes_cmp (names_of (at_places c.self.inside.stored.items ps)))
     (sym c.deref.ensures.value) c.self.invariant.newest
 
-pub prepare_tables-requires-clause-changeable : goal.prepare_tables-requires-clause-changeable
-prepare_tables-requires-clause-changeable c =
+pub prepare_tables-requires-clause-schema : goal.prepare_tables-requires-clause-schema
+prepare_tables-requires-clause-schema c =
     let a = c.self.inside in
     let h = c.requires.accepted in
     let own : newest_group c.args.self.now ≡ at_places a.stored.items a.newest.items =
@@ -41,11 +44,35 @@ prepare_tables-requires-clause-changeable c =
     let schema = c.newest_schema-schema.ensures
     ∙ schema_is c.args.self.now h.0 h.1 a.nothing a.versions.list.items c.self.invariant.nothing
     (ap (λ (k : Kept). k.versions) c.self.view_is) in
-    subst (λ (t : Tables). AreChangeable t c.args.stamp (changes_of c.args.changes.now)
-    (at_places a.stored.items c.deref.result.now)) (sym schema)
-    (subst (AreChangeable _ c.args.stamp (changes_of c.args.changes.now)) group
-    (changeable_now c.args.self.now h.0 c.args.stamp (changes_of c.args.changes.now) h.1
+    subst (λ (t : Tables). AreOfSchema t (at_places a.stored.items c.deref.result.now)) (sym schema)
+    (subst (AreOfSchema _) group
+    (of_newest_schema c.args.self.now h.0 c.args.stamp (changes_of c.args.changes.now) h.1
     c.requires.valid h.2 ordered))
+
+pub prepare_tables-requires-clause-changes : goal.prepare_tables-requires-clause-changes
+prepare_tables-requires-clause-changes c =
+    let a = c.self.inside in
+    let h = c.requires.accepted in
+    let schema = c.newest_schema-schema.ensures
+    ∙ schema_is c.args.self.now h.0 h.1 a.nothing a.versions.list.items c.self.invariant.nothing
+    (ap (λ (k : Kept). k.versions) c.self.view_is) in
+    subst (λ (t : Tables). StandAt t (changes_of c.args.changes.now) c.args.places.now) (sym schema)
+    h.3
+
+pub prepare_tables-requires-clause-changeable : goal.prepare_tables-requires-clause-changeable
+prepare_tables-requires-clause-changeable c =
+    let a = c.self.inside in
+    let h = c.requires.accepted in
+    let own : newest_group c.args.self.now ≡ at_places a.stored.items a.newest.items =
+    ap newest_group (sym c.self.view_is) ∙ newest_is a c.self.invariant in
+    let group : newest_group c.args.self.now ≡ at_places a.stored.items c.deref.result.now = own
+    ∙ ap (at_places a.stored.items) (sym c.deref.ensures.value) in
+    let ordered : Ascends bytes_cmp (names_of (newest_group c.args.self.now)) =
+    subst (λ (ts : List MadeTable). Ascends bytes_cmp (names_of ts)) (sym own)
+    c.self.invariant.newest in
+    subst (AreChangeable c.args.stamp (changes_of c.args.changes.now)) group
+    (changeable_now c.args.self.now h.0 c.args.stamp (changes_of c.args.changes.now) h.1
+    c.requires.valid h.2 ordered)
 
 pub invariant_of-self : goal.invariant_of-self
 invariant_of-self c =

@@ -58,7 +58,7 @@ begin_version-requires-clause-next c =
     let schema = c.newest_schema-schema.ensures
     ∙ schema_is c.args.self.now h.0 h.1 a.nothing a.versions.list.items c.self.invariant.nothing
     (ap (λ (k : Kept). k.versions) c.self.view_is) in
-    h.2.next ∙ ap (λ (t : Tables). schema_after t (operator_of v.op)) (sym schema)
+    h.2.found ∙ ap (λ (t : Tables). schema_after t (operator_of v.op)) (sym schema)
 
 pub begin_version-requires-clause-valid : goal.begin_version-requires-clause-valid
 begin_version-requires-clause-valid c = c.requires.2.stamp

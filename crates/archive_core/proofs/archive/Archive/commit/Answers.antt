@@ -1,0 +1,62 @@
+use Rattle.std.proofs.Common.{List, ap, sym, subst, ◌∙◌}
+use Rattle.smo_types.specs.Changes.{changes_of}
+use Rattle.smo_types.specs.Commands.{changing, PlainCommand}
+use Rattle.smo_types.specs.declared.change.Change.{Change}
+use Rattle.version_groups.specs.Steps.{a_command}
+use Rattle.archive_file.specs.LogRecords.{logged, record_of}
+use Rattle.archive_state.specs.AcceptedCommands.{accepted_command, IsAcceptedAfter}
+use Rattle.archive_state.proofs.Judging.{borrowed}
+use Rattle.archive_core.specs.Committing.{Commits}
+use Rattle.archive_core.proofs.archive.Archive.commit.Goals as goal
+
+pub accept-requires-clause-accepted : goal.accept-requires-clause-accepted
+accept-requires-clause-accepted g c =
+    let some = c.judge_and_seal.ensures.represents in (
+      some.0,
+      some.1,
+      borrowed some.0 c.in-Changes.stamp c.in-Changes.changes c.in-Changes.places c.deref.result
+          c.deref.ensures.value
+          (subst (IsAcceptedAfter some.0) c.in-Changes.is
+          (c.in_ok-accepted.ensures.judged some.0 some.1)),
+    )
+
+pub accept-requires-clause-sealed : goal.accept-requires-clause-sealed
+accept-requires-clause-sealed g c = c.in_ok-accepted.ensures.sealed
+    ∙ ap (λ (command : PlainCommand). record_of (logged command))
+    (sym c.in_ok-accepted.ensures.same ∙ ap accepted_command c.in-Changes.is
+    ∙ ap (λ (items : List Change). a_command c.in-Changes.stamp (changing (changes_of items)))
+    (sym c.deref.ensures.value))
+
+pub accept-2-requires-clause-accepted : goal.accept-2-requires-clause-accepted
+accept-2-requires-clause-accepted g c =
+    let some = c.judge_and_seal.ensures.represents in (
+      some.0,
+      some.1,
+      subst (IsAcceptedAfter some.0) c.in-Evolve.is
+          (c.in_ok-accepted.ensures.judged some.0 some.1),
+    )
+
+pub accept-2-requires-clause-sealed : goal.accept-2-requires-clause-sealed
+accept-2-requires-clause-sealed g c = c.in_ok-accepted.ensures.sealed
+    ∙ ap (λ (command : PlainCommand). record_of (logged command))
+    (sym c.in_ok-accepted.ensures.same ∙ ap accepted_command c.in-Evolve.is)
+
+pub returns-in-Changes-clause-commits : goal.returns-in-Changes-clause-commits
+returns-in-Changes-clause-commits g c past represents =
+    subst (λ (command : PlainCommand). Commits past command _ _ _ _ _)
+    (ap (λ (items : List Change). a_command c.in-Changes.stamp (changing (changes_of items)))
+    c.deref.ensures.value ∙ ap accepted_command (sym c.in-Changes.is)
+    ∙ c.in_ok-accepted.ensures.same)
+    (c.accept.ensures.commits past represents
+    (borrowed past c.in-Changes.stamp c.in-Changes.changes c.in-Changes.places c.deref.result
+    c.deref.ensures.value
+    (subst (IsAcceptedAfter past) c.in-Changes.is
+    (c.in_ok-accepted.ensures.judged past represents))))
+
+pub returns-in-Evolve-clause-commits : goal.returns-in-Evolve-clause-commits
+returns-in-Evolve-clause-commits g c past represents =
+    subst (λ (command : PlainCommand). Commits past command _ _ _ _ _)
+    (ap accepted_command (sym c.in-Evolve.is) ∙ c.in_ok-accepted.ensures.same)
+    (c.accept-2.ensures.commits past represents
+    (subst (IsAcceptedAfter past) c.in-Evolve.is
+    (c.in_ok-accepted.ensures.judged past represents)))
