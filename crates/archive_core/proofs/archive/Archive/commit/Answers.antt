@@ -27,8 +27,8 @@ accept-requires-clause-sealed g c = c.in_ok-accepted.ensures.sealed
     ∙ ap (λ (items : List Change). a_command c.in-Changes.stamp (changing (changes_of items)))
     (sym c.deref.ensures.value))
 
-pub accept-2-requires-clause-accepted : goal.accept-2-requires-clause-accepted
-accept-2-requires-clause-accepted g c =
+pub accept-requires-in-Evolve-clause-accepted : goal.accept-requires-in-Evolve-clause-accepted
+accept-requires-in-Evolve-clause-accepted g c =
     let some = c.judge_and_seal.ensures.represents in (
       some.0,
       some.1,
@@ -36,8 +36,8 @@ accept-2-requires-clause-accepted g c =
           (c.in_ok-accepted.ensures.judged some.0 some.1),
     )
 
-pub accept-2-requires-clause-sealed : goal.accept-2-requires-clause-sealed
-accept-2-requires-clause-sealed g c = c.in_ok-accepted.ensures.sealed
+pub accept-requires-in-Evolve-clause-sealed : goal.accept-requires-in-Evolve-clause-sealed
+accept-requires-in-Evolve-clause-sealed g c = c.in_ok-accepted.ensures.sealed
     ∙ ap (λ (command : PlainCommand). record_of (logged command))
     (sym c.in_ok-accepted.ensures.same ∙ ap accepted_command c.in-Evolve.is)
 
@@ -57,6 +57,6 @@ pub returns-in-Evolve-clause-commits : goal.returns-in-Evolve-clause-commits
 returns-in-Evolve-clause-commits g c past represents =
     subst (λ (command : PlainCommand). Commits past command _ _ _ _ _)
     (ap accepted_command (sym c.in-Evolve.is) ∙ c.in_ok-accepted.ensures.same)
-    (c.accept-2.ensures.commits past represents
+    (c.accept-in-Evolve.ensures.commits past represents
     (subst (IsAcceptedAfter past) c.in-Evolve.is
     (c.in_ok-accepted.ensures.judged past represents)))

@@ -19,8 +19,8 @@ accept-requires c =
           (c.in_ok-accepted.ensures.judges some.0 some.1).1),
     )
 
-pub accept-2-requires : goal.accept-2-requires
-accept-2-requires c =
+pub accept-requires-in-Evolve : goal.accept-requires-in-Evolve
+accept-requires-in-Evolve c =
     let some = c.judge.ensures.represents in (
       some.0,
       some.1,
@@ -43,9 +43,9 @@ returns-in-Changes-clause-commits c past represents =
 
 pub returns-in-Evolve-clause-commits : goal.returns-in-Evolve-clause-commits
 returns-in-Evolve-clause-commits c past represents =
-    subst (λ (command : PlainCommand). Accepts past command c.args.self.now c.accept-2.result
-    c.accept-2.new.self)
+    subst (λ (command : PlainCommand). Accepts past command c.args.self.now c.accept-in-Evolve.result
+    c.accept-in-Evolve.new.self)
     (ap accepted_command (sym c.in-Evolve.is) ∙ c.in_ok-accepted.ensures.same)
-    (c.accept-2.ensures.commits past represents
+    (c.accept-in-Evolve.ensures.commits past represents
     (subst (IsAcceptedAfter past) c.in-Evolve.is
     (c.in_ok-accepted.ensures.judges past represents).1))
