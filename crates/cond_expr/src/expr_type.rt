@@ -15,6 +15,13 @@ ghost use Rattle.cond_expr.specs.Walks.{Walked, TreesWalked, TestWalked, TestsWa
 use crate::{ColRef, Column, Cond, Expr, TypeFault};
 use prima_base::{ColType, Name, Value};
 
+/// The type of an expression that has one, and how many nodes the expression has.
+#[derive(Clone, Copy)]
+pub struct TypedExpr {
+    pub kind: ColType,
+    pub nodes: u32,
+}
+
 /// An expression's type, and the number of the node after it.
 #[derive(Clone, Copy)]
 pub(crate) struct Typed {
@@ -272,33 +279,39 @@ pub fn unknown_of_cond<'e>(cond: &'e Cond, columns: &[Column]) -> Option<&'e Nam
     first_unknown_of_cond(cond, columns)
 }
 
-/// The type of an expression, or the number, in pre-order from 0, of the first node whose parts
-/// have types that it does not take, parts before their node and left before right; a reference
-/// that names no column is such a node. It takes no memory.
-pub fn typed_expr(expr: &Expr, columns: &[Column]) -> Result<ColType, u32>
+/// The type of an expression and its number of nodes, or the number, in pre-order from 0, of the
+/// first node whose parts have types that it does not take, parts before their node and left before
+/// right; a reference that names no column is such a node. It takes no memory.
+pub fn typed_expr(expr: &Expr, columns: &[Column]) -> Result<TypedExpr, u32>
     requires { nodes_of (tree expr.now) < 2 ^ 32 }
-    ensures kind { IfOk result (λ k. kind_of (kinds_of columns.now) (tree expr.now) ≡ Some k) }
+    ensures kind { IfOk result (λ t. kind_of (kinds_of columns.now) (tree expr.now)
+        ≡ Some t.kind) }
+    ensures nodes { IfOk result (λ t. t.nodes ≡ nodes_of (tree expr.now)) }
     ensures place { MatchResult result (λ _. first_of
         (untyped (kinds_of columns.now) 0 (tree expr.now)) ≡ None)
         (λ p. first_of (untyped (kinds_of columns.now) 0 (tree expr.now)) ≡ Some p) }
 {
     match type_at(expr, columns, 0) {
-        Ok(typed) => Ok(typed.kind),
+        Ok(typed) => Ok(TypedExpr {
+            kind: typed.kind,
+            nodes: typed.next,
+        }),
         Err(place) => Err(place),
     }
 }
 
-/// Whether a condition is well-typed; if not, the number of the first node that is not, as for
-/// `typed_expr`. It takes no memory.
-pub fn typed_cond(cond: &Cond, columns: &[Column]) -> Result<(), u32>
+/// Whether a condition is well-typed, and then its number of nodes; if not, the number of the first
+/// node that is not, as for `typed_expr`. It takes no memory.
+pub fn typed_cond(cond: &Cond, columns: &[Column]) -> Result<u32, u32>
     requires { test_nodes (test cond.now) < 2 ^ 32 }
+    ensures nodes { IfOk result (λ n. n ≡ test_nodes (test cond.now)) }
     ensures typed { OnOk result (is_typed (kinds_of columns.now) (test cond.now) ≡ true) }
     ensures place { MatchResult result (λ _. first_of
         (test_untyped (kinds_of columns.now) 0 (test cond.now)) ≡ None)
         (λ p. first_of (test_untyped (kinds_of columns.now) 0 (test cond.now)) ≡ Some p) }
 {
     match cond_at(cond, columns, 0) {
-        Ok(_) => Ok(()),
+        Ok(next) => Ok(next),
         Err(place) => Err(place),
     }
 }

@@ -25,7 +25,8 @@ pub use copy::Itself;
 pub use evaluation::{decide, eval, holds};
 pub use expr::{CmpOp, ColRef, Column, Cond, Expr, TreeSize, TypeFault, Whose};
 pub use expr_type::{
-    check_cond, type_of, typed_cond, typed_expr, unknown_of_cond, unknown_of_expr, value_kind,
+    TypedExpr, check_cond, type_of, typed_cond, typed_expr, unknown_of_cond, unknown_of_expr,
+    value_kind,
 };
 pub use fill::{Fill, fill_cond, fill_expr};
 pub use laws::{

@@ -25,7 +25,7 @@ ghost use Rattle.smo_ops.specs.Walks.{IsWalked};
 use crate::type_check::{
     check_all_references, check_sets, check_test_references, check_test_types,
 };
-use cond_expr::{Cond, Expr, cond_size, value_kind};
+use cond_expr::{Cond, Expr, value_kind};
 use prima_base::{ColType, Name, NoMemory, Refusal, Value};
 use schema_catalog::Schema;
 use smo_schemas::{OwnColumns, has_name, type_in};
@@ -121,8 +121,8 @@ fn check_delete(own: &OwnColumns<'_>, cond: &Cond, at: u32) -> Result<u32, Chang
         ∷ test_fault own.now at (test cond.now) ∷ []) (at + test_nodes (test cond.now)) result }
 {
     check_test_references(own, cond)?;
-    check_test_types(own, cond, at)?;
-    Ok(at + cond_size(cond).nodes as u32)
+    let next = check_test_types(own, cond, at)?;
+    Ok(next)
 }
 
 // The tests of an UPDATE; the number of the node after it.
@@ -145,8 +145,8 @@ fn check_update(
     check_names(table, own.columns(), sets)?;
     check_all_references(own, sets, cond)?;
     let next = check_sets(own, sets, at)?;
-    check_test_types(own, cond, next)?;
-    Ok(next + cond_size(cond).nodes as u32)
+    let after = check_test_types(own, cond, next)?;
+    Ok(after)
 }
 
 // The tests of a change of a table with these columns; the number of the node after it.

@@ -1,4 +1,4 @@
-ghost use Rattle.std.specs.Prelude.{◌≡◌, ◌++◌, ◌+◌, ◌<◌, ◌≤◌, ◌^◌, None};
+ghost use Rattle.std.specs.Prelude.{◌≡◌, ◌++◌, ◌+◌, ◌<◌, ◌≤◌, ◌^◌, None, IfOk};
 ghost use Rattle.cond_expr.specs.Seen.{tree, test};
 ghost use Rattle.cond_expr.specs.Sizes.{nodes_of, test_nodes};
 ghost use Rattle.cond_expr.specs.Faults.{references, test_references, first_unknown};
@@ -9,7 +9,7 @@ ghost use Rattle.smo_meaning.specs.Checks.{AreSmall, reference_fault, set_refere
 ghost use Rattle.smo_meaning.specs.Checks.{set_faults, sets_nodes, test_fault};
 ghost use Rattle.smo_ops.specs.Walks.{IsWalked};
 
-use cond_expr::{Cond, Expr, expr_size, typed_cond, typed_expr, unknown_of_cond, unknown_of_expr};
+use cond_expr::{Cond, Expr, typed_cond, typed_expr, unknown_of_cond, unknown_of_expr};
 use prima_base::{Name, Refusal};
 use smo_schemas::{OwnColumns, type_in};
 use smo_types::ChangeFault;
@@ -63,9 +63,9 @@ fn check_set(own: &OwnColumns<'_>, name: &Name, expr: &Expr, at: u32) -> Result<
         (at + nodes_of (tree expr.now)) result }
 {
     match typed_expr(expr, own.atoms()) {
-        Ok(kind) => {
-            if type_in(own.columns(), name) == Some(kind) {
-                return Ok(at + expr_size(expr).nodes as u32);
+        Ok(typed) => {
+            if type_in(own.columns(), name) == Some(typed.kind) {
+                return Ok(at + typed.nodes);
             }
             Err(ChangeFault::Refused(Refusal::WrongType(at)))
         }
@@ -92,19 +92,20 @@ pub(crate) fn check_sets(
     Ok(next)
 }
 
-// Whether a condition whose root is node `at` is typed.
+// Whether a condition whose root is node `at` is typed; the number of the node after it.
 pub(crate) fn check_test_types(
     own: &OwnColumns<'_>,
     cond: &Cond,
     at: u32,
-) -> Result<(), ChangeFault>
+) -> Result<u32, ChangeFault>
     requires small { test_nodes (test cond.now) ≤ 256 }
     requires room { at + test_nodes (test cond.now) < 2 ^ 32 }
     requires known { first_unknown (own_kinds own.now) (test_references (test cond.now)) ≡ None }
-    ensures { IsTested (test_fault own.now at (test cond.now)) result }
+    ensures tested { IsTested (test_fault own.now at (test cond.now)) result }
+    ensures next { IfOk result (λ next. next ≡ at + test_nodes (test cond.now)) }
 {
     match typed_cond(cond, own.atoms()) {
-        Ok(()) => Ok(()),
+        Ok(nodes) => Ok(at + nodes),
         Err(place) => Err(ChangeFault::Refused(Refusal::WrongType(at + place))),
     }
 }

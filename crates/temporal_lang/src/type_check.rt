@@ -38,7 +38,7 @@ fn type_expr(expr: &Expr, columns: &[Column], at: u32) -> Result<ColType, u32>
     ensures { IsTyped (kinds_of columns.now) at (tree expr.now) result }
 {
     match typed_expr(expr, columns) {
-        Ok(kind) => Ok(kind),
+        Ok(typed) => Ok(typed.kind),
         Err(place) => Err(at + place),
     }
 }
@@ -51,7 +51,7 @@ fn type_cond(cond: &Cond, columns: &[Column], at: u32) -> Result<(), u32>
     ensures { IsTypedTest (kinds_of columns.now) at (test cond.now) result }
 {
     match typed_cond(cond, columns) {
-        Ok(()) => Ok(()),
+        Ok(_) => Ok(()),
         Err(place) => Err(at + place),
     }
 }

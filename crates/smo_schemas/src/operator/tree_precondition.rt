@@ -50,7 +50,7 @@ pub(crate) fn check_test_typed(own: &OwnColumns<'_>, cond: &Cond) -> Result<(), 
     ensures { IsTested (test_typed_in own.now (test cond.now)) result }
 {
     match typed_cond(cond, own.atoms()) {
-        Ok(()) => Ok(()),
+        Ok(_) => Ok(()),
         Err(place) => Err(OpFault::Refused(OpRefusal::WrongType(place))),
     }
 }
@@ -80,7 +80,7 @@ pub(crate) fn check_tree_typed(own: &OwnColumns<'_>, expr: &Expr) -> Result<ColT
     ensures kind { IfOk result (λ k. k ≡ type_of_value own.now (tree expr.now)) }
 {
     match typed_expr(expr, own.atoms()) {
-        Ok(kind) => Ok(kind),
+        Ok(typed) => Ok(typed.kind),
         Err(place) => Err(OpFault::Refused(OpRefusal::WrongType(place))),
     }
 }

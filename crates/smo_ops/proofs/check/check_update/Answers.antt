@@ -99,10 +99,10 @@ check_test_types-requires-clause-known c =
     test_known c.args.table.now c.args.own.now c.args.sets.now (test c.args.cond.now) c.args.at fine
     c.in_ok-check_all_references.ensures
 
-pub returns-in_err-check_test_types : goal.returns-in_err-check_test_types
-returns-in_err-check_test_types c =
-    let p = err_from_is_err_and c.from_residual-in_err-check_test_types.result
-    c.from_residual-in_err-check_test_types.ensures.1 in
+pub returns-in_err-after : goal.returns-in_err-after
+returns-in_err-after c =
+    let p = err_from_is_err_and c.from_residual-in_err-after.result
+    c.from_residual-in_err-after.ensures.1 in
     let fine = subst (λ (cs : List Column). first_refusal
     (name_faults c.args.table.now cs (pair_names c.args.sets.now)) ≡ None) c.columns.ensures
     c.in_ok-check_names.ensures in
@@ -112,20 +112,10 @@ returns-in_err-check_test_types c =
     (tests_after c.args.own.now
     (update c.args.table.now (sets_of c.args.sets.now) (test c.args.cond.now)) c.args.at)
     (c.args.at + (sets_nodes (sets_of c.args.sets.now) + test_nodes (test c.args.cond.now)))
-    c.in_err-check_test_types.field-0.0
+    c.in_err-after.field-0.0
     (λ r h. update_test c.args.table.now c.args.own.now c.args.sets.now (test c.args.cond.now)
     c.args.at fine c.in_ok-check_all_references.ensures c.in_ok-next.next walked.0 walked.1 ∙ h)
-    c.in_err-check_test_types.ensures)
-
-pub overflow_add-result : goal.overflow_add-result
-overflow_add-result c =
-    let fine = subst (λ (cs : List Column). first_refusal
-    (name_faults c.args.table.now cs (pair_names c.args.sets.now)) ≡ None) c.columns.ensures
-    c.in_ok-check_names.ensures in
-    let room = update_room c.args.table.now c.args.own.now c.args.sets.now (test c.args.cond.now)
-    c.args.at fine c.requires.columns c.requires.narrow c.requires.sets c.requires.place in
-    let walked = c.in_ok-next.ensures in
-    omega (arith, walked.1, c.requires.test)
+    c.in_err-after.ensures.tested)
 
 pub returns : goal.returns
 returns c =
@@ -135,6 +125,6 @@ returns c =
     let walked = c.in_ok-next.ensures in (
       update_test c.args.table.now c.args.own.now c.args.sets.now (test c.args.cond.now) c.args.at
           fine c.in_ok-check_all_references.ensures c.in_ok-next.next walked.0 walked.1
-          ∙ c.in_ok-check_test_types.ensures,
-      omega (arith, walked.1, c.requires.test),
+          ∙ c.in_ok-after.ensures.tested,
+      (let next = c.in_ok-after.ensures.next in omega (arith, walked.1, next)),
     )

@@ -5,8 +5,8 @@ use Rattle.cond_expr.specs.Kinds.{kinds_of}
 use Rattle.smo_meaning.proofs.Places.{place_in_test}
 use Rattle.smo_ops.proofs.type_check.check_test_types.Goals as goal
 
-pub overflow_add-result : goal.overflow_add-result
-overflow_add-result c =
+pub overflow_add-result-in-Err : goal.overflow_add-result-in-Err
+overflow_add-result-in-Err c =
     let below : c.in-Err.place < test_nodes (test c.args.cond.now) =
     place_in_test (kinds_of c.atoms.result.now) (test c.args.cond.now) c.in-Err.place
     c.in-Err.ensures.place in
