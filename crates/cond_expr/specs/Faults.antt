@@ -1,11 +1,8 @@
 -- The first fault of a tree over some columns: its references in written order, and its nodes that
 -- have no type, parts before their node, by their numbers in pre-order.
-use Rattle.std.specs.Prelude.{◌≡◌, ℕ, ◌+◌, List, [], ◌∷◌, ◌++◌, Bool, true, false, not, Option}
-use Rattle.std.specs.Prelude.{Some, None, IsSome, is_none, Result, Ok, Err, cond}
-use Rattle.prima_base.specs.declared.value.ColType.{ColType}
+use Rattle.std.specs.Prelude.{ℕ, ◌+◌, List, [], ◌∷◌, ◌++◌, Bool, true, false, not, Option}
+use Rattle.std.specs.Prelude.{Some, None, is_none, cond}
 use Rattle.cond_expr.specs.declared.expr.ColRef.{ColRef}
-use Rattle.cond_expr.specs.declared.expr.TypeFault.{TypeFault}
-use Rattle.cond_expr.specs.declared.expr.TypeFault.TheVariants.{NoColumn, WrongType, NoMemory}
 use Rattle.cond_expr.specs.Trees.{Tree, column, constant, length_of, joined, choose, Trees}
 use Rattle.cond_expr.specs.Trees.{no_trees, a_tree, Test, never, always, compared, all_of, some_of}
 use Rattle.cond_expr.specs.Trees.{fails, Tests, no_tests, a_test}
@@ -88,19 +85,3 @@ abbrev mutual
 abbrev pub first_of : List ℕ → Option ℕ
 first_of [] = None
 first_of (x ∷ xs) = Some x
-
--- what the check of an expression answers
-abbrev pub Judged : Kinds → Tree → Result ColType TypeFault → Type 0
-Judged of t (Ok k) = kind_of of t ≡ Some k
-Judged of t (Err (NoColumn n)) = first_unknown of (references t) ≡ Some n
-Judged of t (Err (WrongType p)) = (first_unknown of (references t) ≡ None)
-    × (first_of (untyped of 0 t) ≡ Some p)
-Judged of t (Err NoMemory) = IsSome (first_unknown of (references t))
-
--- what the check of a condition answers
-abbrev pub TestJudged : Kinds → Test → Result (Unit {0}) TypeFault → Type 0
-TestJudged of c (Ok u) = is_typed of c ≡ true
-TestJudged of c (Err (NoColumn n)) = first_unknown of (test_references c) ≡ Some n
-TestJudged of c (Err (WrongType p)) = (first_unknown of (test_references c) ≡ None)
-    × (first_of (test_untyped of 0 c) ≡ Some p)
-TestJudged of c (Err NoMemory) = IsSome (first_unknown of (test_references c))

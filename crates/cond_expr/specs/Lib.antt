@@ -5,7 +5,6 @@ pub mod Sizes
 pub mod Rows
 pub mod Kinds
 pub mod Faults
-pub mod Walks
 pub mod Constants
 pub mod References
 pub mod Parts

@@ -1,4 +1,4 @@
-use prima_base::{ColType, Name, NoMemory, Value, same_name};
+use prima_base::{ColType, Name, Value, same_name};
 
 /// Whose column a reference names. `Free` and `Alias` stand only in a query as written; what is
 /// typed and evaluated names each column by its atom, counted from 0.
@@ -97,29 +97,6 @@ pub struct Column {
     pub name: Name,
     /// The type of what it holds.
     pub kind: ColType,
-}
-
-/// Why a tree has no type over some columns.
-#[derive(Drop)]
-pub enum TypeFault {
-    /// The first reference, in written order, that names none of the columns.
-    NoColumn(Name),
-    /// The number, in pre-order from 0, of the first node whose parts have types that it does not
-    /// take.
-    WrongType(u32),
-    /// The name of the unknown reference could not be copied.
-    NoMemory,
-}
-
-impl From<NoMemory> for TypeFault {
-    ghost use Rattle.std.specs.Prelude.{◌≡◌};
-    ghost use Rattle.cond_expr.specs.declared.expr.TypeFault.TheVariants.{NoMemory as OutOfMemory};
-
-    ghost from_gives = { λ _ e. e ≡ OutOfMemory };
-
-    fn from(_error: NoMemory) -> TypeFault {
-        TypeFault::NoMemory
-    }
 }
 
 /// How large a tree is. Each number stops at `u64::MAX`.

@@ -10,7 +10,6 @@ mod comparison;
 mod copy;
 mod evaluation;
 mod expr;
-mod expr_type;
 mod fill;
 mod laws;
 mod maker;
@@ -23,11 +22,7 @@ pub use borrowed::lend_row;
 pub use comparison::{same_way, turned};
 pub use copy::Itself;
 pub use evaluation::{decide, eval, holds};
-pub use expr::{CmpOp, ColRef, Column, Cond, Expr, TreeSize, TypeFault, Whose};
-pub use expr_type::{
-    TypedExpr, check_cond, type_of, typed_cond, typed_expr, unknown_of_cond, unknown_of_expr,
-    value_kind,
-};
+pub use expr::{CmpOp, ColRef, Column, Cond, Expr, TreeSize, Whose};
 pub use fill::{Fill, fill_cond, fill_expr};
 pub use laws::{
     accepted_has_a_value_of_its_type, filling_atoms_is_substitution, filling_is_substitution,

@@ -7,7 +7,8 @@ ghost use Rattle.dead_conditions.specs.Tried.{is_never, one_is_let, kills, is_ki
 use crate::bound::{ColumnBound, bound_of};
 use crate::column::{ColumnOf, one_is_let};
 use crate::part::{PartTest, some_part};
-use cond_expr::{Cond, value_kind};
+use cond_expr::Cond;
+use expr_typing::value_kind;
 
 // Whether it is FALSE.
 #[tactic(auto, using(cond_expr::proofs::SeenLaws::test_of_and, cond_expr::proofs::SeenLaws::test_of_or, cond_expr::proofs::SeenLaws::test_of_cmp))]

@@ -1,7 +1,8 @@
 //! A case: a condition, and whether it is dead.
 
-use cond_expr::{Column, Cond, check_cond, cond_size};
+use cond_expr::{Column, Cond, cond_size};
 use dead_conditions::is_dead;
+use expr_typing::check_cond;
 use lexer::{parse_cond, tokens};
 use prima_base::limits::{MAX_NODES, MAX_STATEMENT};
 use prima_base::{ColType, Name, NoMemory};

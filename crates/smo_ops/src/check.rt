@@ -25,7 +25,8 @@ ghost use Rattle.smo_ops.specs.Walks.{IsWalked};
 use crate::type_check::{
     check_all_references, check_sets, check_test_references, check_test_types,
 };
-use cond_expr::{Cond, Expr, value_kind};
+use cond_expr::{Cond, Expr};
+use expr_typing::value_kind;
 use prima_base::{ColType, Name, NoMemory, Refusal, Value};
 use schema_catalog::Schema;
 use smo_schemas::{OwnColumns, has_name, type_in};

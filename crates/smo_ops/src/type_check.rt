@@ -9,7 +9,8 @@ ghost use Rattle.smo_meaning.specs.Checks.{AreSmall, reference_fault, set_refere
 ghost use Rattle.smo_meaning.specs.Checks.{set_faults, sets_nodes, test_fault};
 ghost use Rattle.smo_ops.specs.Walks.{IsWalked};
 
-use cond_expr::{Cond, Expr, typed_cond, typed_expr, unknown_of_cond, unknown_of_expr};
+use cond_expr::{Cond, Expr};
+use expr_typing::{typed_cond, typed_expr, unknown_of_cond, unknown_of_expr};
 use prima_base::{Name, Refusal};
 use smo_schemas::{OwnColumns, type_in};
 use smo_types::ChangeFault;

@@ -10,7 +10,8 @@ ghost use Rattle.smo_meaning.specs.Making.{type_of_value};
 ghost use Rattle.prima_base.specs.Faults.{IsTested};
 
 use crate::column::OwnColumns;
-use cond_expr::{Cond, Expr, typed_cond, typed_expr, unknown_of_cond, unknown_of_expr};
+use cond_expr::{Cond, Expr};
+use expr_typing::{typed_cond, typed_expr, unknown_of_cond, unknown_of_expr};
 use prima_base::limits::MAX_COLUMNS;
 use prima_base::{ColType, Name, OpRefusal, What};
 use smo_types::OpFault;

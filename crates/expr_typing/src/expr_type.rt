@@ -1,24 +1,28 @@
 ghost use Rattle.std.specs.Prelude.{◌≡◌, ◌+◌, ◌<◌, ◌^◌, ◌⊎◌, ℕ, List, Some, None, Ok, Err, true};
 ghost use Rattle.std.specs.Prelude.{map, IfOk, MatchOption, MatchResult, IsOk, OnOk};
 ghost use Rattle.prima_base.specs.declared.value.ColType.{ColType as Kind};
-ghost use Rattle.cond_expr.specs.declared.expr.TypeFault.TheVariants.{NoColumn, WrongType};
-ghost use Rattle.cond_expr.specs.declared.expr.TypeFault.TheVariants.{NoMemory as OutOfMemory};
+ghost use Rattle.expr_typing.specs.declared.fault.TypeFault.TheVariants.{NoColumn, WrongType};
+ghost use Rattle.expr_typing.specs.declared.fault.TypeFault.TheVariants.{NoMemory as OutOfMemory};
 ghost use Rattle.cond_expr.specs.Trees.{length_of, joined};
 ghost use Rattle.cond_expr.specs.Seen.{tree, test, trees_of, tests_of};
 ghost use Rattle.cond_expr.specs.Sizes.{nodes_of, trees_nodes, test_nodes, tests_nodes};
 ghost use Rattle.cond_expr.specs.Kinds.{kinds_of, kind_of, is_typed, value_kind};
 ghost use Rattle.cond_expr.specs.Faults.{references, trees_references, test_references};
 ghost use Rattle.cond_expr.specs.Faults.{tests_references, first_unknown, untyped, test_untyped};
-ghost use Rattle.cond_expr.specs.Faults.{first_of, Judged, TestJudged};
-ghost use Rattle.cond_expr.specs.Walks.{Walked, TreesWalked, TestWalked, TestsWalked};
+ghost use Rattle.cond_expr.specs.Faults.{first_of};
+ghost use Rattle.expr_typing.specs.Judgements.{Judged, TestJudged};
+ghost use Rattle.expr_typing.specs.Walks.{Walked, TreesWalked, TestWalked, TestsWalked};
 
-use crate::{ColRef, Column, Cond, Expr, TypeFault};
+use crate::TypeFault;
+use cond_expr::{ColRef, Column, Cond, Expr};
 use prima_base::{ColType, Name, Value};
 
 /// The type of an expression that has one, and how many nodes the expression has.
 #[derive(Clone, Copy)]
 pub struct TypedExpr {
+    /// Its type.
     pub kind: ColType,
+    /// The expressions and conditions in it, itself included.
     pub nodes: u32,
 }
 
@@ -322,7 +326,7 @@ pub fn typed_cond(cond: &Cond, columns: &[Column]) -> Result<u32, u32>
 /// parts have types that it does not take, parts before their node and left before right.
 /// `NoMemory` comes only where the name of an unknown reference is to be copied. The tree has fewer
 /// than 2^32 nodes, so that each has a number that fits `WrongType`: `expr_size` counts them.
-#[tactic(auto, using(crate::proofs::FaultLaws::known_typed))]
+#[tactic(auto, using(cond_expr::proofs::FaultLaws::known_typed))]
 pub fn type_of(expr: &Expr, columns: &[Column]) -> Result<ColType, TypeFault>
     requires { nodes_of (tree expr.now) < 2 ^ 32 }
     ensures judged { Judged (kinds_of columns.now) (tree expr.now) result }
@@ -350,7 +354,7 @@ pub fn type_of(expr: &Expr, columns: &[Column]) -> Result<ColType, TypeFault>
 ///
 /// The faults and their order are those of `type_of`. The tree has fewer than 2^32 nodes, so that
 /// each has a number that fits `WrongType`: `cond_size` counts them.
-#[tactic(auto, using(crate::proofs::FaultLaws::known_test))]
+#[tactic(auto, using(cond_expr::proofs::FaultLaws::known_test))]
 pub fn check_cond(cond: &Cond, columns: &[Column]) -> Result<(), TypeFault>
     requires { test_nodes (test cond.now) < 2 ^ 32 }
     ensures judged { TestJudged (kinds_of columns.now) (test cond.now) result }

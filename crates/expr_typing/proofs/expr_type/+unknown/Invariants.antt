@@ -2,7 +2,7 @@ use Rattle.std.proofs.Common.{◌≡◌, map, drop}
 use Rattle.cond_expr.specs.Seen.{tree, test, trees_of, tests_of}
 use Rattle.cond_expr.specs.Kinds.{kinds_of}
 use Rattle.cond_expr.specs.Faults.{trees_references, tests_references, first_unknown}
-use Rattle.cond_expr.proofs.expr_type.+unknown.Given as goal
+use Rattle.expr_typing.proofs.expr_type.+unknown.Given as goal
 
 abbrev pub invariant-first_unknown_of_list-loop-part :
     goal.invariant-first_unknown_of_list-loop-part

@@ -8,8 +8,8 @@ use Rattle.cond_expr.specs.Faults.{first_unknown, earlier}
 use Rattle.cond_expr.specs.Trees.{Tree, Test}
 use Rattle.cond_expr.proofs.SeenLaws.{tree_of_case, test_of_cmp}
 use Rattle.cond_expr.proofs.FaultLaws.{unknown_append}
-use Rattle.cond_expr.proofs.ListedLaws.{unknown_in_list, unknown_in_conds}
-use Rattle.cond_expr.proofs.expr_type.+unknown.Goals as goal
+use Rattle.expr_typing.proofs.ListedLaws.{unknown_in_list, unknown_in_conds}
+use Rattle.expr_typing.proofs.expr_type.+unknown.Goals as goal
 
 pub first_unknown_of_cond-returns-in-Some : goal.first_unknown_of_cond-returns-in-Some
 first_unknown_of_cond-returns-in-Some t c =

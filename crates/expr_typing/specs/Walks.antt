@@ -1,8 +1,8 @@
 -- What a walk over the nodes of a tree has found: the types of what was walked and the number of
 -- the next node, or the number of the first node that has no type.
 use Rattle.std.specs.Prelude.{◌≡◌, ℕ, ◌+◌, [], true, false, Some, None, Result, Ok, Err}
-use Rattle.cond_expr.specs.declared.expr_type.Typed.{Typed}
-use Rattle.cond_expr.specs.declared.expr_type.Parts.{Parts}
+use Rattle.expr_typing.specs.declared.expr_type.Typed.{Typed}
+use Rattle.expr_typing.specs.declared.expr_type.Parts.{Parts}
 use Rattle.cond_expr.specs.Trees.{Tree, Trees, Test, Tests}
 use Rattle.cond_expr.specs.Sizes.{nodes_of, trees_nodes, test_nodes, tests_nodes}
 use Rattle.cond_expr.specs.Kinds.{Kinds, kind_of, all_text, is_typed, all_typed}

@@ -3,7 +3,7 @@ use Rattle.cond_expr.specs.Seen.{tree, test, trees_of, tests_of}
 use Rattle.cond_expr.specs.Sizes.{trees_nodes, tests_nodes}
 use Rattle.cond_expr.specs.Kinds.{kinds_of, all_text, all_typed}
 use Rattle.cond_expr.specs.Faults.{trees_untyped, tests_untyped}
-use Rattle.cond_expr.proofs.expr_type.+types.Given as goal
+use Rattle.expr_typing.proofs.expr_type.+types.Given as goal
 
 abbrev pub invariant-list_at-loop-part : goal.invariant-list_at-loop-part
 invariant-list_at-loop-part l = record {
