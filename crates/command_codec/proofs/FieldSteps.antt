@@ -3,11 +3,11 @@ use Rattle.std.proofs.Common.{◌≡◌, ℕ, suc, ◌-◌, ◌*◌, ◌^◌, �
 use Rattle.std.proofs.Common.{◌∷◌, length, take, refl, sym, ap, ◌∙◌, arith}
 use Rattle.std.proofs.lemmas.Bool.{ltb-true}
 use Rattle.std.proofs.lemmas.List.{take_at, length-append}
-use Rattle.prima_base.specs.Bytes.{is_name_byte, IsName, IsTxt}
+use Rattle.prima_base.specs.Bytes.{is_name_byte, is_text_byte, IsName, IsTxt}
 use Rattle.command_codec.specs.declared.reader.Stop.{Stop}
 use Rattle.command_spelling.specs.Reading.{Parsed, and_then, pure, map_to, byte, run, digits}
 use Rattle.command_codec.specs.Reads.{Fails}
-use Rattle.command_spelling.specs.Reader.{is_name_start, is_name_length, name_text, is_text_byte}
+use Rattle.command_spelling.specs.Reader.{is_name_start, is_name_length, name_text}
 use Rattle.command_spelling.proofs.Correctness.{is_read, byte_correct, run_correct}
 use Rattle.command_spelling.proofs.Numbers.{of_both, number_correct}
 use Rattle.command_spelling.proofs.PartFormats.{name_text_correct, are_text}

@@ -1,9 +1,8 @@
 -- What the functions that read answer.
 use Rattle.std.specs.Prelude.{ℕ, Bool, Option, Some, None, Result, Ok, Err}
-use Rattle.prima_base.specs.Bytes.{is_name_byte}
+use Rattle.prima_base.specs.Bytes.{is_name_byte, is_text_byte}
 use Rattle.smo_types.specs.Commands.{command_of}
 use Rattle.smo_types.specs.declared.command.Body.{Body}
-use Rattle.command_spelling.specs.Reader.{is_text_byte}
 use Rattle.command_spelling.specs.Found.{Decoding, whole, bad_at, rest_at, Part, part, no_part}
 use Rattle.command_spelling.specs.Found.{more}
 use Rattle.command_codec.specs.declared.fault.CodecFault.{CodecFault}

@@ -10,7 +10,7 @@ use Rattle.std.proofs.Math.Facts.{sfits_to_z, to_z-of_z, of_z-to_z, Fits-of_z}
 use Rattle.std.proofs.lemmas.Bool.{leb-true, lt-ltb, le-leb}
 use Rattle.std.proofs.lemmas.List.Concat.{flat_map-cons}
 use Rattle.prima_base.specs.Bytes.{is_control, is_digit, is_name_byte, first_from, first_bad, IsTxt}
-use Rattle.prima_base.specs.Bytes.{IsName}
+use Rattle.prima_base.specs.Bytes.{is_text_byte, IsName}
 use Rattle.prima_base.specs.declared.value.ColType.{ColType}
 use Rattle.prima_base.specs.declared.value.ColType.TheVariants.{Int as IntType, Text as TextType}
 use Rattle.prima_base.specs.declared.value.Value.{Value}
@@ -23,7 +23,7 @@ use Rattle.command_spelling.specs.Spelling.{number, name_bytes, type_tag, value_
 use Rattle.command_spelling.specs.Spelling.{list_bytes}
 use Rattle.command_spelling.specs.Valid.{IsValue}
 use Rattle.command_spelling.specs.Reader.{up_to, is_name_start, is_name_length, name_text, name}
-use Rattle.command_spelling.specs.Reader.{is_text_byte, text, number_64, value_arm, value}
+use Rattle.command_spelling.specs.Reader.{text, number_64, value_arm, value}
 use Rattle.command_spelling.specs.Reader.{type_of_tag, column_type, sign_of_tag, sign}
 use Rattle.command_spelling.proofs.Correctness.{by_test, true_false, retold, pure_correct}
 use Rattle.command_spelling.proofs.Correctness.{mapped_correct, then_correct, byte_correct, Each}

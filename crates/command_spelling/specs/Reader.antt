@@ -3,7 +3,7 @@
 use Rattle.std.specs.Prelude.{ℕ, zero, suc, Bool, ◌==◌, ◌&&◌, not, nat_le, nat_lt, if◌then◌else◌}
 use Rattle.std.specs.Prelude.{List, ◌∷◌}
 use Rattle.std.specs.Int.{w64, cast_signed}
-use Rattle.prima_base.specs.Bytes.{is_control, is_digit, is_name_byte}
+use Rattle.prima_base.specs.Bytes.{is_text_byte, is_digit, is_name_byte}
 use Rattle.prima_base.specs.Columns.{Column}
 use Rattle.prima_base.specs.declared.value.ColType.{ColType}
 use Rattle.prima_base.specs.declared.value.ColType.TheVariants.{Int as IntType, Text as TextType}
@@ -33,9 +33,6 @@ up_to most x = nat_le x most
 -- a name's first byte is no digit
 abbrev pub is_name_start : ℕ → Bool
 is_name_start b = is_name_byte b && not (is_digit b)
-
-abbrev pub is_text_byte : ℕ → Bool
-is_text_byte b = not (is_control b)
 
 abbrev pub is_name_length : ℕ → Bool
 is_name_length n = nat_lt 0 n && nat_le n max_name

@@ -2,6 +2,7 @@
 use Rattle.std.specs.Prelude.{◌≡◌, ℕ, List, [], ◌∷◌, ◌++◌, Bool, true, false, ◌&&◌, Option, Some}
 use Rattle.std.specs.Prelude.{None, is_some, is_none, cond}
 use Rattle.std.proofs.Common.{refl, ap, ◌∙◌}
+use Rattle.std.specs.Option.{option_or}
 use Rattle.prima_base.specs.declared.value.ColType.{ColType}
 use Rattle.prima_base.specs.declared.value.ColType.TheVariants.{Int as INT, Text as TEXT}
 use Rattle.cond_expr.specs.declared.expr.ColRef.{ColRef}
@@ -10,15 +11,15 @@ use Rattle.cond_expr.specs.Trees.{no_trees, a_tree, Test, never, always, compare
 use Rattle.cond_expr.specs.Trees.{fails, Tests, no_tests, a_test}
 use Rattle.cond_expr.specs.Kinds.{Kinds, kind_of, all_text, is_typed, all_typed, is_text, same_kind}
 use Rattle.cond_expr.specs.Faults.{references, trees_references, test_references, tests_references}
-use Rattle.cond_expr.specs.Faults.{first_unknown, earlier}
+use Rattle.cond_expr.specs.Faults.{first_unknown}
 
-append_step : (b : Bool) (n : List ℕ) (x y z : Option (List ℕ)) → z ≡ earlier x y
-    → cond b (Some n) z ≡ earlier (cond b (Some n) x) y
+append_step : (b : Bool) (n : List ℕ) (x y z : Option (List ℕ)) → z ≡ option_or x y
+    → cond b (Some n) z ≡ option_or (cond b (Some n) x) y
 append_step true n x y z h = refl
 append_step false n x y z h = h
 
 pub unknown_append : (of : Kinds) (a b : List ColRef)
-    → first_unknown of (a ++ b) ≡ earlier (first_unknown of a) (first_unknown of b)
+    → first_unknown of (a ++ b) ≡ option_or (first_unknown of a) (first_unknown of b)
 unknown_append of [] b = refl
 unknown_append of (r ∷ a) b =
     append_step (is_none (of r.whose r.name)) r.name (first_unknown of a) (first_unknown of b)
@@ -27,7 +28,7 @@ unknown_append of (r ∷ a) b =
 none_twice : (of : Kinds) (a b : List ColRef) → first_unknown of a ≡ None
     → first_unknown of b ≡ None → first_unknown of (a ++ b) ≡ None
 none_twice of a b f g = unknown_append of a b
-    ∙ ap (λ (o : Option (List ℕ)). earlier o (first_unknown of b)) f ∙ g
+    ∙ ap (λ (o : Option (List ℕ)). option_or o (first_unknown of b)) f ∙ g
 
 some_text : (o : Option ColType) → is_text o ≡ true → is_some o ≡ true
 some_text None h = absurd (cc)

@@ -2,6 +2,7 @@
 use Rattle.std.proofs.Common.{◌≡◌, ℕ, ◌+◌, ◌<◌, length, map, drop, get_or, Bool, true, false, cond}
 use Rattle.std.proofs.Common.{List, [], ◌∷◌, ◌++◌, refl, sym, ap, ◌∙◌, arith, inl, inr}
 use Rattle.std.specs.Prelude.{◌&&◌, ◌==◌, ◌⊎◌, Option, Some, None}
+use Rattle.std.specs.Option.{option_or}
 use Rattle.std.proofs.lemmas.Bool.Decides.{nat_tests}
 use Rattle.std.proofs.lemmas.List.{drop_more}
 use Rattle.std.specs.declared.cmp.Ordering.{Ordering}
@@ -21,8 +22,7 @@ use Rattle.cond_expr.specs.Values.{Cells, value, truth, all_true, agrees}
 use Rattle.cond_expr.specs.Parts.{parts, all_parts}
 use Rattle.cond_expr.specs.Comparisons.{turned, same_way}
 use Rattle.cond_expr.proofs.ComparisonLaws.{same_way_is, agrees_turned}
-use Rattle.cond_expr.specs.PinnedParts.{is_column, constant_of, first_some, pinned_by, first_pinned}
-use Rattle.cond_expr.specs.PinnedParts.{pinned}
+use Rattle.cond_expr.specs.PinnedParts.{is_column, constant_of, pinned_by, first_pinned, pinned}
 
 -- ---- a tree that is a column, one that is a constant
 
@@ -54,7 +54,7 @@ taken true o v e = (refl, e)
 taken false o v e = absurd (cc)
 
 -- one of the two has it
-from_first : (a b : Option Value) (v : Value) → first_some a b ≡ Some v → (a ≡ Some v)
+from_first : (a b : Option Value) (v : Value) → option_or a b ≡ Some v → (a ≡ Some v)
     ⊎ (b ≡ Some v)
 from_first None b v e = inr e
 from_first (Some x) b v e = inl e
@@ -107,17 +107,17 @@ module _ (at : Cells) (c : Column) where
   part_holds o (fails d) v h e = absurd (cc)
 
 first_of_both : (o : CmpOp) (c : Column) (ts us : List Test)
-    → first_pinned o c (ts ++ us) ≡ first_some (first_pinned o c ts) (first_pinned o c us)
+    → first_pinned o c (ts ++ us) ≡ option_or (first_pinned o c ts) (first_pinned o c us)
 first_of_both o c [] us = refl
 first_of_both o c (t ∷ ts) us =
     elim (pinned_by o c t) as (λ (x : Option Value).
-    first_some x (first_pinned o c (ts ++ us))
-    ≡ first_some (first_some x (first_pinned o c ts)) (first_pinned o c us)) [
+    option_or x (first_pinned o c (ts ++ us))
+    ≡ option_or (option_or x (first_pinned o c ts)) (first_pinned o c us)) [
       | None ↦ first_of_both o c ts us
       | Some v ↦ refl
     ]
 
-one_some : (x : Option Value) → first_some x None ≡ x
+one_some : (x : Option Value) → option_or x None ≡ x
 one_some None = refl
 one_some (Some v) = refl
 
@@ -149,7 +149,7 @@ module _ (at : Cells) (o : CmpOp) (c : Column) where
 pub pinned_from : (o : CmpOp) (c : Column) (list : List Cond) (i : ℕ) (part : Cond)
     → i < length list → part ≡ get_or list i part
     → first_pinned o c (all_parts (tests_of (map test (drop i list))))
-    ≡ first_some (pinned o c (test part))
+    ≡ option_or (pinned o c (test part))
     (first_pinned o c (all_parts (tests_of (map test (drop (i + 1) list)))))
 pinned_from o c list i part h is =
     ap (λ (l : List Cond). first_pinned o c (all_parts (tests_of (map test l))))

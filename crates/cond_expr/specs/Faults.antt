@@ -39,11 +39,6 @@ abbrev pub first_unknown : Kinds → List ColRef → Option (List ℕ)
 first_unknown of [] = None
 first_unknown of (r ∷ rs) = cond (is_none (of r.whose r.name)) (Some r.name) (first_unknown of rs)
 
--- the earlier of two places
-abbrev pub earlier : Option (List ℕ) → Option (List ℕ) → Option (List ℕ)
-earlier None b = b
-earlier (Some a) b = Some a
-
 -- the node itself, where it is one of those that are sought
 abbrev pub if_so : Bool → ℕ → List ℕ
 if_so true at = at ∷ []

@@ -1,6 +1,7 @@
 -- The constants with which top-level parts of a condition compare a column. Nothing under OR or NOT
 -- is one.
 use Rattle.std.specs.Prelude.{List, [], ◌∷◌, Bool, false, cond, ◌&&◌, Option, Some, None}
+use Rattle.std.specs.Option.{option_or}
 use Rattle.prima_base.specs.declared.value.Value.{Value}
 use Rattle.cond_expr.specs.declared.expr.CmpOp.{CmpOp}
 use Rattle.cond_expr.specs.declared.expr.Column.{Column}
@@ -25,16 +26,11 @@ constant_of (length_of t) = None
 constant_of (joined ts) = None
 constant_of (choose d a b) = None
 
--- the first, or else the second
-abbrev pub first_some : Option Value → Option Value → Option Value
-first_some None other = other
-first_some (Some v) other = Some v
-
 -- the constant with which the part compares the column in this way; it may stand on either side
 abbrev pub pinned_by : CmpOp → Column → Test → Option Value
 pinned_by o c never = None
 pinned_by o c always = None
-pinned_by o c (compared p a b) = first_some (cond (same_way o p && is_column c a) (constant_of b)
+pinned_by o c (compared p a b) = option_or (cond (same_way o p && is_column c a) (constant_of b)
     None) (cond (same_way o (turned p) && is_column c b) (constant_of a) None)
 pinned_by o c (all_of cs) = None
 pinned_by o c (some_of cs) = None
@@ -42,7 +38,7 @@ pinned_by o c (fails d) = None
 
 abbrev pub first_pinned : CmpOp → Column → List Test → Option Value
 first_pinned o c [] = None
-first_pinned o c (t ∷ ts) = first_some (pinned_by o c t) (first_pinned o c ts)
+first_pinned o c (t ∷ ts) = option_or (pinned_by o c t) (first_pinned o c ts)
 
 -- that of the first top-level part that has one
 abbrev pub pinned : CmpOp → Column → Test → Option Value

@@ -17,10 +17,10 @@ use cond_expr::{ColRef, columns_at};
 use history_store::StoredTable;
 use joining::Atom;
 use prima_base::{Name, NoMemory, Period, Steps, TimedRow};
-use smo_schemas::columns_named;
 use std::alloc::Global;
 use std::collections::VecDeque;
 use std::sync::ledger::Ledger;
+use table_columns::columns_named;
 use version_groups::Groups;
 
 // The rows of stretches, in their periods.

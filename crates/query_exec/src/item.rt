@@ -27,9 +27,9 @@ use joining::Atom;
 use prima_base::{Name, NoMemory, Steps};
 use rule_book::{Rule, RuleBook};
 use schema_catalog::Schema;
-use smo_schemas::columns_named;
 use std::alloc::Global;
 use std::sync::ledger::Ledger;
+use table_columns::columns_named;
 use version_groups::Groups;
 
 // The columns of the table that are named, as those of an atom.

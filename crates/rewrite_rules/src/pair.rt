@@ -14,8 +14,8 @@ use cond_expr::{CmpOp, ColRef, Cond, Expr, Fill, Whose};
 use piece_ir::{View, append_parts, column_of};
 use prima_base::{ColType, Name, NoMemory};
 use schema_catalog::Schema;
-use smo_schemas::has_name;
 use std::alloc::Global;
+use table_columns::has_name;
 
 // The columns of the two tables of a JOIN.
 #[derive(Drop)]

@@ -1,6 +1,6 @@
 -- What a script is, by the lexer's blanks, comments and quotes: statements of whole parts.
-use Rattle.std.specs.Prelude.{◌≡◌, ℕ, ◌==◌, Bool, false, not, List, [], ◌∷◌, ◌++◌, Some, ◌⊎◌}
-use Rattle.prima_base.specs.Bytes.{is_control}
+use Rattle.std.specs.Prelude.{◌≡◌, ℕ, ◌==◌, Bool, false, List, [], ◌∷◌, ◌++◌, Some, ◌⊎◌}
+use Rattle.prima_base.specs.Bytes.{is_text_byte}
 use Rattle.lexical_grammar.specs.declared.token.Token.{Token}
 use Rattle.lexical_grammar.specs.declared.fault.LexFault.TheVariants.{OpenQuote}
 use Rattle.lexical_grammar.specs.Lexed.{Lexes}
@@ -47,9 +47,6 @@ IsScript script (s ∷ statements) tail = (rest : List ℕ) × (script ≡ s ++ 
 
 -- ---- texts of the lexer
 
-abbrev pub is_shown : ℕ → Bool
-is_shown b = not (is_control b)
-
 -- the bytes after an opening quote are a literal of the lexer
 abbrev pub IsClosed : List ℕ → Type 0
 IsClosed bytes = (value : List ℕ) × IsLiteral value bytes
@@ -57,7 +54,7 @@ IsClosed bytes = (value : List ℕ) × IsLiteral value bytes
 -- the same by what stands inside
 abbrev pub IsShownText : List ℕ → Type 0
 IsShownText bytes = (inside : List ℕ) × (bytes ≡ inside ++ 39 ∷ []) × IsInside inside
-    × Each is_shown inside
+    × Each is_text_byte inside
 
 -- the lexer finds a text that does not end
 abbrev pub IsOpenFault : List ℕ → Type 0

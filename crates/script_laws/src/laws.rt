@@ -1,11 +1,12 @@
 //! Laws of scripts. Each is proved and does nothing.
 
 ghost use Rattle.std.specs.Prelude.{◌≡◌, ◌↔◌, [], ◌∷◌, ◌++◌, List, ℕ, true};
+ghost use Rattle.prima_base.specs.Bytes.{is_text_byte};
 ghost use Rattle.lexical_grammar.specs.Spaced.{Each as EachByte, IsGap, IsOpen};
 ghost use Rattle.script_parse.specs.Script.{is_clean, statements_of, tail_of};
 ghost use Rattle.script_parse.specs.Joining.{Each};
 ghost use Rattle.script_laws.specs.Parts.{HasOpenText, IsClosed, IsInside, IsOpenFault, IsScript};
-ghost use Rattle.script_laws.specs.Parts.{IsShownText, is_shown};
+ghost use Rattle.script_laws.specs.Parts.{IsShownText};
 
 use lexer::tokens_are_spaced;
 use script_parse::{script_is_its_statements, statements_are_of_a_script};
@@ -36,7 +37,8 @@ pub fn a_statement_has_no_open_text()
 /// The texts of the lexer are those without a control byte, whether they end or not.
 pub fn texts_of_the_lexer_are_texts()
     ensures closed { (bytes : List ℕ) → IsClosed bytes ↔ IsShownText bytes }
-    ensures open { (bytes : List ℕ) → IsOpen bytes ↔ (IsInside bytes × EachByte is_shown bytes) }
+    ensures open { (bytes : List ℕ) → IsOpen bytes
+        ↔ (IsInside bytes × EachByte is_text_byte bytes) }
 {}
 
 /// A tail is clean just where it is a gap of the lexer: blanks and comments alone.

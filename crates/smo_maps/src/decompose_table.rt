@@ -7,8 +7,8 @@ ghost use Rattle.smo_meaning.specs.Making.{named, image};
 
 use crate::projection::projection;
 use prima_base::{ColType, Name, NoMemory, Row};
-use smo_schemas::columns_named;
 use std::alloc::Global;
+use table_columns::columns_named;
 
 /// The projection to the columns that are named.
 pub(crate) fn with_names(

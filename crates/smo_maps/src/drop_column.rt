@@ -6,8 +6,8 @@ ghost use Rattle.smo_meaning.specs.Making.{without, image};
 
 use crate::projection::projection;
 use prima_base::{ColType, Name, NoMemory, Row};
-use smo_schemas::columns_without;
 use std::alloc::Global;
+use table_columns::columns_without;
 
 /// The projection without a column.
 pub(crate) fn without_column(

@@ -21,9 +21,9 @@ use crate::source::{Source, picked_row, sources_of};
 use cond_expr::Cond;
 use prima_base::{ColType, Name, NoMemory, Row};
 use smo_ops::{OwnColumns, make_set};
-use smo_schemas::{columns_named, joined_columns};
 use std::alloc::Global;
 use std::collections::BTreeMap;
+use table_columns::{columns_named, joined_columns};
 
 // Puts the row after the others where it meets the condition.
 fn push_where(met: bool, row: Row, made: &mut Vec<Row>) -> Result<(), NoMemory>

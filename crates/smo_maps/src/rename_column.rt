@@ -10,8 +10,8 @@ use crate::name::names_of;
 use crate::projection::image;
 use crate::source::{Source, source_of};
 use prima_base::{ColType, Name, NoMemory, Row, same_name};
-use smo_schemas::columns_renamed;
 use std::alloc::Global;
+use table_columns::columns_renamed;
 
 // The name that the column had.
 fn old_name<'a>(name: &'a Name, column: &'a Name, into: &Name) -> &'a Name

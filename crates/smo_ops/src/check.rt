@@ -29,9 +29,9 @@ use cond_expr::{Cond, Expr};
 use expr_typing::value_kind;
 use prima_base::{ColType, Name, NoMemory, Refusal, Value};
 use schema_catalog::Schema;
-use smo_schemas::{OwnColumns, has_name, type_in};
 use smo_types::{Change, ChangeFault};
 use std::alloc::Global;
+use table_columns::{OwnColumns, has_name, type_in};
 
 /// What checking an accepted change finds: where its table stands in the schema, from 0 in the
 /// order of names, and the number of the node after the change.

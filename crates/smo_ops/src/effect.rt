@@ -18,8 +18,8 @@ ghost use Rattle.schema_catalog.specs.Databases.{cell};
 
 use cond_expr::{Column, Cond, Expr, eval, holds};
 use prima_base::{ColType, Name, NoMemory, Row, Val, Value};
-use smo_schemas::OwnColumns;
 use std::alloc::Global;
+use table_columns::OwnColumns;
 
 /// The relation that the rows stand for: each row once, ascending. It takes no memory.
 pub fn make_set(rows: &mut Vec<Row>)

@@ -32,12 +32,13 @@ pub use smo_meaning::{
     rename_column_keeps_the_cells, rename_keeps_the_rows, valid_values_stay,
 };
 pub use smo_schemas::{
-    Made, OwnColumns, after, check_inverse, check_way_back, consumed, made, made_of,
-    operator_refusal, schema_after,
+    Made, after, check_inverse, check_way_back, consumed, made, made_of, operator_refusal,
+    schema_after,
 };
 pub use smo_types::{
     Body, Change, ChangeFault, Command, InverseFault, Op, OpFault, Version, Versions,
 };
+pub use table_columns::OwnColumns;
 pub use version::begins_at;
 pub use version_ways::{
     a_lost_table_may_be_taken_for_an_empty_one, copied_and_dropped_is_as_before,

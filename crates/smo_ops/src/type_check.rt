@@ -12,8 +12,8 @@ ghost use Rattle.smo_ops.specs.Walks.{IsWalked};
 use cond_expr::{Cond, Expr};
 use expr_typing::{typed_cond, typed_expr, unknown_of_cond, unknown_of_expr};
 use prima_base::{Name, Refusal};
-use smo_schemas::{OwnColumns, type_in};
 use smo_types::ChangeFault;
+use table_columns::{OwnColumns, type_in};
 
 // The first reference of an expression to no column of the table.
 fn check_references(own: &OwnColumns<'_>, expr: &Expr) -> Result<(), ChangeFault>

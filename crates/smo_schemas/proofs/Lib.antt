@@ -1,9 +1,8 @@
 pub mod TestSteps
 pub mod GroupedTests
 pub mod AfterLaws
-pub mod LeftColumns
-pub mod PairedColumns
 pub mod NameListLaws
-pub mod MakingLaws
+pub mod PartTests
+pub mod MadeTables
 pub mod InverseNumbers
 pub mod OneOfNames

@@ -13,7 +13,7 @@ ghost use Rattle.prima_base.specs.Faults.{IsTested};
 use crate::QueryFault;
 use prima_base::{Name, Refusal, same_name};
 use schema_catalog::Schema;
-use smo_schemas::has_name;
+use table_columns::has_name;
 
 /// Whether the table has the column; false where there is no such table.
 pub(crate) fn has_column(schema: &Schema, table: &Name, name: &Name) -> bool

@@ -6,11 +6,11 @@ ghost use Rattle.smo_meaning.specs.Preconditions.{is_there, is_free, differ, few
 ghost use Rattle.smo_meaning.specs.Preconditions.{each_known, is_new, another_column};
 ghost use Rattle.prima_base.specs.Faults.{IsTested};
 
-use crate::column::has_name;
 use prima_base::limits::MAX_TABLES;
 use prima_base::{ColType, Name, OpRefusal, What, same_name};
 use schema_catalog::Schema;
 use smo_types::OpFault;
+use table_columns::has_name;
 
 // The columns of the table of this name.
 pub(crate) fn columns_there<'a>(

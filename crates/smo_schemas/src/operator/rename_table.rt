@@ -2,7 +2,7 @@
 ghost use Rattle.smo_types.specs.Operators.{rename_table};
 ghost use Rattle.smo_meaning.specs.After.{IsAfter};
 
-use crate::made_column::with_table;
+use crate::made_schema::with_table;
 use crate::operator::precondition::{check_differ, check_free, columns_there};
 use prima_base::{Name, same_name};
 use schema_catalog::Schema;

@@ -1,0 +1,4 @@
+pub mod LeftColumns
+pub mod PairedColumns
+pub mod NameListLaws
+pub mod MakingLaws
