@@ -8,12 +8,12 @@ ghost use Rattle.prima_io.specs.Moves.{AppendsPrefix, AppendsLess};
 ghost use Rattle.piece_texts.specs.ExplainedPieces.{explained_of, all_explained};
 ghost use Rattle.piece_texts.specs.PieceTexts.{piece_text};
 ghost use Rattle.answer_text.specs.Causes.{HasStopCause};
-ghost use Rattle.answer_text.specs.declared.stop.Stop.TheVariants as stop;
+ghost use Rattle.answer_text.specs.declared.stop.PutStop.TheVariants as stop;
 ghost use Rattle.answer_text.specs.Texts.{piece_head, explained_text, explain_text};
 
-use crate::line::Line;
+use crate::line::ReplyLine;
 use crate::made_reply::{add_count, put_lines};
-use crate::stop::Stop;
+use crate::stop::PutStop;
 use piece_texts::{Explained, piece_text};
 use prima_base::NoMemory;
 use prima_io::Sink;
@@ -22,10 +22,10 @@ use std::alloc::Global;
 
 // What stands before the text of a piece.
 #[tactic(auto, unfolding(crate::specs::Texts::piece_head))]
-fn head_line(explained: &Explained) -> Line
+fn head_line(explained: &Explained) -> ReplyLine
     ensures { result ≡ piece_head (explained_of explained.now) }
 {
-    let mut line = Line::new();
+    let mut line = ReplyLine::new();
     line.add(b"piece ");
     line.add_number(explained.period.start());
     line.add(b" ");
@@ -77,7 +77,11 @@ pub fn explain_text(alloc: Global, list: &[Explained]) -> Result<Vec<u8>, NoMemo
 
 /// Puts the lines of `explain_text`. A failing sink's count has risen; a prefix of the lines, and
 /// not all of them, was then put. Where memory ran out nothing was put.
-pub fn put_explained<K: Sink>(alloc: Global, sink: &mut K, list: &[Explained]) -> Result<(), Stop>
+pub fn put_explained<K: Sink>(
+    alloc: Global,
+    sink: &mut K,
+    list: &[Explained],
+) -> Result<(), PutStop>
     ensures all { OnOk result (Appends (K.written sink.old) (K.written sink.new)
         (explain_text (all_explained list.now))) }
     ensures part { OnErr result (AppendsPrefix (K.written sink.old) (K.written sink.new)

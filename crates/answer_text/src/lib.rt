@@ -23,5 +23,5 @@ pub use piece_texts::Explained;
 pub use refusal::put_refusal;
 pub use reply::{put_changed, put_checkpoint, put_evolved, put_not_a_journal, put_wrong_words};
 pub use schema::put_schema;
-pub use stop::Stop;
+pub use stop::PutStop;
 pub use version::put_versions;

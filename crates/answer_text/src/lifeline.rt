@@ -6,12 +6,12 @@ ghost use Rattle.prima_io.specs.Causes.{HasCause};
 ghost use Rattle.prima_io.specs.Moves.{AppendsLess};
 ghost use Rattle.answer_text.specs.Texts.{size_text, count_text};
 
-use crate::line::Line;
+use crate::line::ReplyLine;
 use prima_base::Name;
 use prima_io::{Failed, Sink};
 
 // Adds a space and a number, for which there is room.
-fn add_spaced(line: &mut Line, number: u64)
+fn add_spaced(line: &mut ReplyLine, number: u64)
     requires { length line.old + 21 ≤ 4096 }
     ensures added { line.new ≡ line.old ++ (codes " " ++ decimal number) }
     ensures short { length line.new ≤ length line.old + 21 }
@@ -22,10 +22,10 @@ fn add_spaced(line: &mut Line, number: u64)
 
 // The line of a lifeline.
 #[tactic(auto, unfolding(crate::specs::Texts::size_text))]
-fn size_line(table: &Name, first: u32, last: u32, keys: u64, cells: u64) -> Line
+fn size_line(table: &Name, first: u32, last: u32, keys: u64, cells: u64) -> ReplyLine
     ensures { result ≡ size_text table.now first last keys cells }
 {
-    let mut line = Line::new();
+    let mut line = ReplyLine::new();
     line.add(b"size ");
     line.add(table.bytes());
     add_spaced(&mut line, u64::from(first));
@@ -59,11 +59,12 @@ pub fn put_size<K: Sink>(
 
 /// Puts the line after those of all lifelines, which are so many. It takes no memory.
 pub fn put_count<K: Sink>(sink: &mut K, count: u64) -> Result<(), Failed>
-    ensures all { OnOk result (Appends (K.written sink.old) (K.written sink.new) (count_text count)) }
+    ensures all { OnOk result (Appends (K.written sink.old) (K.written sink.new)
+        (count_text count)) }
     ensures part { OnErr result (AppendsLess (K.written sink.old) (K.written sink.new)
         (count_text count)) }
     ensures cause { HasCause (K.faults sink.old) (K.faults sink.new) result }
 {
-    let mut line = Line::counting(count);
+    let mut line = ReplyLine::counting(count);
     line.flush(sink)
 }

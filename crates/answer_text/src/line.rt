@@ -19,12 +19,12 @@ pub(crate) const ROOM: usize = 4096;
 /// Bytes of replies that are gathered on the stack, so that a sink is called once for some 4 KB and
 /// not for each piece. A contract sees the bytes that it holds.
 #[derive(Drop)]
-pub(crate) struct Line {
+pub(crate) struct ReplyLine {
     bytes: [u8; ROOM],
     len: usize,
 }
 
-impl Model for Line {
+impl Model for ReplyLine {
     ghost use Rattle.std.specs.Prelude.{ℕ, List, take, ◌≤◌};
 
     ghost Value = { List ℕ };
@@ -34,12 +34,12 @@ impl Model for Line {
     ghost invariant = { λ l. l.len ≤ 4096 };
 }
 
-impl Line {
+impl ReplyLine {
     /// A line that holds nothing.
-    pub(crate) fn new() -> Line
+    pub(crate) fn new() -> ReplyLine
         ensures { result ≡ [] }
     {
-        Line {
+        ReplyLine {
             bytes: [0; ROOM],
             len: 0,
         }
@@ -78,11 +78,11 @@ impl Line {
     }
 
     /// The line that counts the lines before it.
-    pub(crate) fn counting(count: u64) -> Line
+    pub(crate) fn counting(count: u64) -> ReplyLine
         ensures text { result ≡ count_text count }
         ensures short { length result ≤ 30 }
     {
-        let mut line = Line::new();
+        let mut line = ReplyLine::new();
         line.add(b"end ");
         line.add_number(count);
         line.add(b"\n");
@@ -108,7 +108,8 @@ impl Line {
     pub(crate) fn flush<K: Sink>(&mut self, sink: &mut K) -> Result<(), Failed>
         ensures emptied { self.new ≡ [] }
         ensures all { OnOk result (Appends (K.written sink.old) (K.written sink.new) self.old) }
-        ensures part { OnErr result (AppendsLess (K.written sink.old) (K.written sink.new) self.old) }
+        ensures part { OnErr result (AppendsLess (K.written sink.old)
+            (K.written sink.new) self.old) }
         ensures cause { HasCause (K.faults sink.old) (K.faults sink.new) result }
     {
         let done = put_all(sink, &self.bytes[..self.len]);
@@ -123,7 +124,8 @@ impl Line {
         ensures all { OnOk result (Gathers (K.written sink.old) self.old (K.written sink.new)
             self.new []) }
         ensures room { OnOk result (length self.new + room ≤ 4096) }
-        ensures part { OnErr result (AppendsLess (K.written sink.old) (K.written sink.new) self.old) }
+        ensures part { OnErr result (AppendsLess (K.written sink.old)
+            (K.written sink.new) self.old) }
         ensures emptied { OnErr result (self.new ≡ []) }
         ensures cause { HasCause (K.faults sink.old) (K.faults sink.new) result }
     {

@@ -13,7 +13,7 @@ ghost use Rattle.smo_parse.specs.TreeTexts.{doubled, value_text};
 ghost use Rattle.answer_text.specs.Texts.{values_text, head_text, row_text, count_text};
 ghost use Rattle.answer_text.specs.Texts.{listing_text};
 
-use crate::line::Line;
+use crate::line::ReplyLine;
 use itoa::Buffer;
 use prima_base::{Period, TimedRow, Val};
 use prima_io::{Failed, Sink};
@@ -48,14 +48,14 @@ fn put_rows<K: Sink>(sink: &mut K, rows: &[TimedRow<'_>], told: bool) -> Result<
         (listing_text told (entries_of rows.now))) }
     ensures cause { HasCause (K.faults sink.old) (K.faults sink.new) result }
 {
-    let mut line = Line::new();
+    let mut line = ReplyLine::new();
     push_rows(&mut line, sink, rows, told)?;
     push_count(&mut line, sink, rows.len() as u64)?;
     line.flush(sink)
 }
 
 fn push_rows<K: Sink>(
-    line: &mut Line,
+    line: &mut ReplyLine,
     sink: &mut K,
     rows: &[TimedRow<'_>],
     told: bool,
@@ -72,20 +72,20 @@ fn push_rows<K: Sink>(
     Ok(())
 }
 
-fn push_count<K: Sink>(line: &mut Line, sink: &mut K, count: u64) -> Result<(), Failed>
+fn push_count<K: Sink>(line: &mut ReplyLine, sink: &mut K, count: u64) -> Result<(), Failed>
     ensures all { OnOk result (Gathers (K.written sink.old) line.old (K.written sink.new) line.new
         (count_text count)) }
     ensures part { OnErr result (AppendsLess (K.written sink.old) (K.written sink.new) line.old) }
     ensures cause { HasCause (K.faults sink.old) (K.faults sink.new) result }
 {
     line.make_room(sink, 30)?;
-    let text = Line::counting(count);
+    let text = ReplyLine::counting(count);
     line.add(text.held());
     Ok(())
 }
 
 fn push_row<K: Sink>(
-    line: &mut Line,
+    line: &mut ReplyLine,
     sink: &mut K,
     row: &TimedRow<'_>,
     told: bool,
@@ -103,7 +103,7 @@ fn push_row<K: Sink>(
 
 // The head of a row's line.
 fn push_head<K: Sink>(
-    line: &mut Line,
+    line: &mut ReplyLine,
     sink: &mut K,
     period: Period,
     told: bool,
@@ -118,7 +118,7 @@ fn push_head<K: Sink>(
     Ok(())
 }
 
-fn add_head(line: &mut Line, period: Period, told: bool)
+fn add_head(line: &mut ReplyLine, period: Period, told: bool)
     requires { length line.old + 50 ≤ 4096 }
     ensures { line.new ≡ line.old ++ head_text told period.start period.end }
 {
@@ -131,7 +131,11 @@ fn add_head(line: &mut Line, period: Period, told: bool)
     }
 }
 
-fn push_values<K: Sink>(line: &mut Line, sink: &mut K, values: &[Val<'_>]) -> Result<(), Failed>
+fn push_values<K: Sink>(
+    line: &mut ReplyLine,
+    sink: &mut K,
+    values: &[Val<'_>],
+) -> Result<(), Failed>
     ensures all { OnOk result (Gathers (K.written sink.old) line.old (K.written sink.new) line.new
         (values_text (map shown values.now))) }
     ensures part { OnErr result (AppendsLess (K.written sink.old) (K.written sink.new)
@@ -145,7 +149,7 @@ fn push_values<K: Sink>(line: &mut Line, sink: &mut K, values: &[Val<'_>]) -> Re
 }
 
 // A space and the value.
-fn push_value<K: Sink>(line: &mut Line, sink: &mut K, value: &Val<'_>) -> Result<(), Failed>
+fn push_value<K: Sink>(line: &mut ReplyLine, sink: &mut K, value: &Val<'_>) -> Result<(), Failed>
     ensures all { OnOk result (Gathers (K.written sink.old) line.old (K.written sink.new) line.new
         (codes " " ++ value_text (shown value.now))) }
     ensures part { OnErr result (AppendsLess (K.written sink.old) (K.written sink.new)
@@ -159,7 +163,7 @@ fn push_value<K: Sink>(line: &mut Line, sink: &mut K, value: &Val<'_>) -> Result
     }
 }
 
-fn push_int<K: Sink>(line: &mut Line, sink: &mut K, n: i64) -> Result<(), Failed>
+fn push_int<K: Sink>(line: &mut ReplyLine, sink: &mut K, n: i64) -> Result<(), Failed>
     ensures all { OnOk result (Gathers (K.written sink.old) line.old (K.written sink.new) line.new
         (codes " " ++ signed_decimal n)) }
     ensures part { OnErr result (AppendsLess (K.written sink.old) (K.written sink.new)
@@ -172,7 +176,7 @@ fn push_int<K: Sink>(line: &mut Line, sink: &mut K, n: i64) -> Result<(), Failed
     Ok(())
 }
 
-fn push_text<K: Sink>(line: &mut Line, sink: &mut K, bytes: &[u8]) -> Result<(), Failed>
+fn push_text<K: Sink>(line: &mut ReplyLine, sink: &mut K, bytes: &[u8]) -> Result<(), Failed>
     ensures all { OnOk result (Gathers (K.written sink.old) line.old (K.written sink.new) line.new
         (codes " '" ++ doubled bytes.now ++ codes "'")) }
     ensures part { OnErr result (AppendsLess (K.written sink.old) (K.written sink.new)
@@ -185,7 +189,7 @@ fn push_text<K: Sink>(line: &mut Line, sink: &mut K, bytes: &[u8]) -> Result<(),
 }
 
 // Each piece that is pushed ends with a quote, and the next begins with the same quote once more.
-fn push_pieces<K: Sink>(line: &mut Line, sink: &mut K, bytes: &[u8]) -> Result<(), Failed>
+fn push_pieces<K: Sink>(line: &mut ReplyLine, sink: &mut K, bytes: &[u8]) -> Result<(), Failed>
     ensures all { OnOk result (Gathers (K.written sink.old) line.old (K.written sink.new) line.new
         (doubled bytes.now)) }
     ensures part { OnErr result (AppendsLess (K.written sink.old) (K.written sink.new)
@@ -204,7 +208,7 @@ fn push_pieces<K: Sink>(line: &mut Line, sink: &mut K, bytes: &[u8]) -> Result<(
 
 // The text with its quotes doubled. Most texts have none: these are looked through many bytes at a
 // time, and pushed whole.
-fn push_doubled<K: Sink>(line: &mut Line, sink: &mut K, bytes: &[u8]) -> Result<(), Failed>
+fn push_doubled<K: Sink>(line: &mut ReplyLine, sink: &mut K, bytes: &[u8]) -> Result<(), Failed>
     ensures all { OnOk result (Gathers (K.written sink.old) line.old (K.written sink.new) line.new
         (doubled bytes.now)) }
     ensures part { OnErr result (AppendsLess (K.written sink.old) (K.written sink.new)

@@ -9,7 +9,7 @@ ghost use Rattle.answer_text.specs.RefusalTexts.{kept_text, what_word, kind_word
 ghost use Rattle.answer_text.specs.RefusalTexts.{op_kept, number_of, kept_of, refusal_text};
 ghost use Rattle.answer_text.specs.KeptValues.{value_text};
 
-use crate::line::Line;
+use crate::line::ReplyLine;
 use prima_base::{Name, OpKind, OpRefusal, Refusal, What};
 use prima_io::{Failed, Sink};
 
@@ -188,7 +188,7 @@ fn values_of<'a>(refusal: &'a Refusal) -> (Kept<'a>, Kept<'a>, Kept<'a>, Kept<'a
 }
 
 // Adds a space and a word, for which there is room.
-fn add_word(line: &mut Line, word: &[u8])
+fn add_word(line: &mut ReplyLine, word: &[u8])
     requires short { length word.now ≤ 63 }
     requires room { length line.old + 64 ≤ 4096 }
     ensures added { line.new ≡ line.old ++ (codes " " ++ word.now) }
@@ -199,7 +199,7 @@ fn add_word(line: &mut Line, word: &[u8])
 }
 
 // Adds a space and the value, for which there is room.
-fn add_kept(line: &mut Line, kept: Kept<'_>)
+fn add_kept(line: &mut ReplyLine, kept: Kept<'_>)
     requires room { length line.old + 64 ≤ 4096 }
     ensures added { line.new ≡ line.old ++ value_text kept.entry }
     ensures short { length line.new ≤ length line.old + 64 }
@@ -218,10 +218,10 @@ fn add_kept(line: &mut Line, kept: Kept<'_>)
 
 // The line of a refusal.
 #[tactic(auto, unfolding(crate::specs::RefusalTexts::refusal_text))]
-fn refusal_line(refusal: &Refusal) -> Line
+fn refusal_line(refusal: &Refusal) -> ReplyLine
     ensures { result ≡ refusal_text refusal.now }
 {
-    let mut line = Line::new();
+    let mut line = ReplyLine::new();
     line.add(b"error ");
     line.add_number(number_of(refusal));
     let (first, second, third, fourth) = values_of(refusal);

@@ -8,14 +8,14 @@ ghost use Rattle.prima_io.specs.Moves.{AppendsLess};
 ghost use Rattle.answer_text.specs.Texts.{changed_text, checkpoint_text, evolved_text};
 ghost use Rattle.answer_text.specs.Texts.{not_a_journal_text, wrong_words_text};
 
-use crate::line::Line;
+use crate::line::ReplyLine;
 use prima_io::{Failed, Sink, put_all};
 
 #[tactic(auto, unfolding(crate::specs::Texts::changed_text))]
-fn changed_line(stamp: u64, gained: u64, lost: u64) -> Line
+fn changed_line(stamp: u64, gained: u64, lost: u64) -> ReplyLine
     ensures { result ≡ changed_text stamp gained lost }
 {
-    let mut line = Line::new();
+    let mut line = ReplyLine::new();
     line.add(b"ok ");
     line.add_number(stamp);
     line.add(b" +");
@@ -27,10 +27,10 @@ fn changed_line(stamp: u64, gained: u64, lost: u64) -> Line
 }
 
 #[tactic(auto, unfolding(crate::specs::Texts::evolved_text))]
-fn evolved_line(stamp: u64, version: u32) -> Line
+fn evolved_line(stamp: u64, version: u32) -> ReplyLine
     ensures { result ≡ evolved_text stamp version }
 {
-    let mut line = Line::new();
+    let mut line = ReplyLine::new();
     line.add(b"ok ");
     line.add_number(stamp);
     line.add(b" version ");
@@ -88,10 +88,10 @@ pub fn put_wrong_words<K: Sink>(sink: &mut K) -> Result<(), Failed>
 }
 
 #[tactic(auto, unfolding(crate::specs::Texts::not_a_journal_text))]
-fn not_a_journal_line(place: u64) -> Line
+fn not_a_journal_line(place: u64) -> ReplyLine
     ensures { result ≡ not_a_journal_text place }
 {
-    let mut line = Line::new();
+    let mut line = ReplyLine::new();
     line.add(b"fault 6 ");
     line.add_number(place);
     line.add(b"\n");

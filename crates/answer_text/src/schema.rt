@@ -5,11 +5,11 @@ ghost use Rattle.std.specs.FinMap.{entries};
 ghost use Rattle.std.specs.Io.KnownBytes.{Appends};
 ghost use Rattle.prima_io.specs.Moves.{AppendsPrefix, AppendsLess};
 ghost use Rattle.answer_text.specs.Causes.{HasStopCause};
-ghost use Rattle.answer_text.specs.declared.stop.Stop.TheVariants as stop;
+ghost use Rattle.answer_text.specs.declared.stop.PutStop.TheVariants as stop;
 ghost use Rattle.answer_text.specs.Texts.{table_text, tables_text, schema_text};
 
 use crate::made_reply::{add_count, put_lines};
-use crate::stop::Stop;
+use crate::stop::PutStop;
 use prima_base::NoMemory;
 use prima_io::Sink;
 use schema_catalog::{Schema, Table};
@@ -50,7 +50,7 @@ fn schema_lines(alloc: Global, schema: &Schema) -> Result<Vec<u8>, NoMemory>
 /// Puts a line for each table of the schema, in the order of names, and then how many they are. A
 /// failing sink's count has risen; a prefix of the lines, and not all of them, was then put. Where
 /// memory ran out nothing was put.
-pub fn put_schema<K: Sink>(alloc: Global, sink: &mut K, schema: &Schema) -> Result<(), Stop>
+pub fn put_schema<K: Sink>(alloc: Global, sink: &mut K, schema: &Schema) -> Result<(), PutStop>
     ensures all { OnOk result (Appends (K.written sink.old) (K.written sink.new)
         (schema_text schema.now)) }
     ensures part { OnErr result (AppendsPrefix (K.written sink.old) (K.written sink.new)

@@ -2,7 +2,7 @@
 
 /// Why a reply was not put whole: the sink failed, or memory ran out.
 #[derive(Clone, Copy, PartialEq, Eq)]
-pub enum Stop {
+pub enum PutStop {
     WriteFault,
     NoMemory,
 }

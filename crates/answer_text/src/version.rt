@@ -8,14 +8,14 @@ ghost use Rattle.smo_types.specs.Operators.{operator_of, operators_of};
 ghost use Rattle.smo_types.specs.Commands.{version_of};
 ghost use Rattle.smo_parse.specs.Texts.{operator_text};
 ghost use Rattle.answer_text.specs.Causes.{HasStopCause};
-ghost use Rattle.answer_text.specs.declared.stop.Stop.TheVariants as stop;
+ghost use Rattle.answer_text.specs.declared.stop.PutStop.TheVariants as stop;
 ghost use Rattle.answer_text.specs.Texts.{more_operators, inverse_text, version_head};
 ghost use Rattle.answer_text.specs.Texts.{first_version_text, version_text, version_texts};
 ghost use Rattle.answer_text.specs.Texts.{versions_text};
 
-use crate::line::Line;
+use crate::line::ReplyLine;
 use crate::made_reply::{add_count, put_lines};
-use crate::stop::Stop;
+use crate::stop::PutStop;
 use prima_base::NoMemory;
 use prima_io::Sink;
 use smo_ops::{Op, Version, begins_at};
@@ -34,7 +34,8 @@ fn add_operator(alloc: Global, line: &mut Vec<u8>, word: &[u8], op: &Op) -> Resu
 
 // Operators, each after THEN.
 fn add_more_operators(alloc: Global, line: &mut Vec<u8>, ops: &[Op]) -> Result<(), NoMemory>
-    ensures { OnOk result (line.new.items ≡ line.old.items ++ more_operators (operators_of ops.now)) }
+    ensures { OnOk result (line.new.items ≡ line.old.items
+        ++ more_operators (operators_of ops.now)) }
 {
     match ops {
         [] => Ok(()),
@@ -61,10 +62,10 @@ fn add_inverse(alloc: Global, line: &mut Vec<u8>, inverse: &[Op]) -> Result<(), 
 
 // The number of a version, and the moments from which and up to which it is in force.
 #[tactic(auto, unfolding(crate::specs::Texts::version_head))]
-fn head_line(number: u64, start: u64, end: u64) -> Line
+fn head_line(number: u64, start: u64, end: u64) -> ReplyLine
     ensures { result ≡ version_head number start end }
 {
-    let mut line = Line::new();
+    let mut line = ReplyLine::new();
     line.add(b"version ");
     line.add_number(number);
     line.add(b" ");
@@ -141,7 +142,11 @@ fn version_lines(alloc: Global, versions: &[Version]) -> Result<Vec<u8>, NoMemor
 /// Puts a line for each version, version 0 first, and then how many they are. A failing sink's
 /// count has risen; a prefix of the lines, and not all of them, was then put. Where memory ran out
 /// nothing was put.
-pub fn put_versions<K: Sink>(alloc: Global, sink: &mut K, versions: &[Version]) -> Result<(), Stop>
+pub fn put_versions<K: Sink>(
+    alloc: Global,
+    sink: &mut K,
+    versions: &[Version],
+) -> Result<(), PutStop>
     ensures all { OnOk result (Appends (K.written sink.old) (K.written sink.new)
         (versions_text (map version_of versions.now))) }
     ensures part { OnErr result (AppendsPrefix (K.written sink.old) (K.written sink.new)

@@ -14,7 +14,7 @@ pub record IsCounted (log : List LogRecord) (opened : Opened) : Type 0 where
   pub replayed : opened.replayed ≡ replayed_of log
 
 -- these are records of commands and images, of which each command after the last image is accepted
--- after what stands before it; and the archive shows their past
+-- after what stands before it; and the archive represents their past
 pub record IsRestored (records : List Record) (archive : ArchiveContent) (opened : Opened) :
     Type 0 where
   pub log : List LogRecord
@@ -24,7 +24,7 @@ pub record IsRestored (records : List Record) (archive : ArchiveContent) (opened
   pub represents : RepresentsPast archive (past_recorded log)
   pub counted : IsCounted log opened
 
--- the file opens as records; the archive shows just their past, the gate after them is at this
+-- the file opens as records; the archive represents just their past, the gate after them is at this
 -- place, and their commands are counted
 pub record IsMounted (file : List ℕ) (archive : ArchiveContent) (at : ℕ) (opened : Opened) :
     Type 0 where

@@ -149,8 +149,8 @@ impl<D: Disk> Archive<D> {
     /// the limit. `Disk` comes only where the disk's count of faults rose: the file then has the
     /// record or not. All memory is taken before the first call of the device. At each moment of
     /// the call a crash leaves the records before, with the command's or without; after `Ok` every
-    /// crash leaves it. After `Ok` the archive represents the past with the command, and else for
-    /// the past that it stood for.
+    /// crash leaves it. After `Ok` the archive represents the past with the command, and else the
+    /// past that it represented.
     pub fn commit(&mut self, command: Command) -> Result<Done, CommitFault>
         requires ready { IsReady self.old }
         ensures broken { (result ≡ Err fault.Broken) ↔ (is_broken self.old ≡ true) }

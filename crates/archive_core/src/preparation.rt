@@ -15,7 +15,7 @@ ghost use Rattle.archive_core.specs.Checkpointing.{checkpoint_of};
 ghost use Rattle.store_image.specs.ImageIn.{GroupsHold};
 
 use crate::CommitFault;
-use archive_state::{AcceptedCommand, ArchiveState, CommitFault as StateFault};
+use archive_state::{AcceptedCommand, ArchiveState, CommandFault};
 use command_codec::{encode_changes, encode_operator};
 use command_spelling::accepted_commands_can_be_written;
 use journal::{CHECKPOINT, COMMAND, Sealed};
@@ -71,8 +71,8 @@ pub(crate) fn judge_and_seal(
             let sealed = seal(alloc, &accepted)?;
             Ok((accepted, sealed))
         }
-        Err(StateFault::Refused(refusal)) => Err(CommitFault::Refused(refusal)),
-        Err(StateFault::NoMemory) => Err(CommitFault::NoMemory),
+        Err(CommandFault::Refused(refusal)) => Err(CommitFault::Refused(refusal)),
+        Err(CommandFault::NoMemory) => Err(CommitFault::NoMemory),
     }
 }
 

@@ -15,7 +15,7 @@ ghost use Rattle.archive_core.specs.declared.fault.MountFault.TheVariants as mou
 use crate::MountFault;
 use crate::archive::Opened;
 use crate::record_reader::read_all;
-use archive_state::{ArchiveState, CommitFault};
+use archive_state::{ArchiveState, CommandFault};
 use journal::Rec;
 use prima_base::Steps;
 use smo_types::Command;
@@ -30,8 +30,8 @@ fn replay_command(state: &mut ArchiveState, command: Command, at: u64) -> Result
 {
     match state.commit(command) {
         Ok(_done) => Ok(()),
-        Err(CommitFault::Refused(_refusal)) => Err(MountFault::Damaged(at)),
-        Err(CommitFault::NoMemory) => Err(MountFault::NoMemory),
+        Err(CommandFault::Refused(_refusal)) => Err(MountFault::Damaged(at)),
+        Err(CommandFault::NoMemory) => Err(MountFault::NoMemory),
     }
 }
 

@@ -17,10 +17,10 @@ last_after : (past : Past) (stamp : ℕ) (body : PlainBody)
 last_after past stamp (changing changes) = refl
 last_after past stamp (evolving op inverse) = refl
 
-pub shows_next : (kept : Kept) (past : Past) (command : PlainCommand) (last : Option ℕ)
+pub represents_next : (kept : Kept) (past : Past) (command : PlainCommand) (last : Option ℕ)
     → Represents kept (past_with past command) → last ≡ Some command.stamp
     → RepresentsPast (record { groups = kept; last = last }) (past_with past command)
-shows_next kept past command last represents e = record {
+represents_next kept past command last represents e = record {
   groups = represents;
   last = e
       ∙ sym (last_after past command.stamp command.body);
@@ -36,7 +36,7 @@ newest_next kept past n represents e = e ∙ sym (length-map kept.versions versi
 pub version_is : (kept : Kept) (past : Past) (stamp : ℕ) (body : PlainBody) (step : Step) (n : ℕ)
     → IsStep kept past stamp body (step_of step)
     → (if makes_version step then Some n else None) ≡ version_made body n
-version_is kept past stamp (changing changes) (Changed plans) n is = refl
+version_is kept past stamp (changing changes) (Changed prepared) n is = refl
 version_is kept past stamp (changing changes) (Evolved version begun places) n is = absurd is
-version_is kept past stamp (evolving op inverse) (Changed plans) n is = absurd is
+version_is kept past stamp (evolving op inverse) (Changed prepared) n is = absurd is
 version_is kept past stamp (evolving op inverse) (Evolved version begun places) n is = refl

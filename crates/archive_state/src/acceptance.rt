@@ -22,7 +22,7 @@ ghost use Rattle.version_groups.specs.Steps.{a_command};
 ghost use Rattle.archive_state.specs.AcceptedCommands.{accepted_command, HasFound};
 ghost use Rattle.archive_state.specs.AcceptedCommands.{IsAcceptedAfter};
 
-use crate::{AcceptedCommand, CommitFault};
+use crate::{AcceptedCommand, CommandFault};
 use prima_base::limits::MAX_VERSIONS;
 use prima_base::{Refusal, What};
 use schema_catalog::Schema;
@@ -34,41 +34,41 @@ use std::alloc::Global;
 use version_groups::Groups;
 
 // The counts of the command are within their limits.
-fn judge_counts(command: &Command) -> Result<(), CommitFault>
+fn judge_counts(command: &Command) -> Result<(), CommandFault>
     ensures counts { IsTested (count_fault (first_excess (body_of command.now.1))) result }
     ensures constants { OnOk result (BodyHolds (body_of command.now.1)) }
 {
     match check_counts(command) {
         Ok(()) => Ok(()),
-        Err((what, limit)) => Err(CommitFault::Refused(Refusal::TooMany(what, limit))),
+        Err((what, limit)) => Err(CommandFault::Refused(Refusal::TooMany(what, limit))),
     }
 }
 
 // The stamp is above the last one.
-fn judge_stamp(last: Option<u64>, stamp: u64) -> Result<(), CommitFault>
+fn judge_stamp(last: Option<u64>, stamp: u64) -> Result<(), CommandFault>
     ensures { IsTested (stamp_fault last stamp) result }
 {
     match last {
         Some(last) if stamp <= last => {
-            Err(CommitFault::Refused(Refusal::StampNotLater(stamp, last)))
+            Err(CommandFault::Refused(Refusal::StampNotLater(stamp, last)))
         }
         _ => Ok(()),
     }
 }
 
 // There is room for one version more.
-fn judge_versions(newest: u32) -> Result<(), CommitFault>
+fn judge_versions(newest: u32) -> Result<(), CommandFault>
     ensures { IsTested (unless (nat_lt newest max_versions) (TooMany Versions max_versions))
         result }
 {
     if (newest as usize) < MAX_VERSIONS {
         return Ok(());
     }
-    Err(CommitFault::Refused(Refusal::TooMany(What::Versions, MAX_VERSIONS as u64)))
+    Err(CommandFault::Refused(Refusal::TooMany(What::Versions, MAX_VERSIONS as u64)))
 }
 
 // The preconditions of the operator; the schema after it.
-fn judge_operator(alloc: Global, schema: &Schema, op: &Op) -> Result<Schema, CommitFault>
+fn judge_operator(alloc: Global, schema: &Schema, op: &Op) -> Result<Schema, CommandFault>
     requires { HasFewNodes (operator_of op.now) }
     ensures tested { IsTested (option_map operator_refusal
         (op_fault schema.now (operator_of op.now))) result }
@@ -76,8 +76,8 @@ fn judge_operator(alloc: Global, schema: &Schema, op: &Op) -> Result<Schema, Com
 {
     match after(alloc, schema, op) {
         Ok(next) => Ok(next),
-        Err(OpFault::Refused(refusal)) => Err(CommitFault::Refused(operator_refusal(refusal))),
-        Err(OpFault::NoMemory) => Err(CommitFault::NoMemory),
+        Err(OpFault::Refused(refusal)) => Err(CommandFault::Refused(operator_refusal(refusal))),
+        Err(OpFault::NoMemory) => Err(CommandFault::NoMemory),
     }
 }
 
@@ -87,7 +87,7 @@ fn judge_inverse(
     before: &Schema,
     next: &Schema,
     inverse: &[Op],
-) -> Result<(), CommitFault>
+) -> Result<(), CommandFault>
     requires inverse { HaveFewNodes (operators_of inverse.now) }
     requires few { length inverse.now ≤ 8 }
     ensures { (op : Operator) → next.now ≡ schema_after before.now op
@@ -96,10 +96,10 @@ fn judge_inverse(
     match check_way_back(alloc, before, next, inverse) {
         Ok(()) => Ok(()),
         Err(InverseFault::Op(number, refusal)) => {
-            Err(CommitFault::Refused(Refusal::InverseOp(number as u32, refusal)))
+            Err(CommandFault::Refused(Refusal::InverseOp(number as u32, refusal)))
         }
-        Err(InverseFault::Misses(name)) => Err(CommitFault::Refused(Refusal::InverseMisses(name))),
-        Err(InverseFault::NoMemory) => Err(CommitFault::NoMemory),
+        Err(InverseFault::Misses(name)) => Err(CommandFault::Refused(Refusal::InverseMisses(name))),
+        Err(InverseFault::NoMemory) => Err(CommandFault::NoMemory),
     }
 }
 
@@ -110,7 +110,7 @@ fn judge_evolve(
     groups: &Groups,
     op: &Op,
     inverse: &[Op],
-) -> Result<Schema, CommitFault>
+) -> Result<Schema, CommandFault>
     requires counted { first_excess (evolving (operator_of op.now) (operators_of inverse.now))
         ≡ None }
     requires represents { (past : Past) × Represents groups.now past }
@@ -135,7 +135,7 @@ fn judge_body(
     groups: &Groups,
     stamp: u64,
     body: Body,
-) -> Result<AcceptedCommand, CommitFault>
+) -> Result<AcceptedCommand, CommandFault>
     requires counted { first_excess (body_of body) ≡ None }
     requires represents { (past : Past) × Represents groups.now past }
     ensures tested { (past : Past) → Represents groups.now past
@@ -175,7 +175,7 @@ pub(crate) fn judge(
     groups: &Groups,
     last: Option<u64>,
     command: Command,
-) -> Result<AcceptedCommand, CommitFault>
+) -> Result<AcceptedCommand, CommandFault>
     requires represents { (past : Past) × Represents groups.now past × (last ≡ past.last) }
     ensures same { IfOk result (λ accepted. accepted_command accepted ≡ command_of command) }
     ensures judges { (past : Past) → Represents groups.now past → last ≡ past.last

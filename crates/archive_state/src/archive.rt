@@ -1,6 +1,6 @@
 use crate::acceptance::judge;
 use crate::question::{ask, explain_query};
-use crate::{AcceptedCommand, AskFault, CommitFault};
+use crate::{AcceptedCommand, AskFault, CommandFault};
 use answer_text::Listing;
 use piece_texts::Explained;
 use prima_base::{NoMemory, Steps};
@@ -90,8 +90,8 @@ impl ArchiveState {
     }
 
     /// An archive that has these versions with their stored tables, and whose last command had this
-    /// stamp: one that stands for each past that the tables show and that ends with this stamp. It
-    /// takes no memory.
+    /// stamp: one that represents each past that the groups represent and that ends with this
+    /// stamp. It takes no memory.
     pub fn restored(alloc: Global, groups: Groups, last: Option<u64>) -> ArchiveState
         requires { RepresentsSome (archive_content groups last) }
         ensures { result ≡ archive_content groups last }
@@ -124,7 +124,7 @@ impl ArchiveState {
     /// its stamp (20); of changes, one after the other, each whole before the next (22, 27, 23, 35,
     /// 25); of an operator the number of versions (38), its preconditions in written order, and
     /// then its inverse (32). `NoMemory` comes where memory runs out.
-    pub fn judge(&self, command: Command) -> Result<AcceptedCommand, CommitFault>
+    pub fn judge(&self, command: Command) -> Result<AcceptedCommand, CommandFault>
         ensures same { IfOk result (λ accepted. accepted_command accepted ≡ command_of command) }
         ensures judges { (past : Past) → RepresentsPast self.now past
             → IsTestedAs (IsAcceptedAfter past) (command_fault past (command_of command)) result }
@@ -149,9 +149,9 @@ impl ArchiveState {
         self.groups.prepare(judged)
     }
 
-    /// Carries out what `prepare` made of a command and this very archive, which then stands for
-    /// the past with the command. It takes no memory, and cannot fail.
-    #[tactic(auto, using(crate::proofs::CarriedOut::shows_next, crate::proofs::CarriedOut::newest_next))]
+    /// Carries out what `prepare` made of a command and this very archive, which then
+    /// represents the past with the command. It takes no memory, and cannot fail.
+    #[tactic(auto, using(crate::proofs::CarriedOut::represents_next, crate::proofs::CarriedOut::newest_next))]
     pub fn carry_out(&mut self, next: Next<'_>) -> Done
         requires { (past : Past) × (command : PlainCommand) × RepresentsPast self.old past
             × Prepares self.old.groups past command next }
@@ -178,7 +178,7 @@ impl ArchiveState {
     /// carried out whose record stands already. Another is refused as by `judge`, and the archive
     /// is what it was. Where memory runs out it represents the past that it represented, as it was
     /// but for room.
-    pub fn commit(&mut self, command: Command) -> Result<Done, CommitFault>
+    pub fn commit(&mut self, command: Command) -> Result<Done, CommandFault>
         ensures commits { (past : Past) → RepresentsPast self.old past
             → Accepts past (command_of command) self.old result self.new }
         ensures represents { RepresentsSome self.old × RepresentsSome self.new }
@@ -265,7 +265,7 @@ impl ArchiveState {
     }
 
     // Makes an accepted command ready, and carries it out.
-    fn accept(&mut self, judged: Judged<'_>) -> Result<Done, CommitFault>
+    fn accept(&mut self, judged: Judged<'_>) -> Result<Done, CommandFault>
         requires { (past : Past) × RepresentsPast self.old past × IsAccepted past judged }
         ensures commits { (past : Past) → RepresentsPast self.old past
             → IsAccepted past judged.entry

@@ -2,7 +2,7 @@ use prima_base::{CallFault, Refusal};
 
 /// Why a command is not accepted: the first refusal in the one order, or memory ran out. The
 /// archive is then as it was.
-pub type CommitFault = CallFault<Refusal>;
+pub type CommandFault = CallFault<Refusal>;
 
 /// Why a query is not answered: the first refusal in the one order, or memory ran out.
 pub type AskFault = CallFault<Refusal>;

@@ -13,4 +13,4 @@ mod question;
 
 pub use accepted_command::AcceptedCommand;
 pub use archive::{ArchiveState, Done};
-pub use fault::{AskFault, CommitFault};
+pub use fault::{AskFault, CommandFault};

@@ -21,7 +21,7 @@ use std::marker::Model;
 
 /// How many rows are looked at whole at once: a filter of their condition would cost more than it
 /// saves.
-const FEW_ROWS: usize = 16;
+const FEW_READ_ROWS: usize = 16;
 
 /// A comparison of one column with a constant.
 #[derive(Drop)]
@@ -106,7 +106,7 @@ pub fn filter_for<'c>(
     ensures { IfOk result (λ filter. IsFilter columns.now (test cond.now) filter.items) }
 {
     let mut filter = Vec::new(alloc);
-    if rows <= FEW_ROWS {
+    if rows <= FEW_READ_ROWS {
         return Ok(filter);
     }
     for column in 0..columns.len() {

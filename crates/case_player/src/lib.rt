@@ -5,7 +5,7 @@
 //! script stands before that of each case after it that a line `=+ name` begins, up to the next
 //! setup.
 //!
-//! What is played is `run` itself, over a source in memory that hands out small pieces and a sink
+//! What is played is `run` itself, over a source in memory that hands out small chunks and a sink
 //! in memory.
 #![tactic(auto)]
 

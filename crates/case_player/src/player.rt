@@ -15,7 +15,7 @@ use std::alloc::{AllocError, Global};
 const ROOM: usize = 1 << 20;
 
 // How many bytes of a script are handed out at once.
-const PIECE: usize = 7;
+const CHUNK: usize = 7;
 
 // How many writes and syncs the disk of a script has room for, and how many bytes.
 const DISK_CALLS: u64 = 1 << 16;
@@ -51,7 +51,7 @@ fn play_script(alloc: Global, script: &[u8]) -> Result<Played, NoMemory> {
     let mut words: Vec<Word> = Vec::new(alloc);
     words.push(String::from_str(alloc, "run")?)?;
     let bytes = Vec::from_slice(alloc, script)?;
-    let mut source = MemSource::new(bytes, PIECE, Vec::new(alloc));
+    let mut source = MemSource::new(bytes, CHUNK, Vec::new(alloc));
     let mut sink = MemSink::new(alloc, ROOM, Vec::new(alloc))?;
     let status = run_with_rules(alloc, &words, &mut source, &mut sink)?;
     Ok(Played {

@@ -49,7 +49,7 @@ fn keep(rows: &mut [TimedRow<'_>], slice: Period, kept: usize, next: usize) -> u
     }
 }
 
-// Cuts each row to the slice, and drops those that have no moment of it.
+/// Cuts each row to the slice, and drops those that have no moment of it.
 pub fn cut_rows(rows: &mut Vec<TimedRow<'_>>, slice: Period)
     ensures { rows.new.items ≡ filter_map (cut_row slice) rows.old.items }
 {

@@ -31,7 +31,7 @@ fn turn(rows: &mut [TimedRow<'_>], kept: usize, next: usize) -> usize
     }
 }
 
-// Joins the entries of a sorted list that touch.
+/// Joins the entries of a sorted list that touch.
 pub fn join_sorted(rows: &mut Vec<TimedRow<'_>>)
     ensures { rows.new.items ≡ merged touch_rows join_rows rows.old.items }
 {

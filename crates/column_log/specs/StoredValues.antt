@@ -6,7 +6,7 @@ use Rattle.prima_base.specs.declared.value.ColType.{ColType}
 use Rattle.prima_base.specs.declared.value.ColType.TheVariants.{Int as IntType, Text as TextType}
 use Rattle.column_log.specs.declared.stored_value.StoredValues.{StoredValues}
 use Rattle.column_log.specs.declared.stored_value.StoredValues.TheVariants.{Numbers, Texts}
-use Rattle.column_log.specs.Texts.{piece}
+use Rattle.column_log.specs.Texts.{room_unit}
 
 -- the type of the column
 abbrev pub kind_of : StoredValues → ColType
@@ -27,6 +27,6 @@ abbrev pub text_of : Value → List ℕ
 text_of (Int n) = []
 text_of (Text t) = t
 
--- a piece of room for each 32 bytes of a text, beside the one of the write
+-- a unit of room for each 32 bytes of a text, beside the one of the write
 abbrev pub text_room : Value → ℕ
-text_room v = length (text_of v) / piece
+text_room v = length (text_of v) / room_unit

@@ -2,7 +2,7 @@
 use Rattle.std.specs.Prelude.{◌≡◌, ℕ, ◌-◌, ◌/◌, ◌≤◌, min, List, [], ◌∷◌, length, take, drop}
 use Rattle.std.specs.Prelude.{vec_len, vec_capacity}
 use Rattle.prima_base.specs.Bytes.{IsTxt}
-use Rattle.column_log.specs.Texts.{Texts, piece}
+use Rattle.column_log.specs.Texts.{Texts, room_unit}
 use Rattle.column_log.specs.declared.text_buffer.TextBuffer.TheInside.{Inside}
 
 -- the parts of the bytes that end at these places, the first from the start on
@@ -13,7 +13,7 @@ parts start (end ∷ ends) bytes = take (end - start) (drop start bytes) ∷ par
 abbrev pub texts_of : Inside → Texts
 texts_of a = record {
   items = parts 0 a.ends.items a.bytes.items;
-  spare = min ((vec_capacity a.bytes - vec_len a.bytes) / piece)
+  spare = min ((vec_capacity a.bytes - vec_len a.bytes) / room_unit)
       (vec_capacity a.ends - vec_len a.ends);
 }
 

@@ -6,6 +6,6 @@ pub record Texts : Type 0 where
   pub items : List (List ℕ)
   pub spare : ℕ
 
--- room is counted in pieces: a text takes one, and one more for each 32 bytes of it
-abbrev pub piece : ℕ
-piece = 32
+-- room is counted in units: a text takes one, and one more for each 32 bytes of it
+abbrev pub room_unit : ℕ
+room_unit = 32

@@ -62,7 +62,7 @@ impl Column {
         }
     }
 
-    /// Room for this many writes more, with as many pieces of text.
+    /// Room for this many writes more, with as many units of text.
     pub fn reserve(&mut self, more: usize) -> Result<(), NoMemory>
         ensures kind { self.new.kind ≡ self.old.kind }
         ensures ids { self.new.ids ≡ self.old.ids }

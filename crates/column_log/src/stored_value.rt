@@ -5,11 +5,11 @@ ghost use Rattle.prima_base.specs.Order.{shown};
 ghost use Rattle.prima_base.specs.Columns.{IsValid};
 ghost use Rattle.column_log.specs.StoredValues.{text_room};
 
-use crate::text_buffer::{PIECE, TextBuffer};
+use crate::text_buffer::{ROOM_UNIT, TextBuffer};
 use prima_base::{ColType, NoMemory, Val};
 use std::alloc::Global;
 
-/// How many pieces of room the value's text takes beside the one of its write.
+/// How many units of room the value's text takes beside the one of its write.
 pub fn text_room(value: &Val<'_>) -> usize
     requires valid { IsValid (shown value.now) }
     ensures room { result ≡ text_room (shown value.now) }
@@ -17,8 +17,8 @@ pub fn text_room(value: &Val<'_>) -> usize
 {
     match value {
         Val::Int(_) => 0,
-        Val::Slice(bytes) => bytes.len() / PIECE,
-        Val::Own(text) => text.bytes().len() / PIECE,
+        Val::Slice(bytes) => bytes.len() / ROOM_UNIT,
+        Val::Own(text) => text.bytes().len() / ROOM_UNIT,
     }
 }
 
@@ -49,7 +49,7 @@ impl StoredValues {
         }
     }
 
-    /// Room for this many values more, with as many pieces of text.
+    /// Room for this many values more, with as many units of text.
     pub(crate) fn reserve(&mut self, more: usize) -> Result<(), NoMemory>
         ensures kind { kind_of self.new ≡ kind_of self.old }
         ensures values { values_in self.new ≡ values_in self.old }

@@ -7,8 +7,8 @@ use prima_base::NoMemory;
 use std::alloc::Global;
 use std::marker::Model;
 
-/// How many bytes of text a piece of room is for.
-pub(crate) const PIECE: usize = 32;
+/// How many bytes of text a unit of room is for.
+pub(crate) const ROOM_UNIT: usize = 32;
 
 /// Texts one after the other in one buffer: for each the place after its last byte, where the next
 /// one begins.
@@ -65,7 +65,7 @@ impl TextBuffer {
     ghost use Rattle.std.specs.Prelude.{◌≡◌, ◌+◌, ◌/◌, ◌<◌, ◌≤◌, [], ◌∷◌, ◌++◌, OnOk, length};
     ghost use Rattle.std.specs.Prelude.{slice_index_or};
     ghost use Rattle.prima_base.specs.Bytes.{IsTxt};
-    ghost use Rattle.column_log.specs.Texts.{piece};
+    ghost use Rattle.column_log.specs.Texts.{room_unit};
 
     /// No texts.
     pub(crate) fn new(alloc: Global) -> TextBuffer
@@ -77,13 +77,13 @@ impl TextBuffer {
         }
     }
 
-    /// Room for this many texts more, with as many pieces.
+    /// Room for this many texts more, with as many units.
     pub(crate) fn reserve(&mut self, more: usize) -> Result<(), NoMemory>
         ensures items { self.new.items ≡ self.old.items }
         ensures spare { self.old.spare ≤ self.new.spare }
         ensures room { OnOk result (more ≤ self.new.spare) }
     {
-        let Some(bytes) = more.checked_mul(PIECE) else {
+        let Some(bytes) = more.checked_mul(ROOM_UNIT) else {
             return Err(NoMemory);
         };
         self.bytes.reserve(bytes)?;
@@ -94,9 +94,9 @@ impl TextBuffer {
     /// One text more, whose bytes are copied once. It takes no memory.
     pub(crate) fn push(&mut self, text: &[u8])
         requires valid { IsTxt text.now }
-        requires room { length text.now / piece < self.old.spare }
+        requires room { length text.now / room_unit < self.old.spare }
         ensures items { self.new.items ≡ self.old.items ++ text.now ∷ [] }
-        ensures spare { self.old.spare ≤ self.new.spare + length text.now / piece + 1 }
+        ensures spare { self.old.spare ≤ self.new.spare + length text.now / room_unit + 1 }
     {
         append(&mut self.bytes, text);
         self.ends.push_reserved(self.bytes.len());

@@ -4,7 +4,7 @@ use Rattle.std.proofs.Common.{◌∷◌, length, take, refl, sym, ap, ◌∙◌,
 use Rattle.std.proofs.lemmas.Bool.{ltb-true}
 use Rattle.std.proofs.lemmas.List.{take_at, length-append}
 use Rattle.prima_base.specs.Bytes.{is_name_byte, is_text_byte, IsName, IsTxt}
-use Rattle.command_codec.specs.declared.reader.Stop.{Stop}
+use Rattle.command_codec.specs.declared.reader.ReadStop.{ReadStop}
 use Rattle.command_spelling.specs.Reading.{Parsed, and_then, pure, map_to, byte, run, digits}
 use Rattle.command_codec.specs.Reads.{Fails}
 use Rattle.command_spelling.specs.Reader.{is_name_start, is_name_length, name_text}
@@ -26,13 +26,13 @@ whole : (n : ℕ) (ts : List ℕ) → is_name_length n ≡ true
     (λ b. map_to (λ l. b ∷ l) (run is_name_byte (n - 1)))
 whole n ts h = ap (λ k. name_text k ts) (sym (from_length n h)) ∙ by_start (n - 1) ts
 
-pub no_start : (n : ℕ) (ts new : List ℕ) (e : Stop) → is_name_length n ≡ true
+pub no_start : (n : ℕ) (ts new : List ℕ) (e : ReadStop) → is_name_length n ≡ true
     → Fails (byte is_name_start ts) e new → Fails (name_text n ts) e new
 no_start n ts new e h = fails_along (byte is_name_start ts) (name_text n ts) e new
     (λ rest f. whole n ts h ∙ ap (λ o. and_then o
     (λ b. map_to (λ l. b ∷ l) (run is_name_byte (n - 1)))) f)
 
-pub no_run : (n b : ℕ) (ts us new : List ℕ) (e : Stop) → is_name_length n ≡ true
+pub no_run : (n b : ℕ) (ts us new : List ℕ) (e : ReadStop) → is_name_length n ≡ true
     → byte is_name_start ts ≡ Parsed b us → Fails (run is_name_byte (n - 1) us) e new
     → Fails (name_text n ts) e new
 no_run n b ts us new e h g = fails_along (run is_name_byte (n - 1) us) (name_text n ts) e new

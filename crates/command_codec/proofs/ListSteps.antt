@@ -2,7 +2,7 @@
 use Rattle.std.proofs.Common.{◌≡◌, ℕ, suc, ◌+◌, ◌-◌, ◌<◌, ◌≤◌, List, [], ◌∷◌, ◌++◌, map, refl, sym}
 use Rattle.std.proofs.Common.{ap, ◌∙◌, append-nil, arith}
 use Rattle.std.proofs.lemmas.List.{map-append}
-use Rattle.command_codec.specs.declared.reader.Stop.{Stop}
+use Rattle.command_codec.specs.declared.reader.ReadStop.{ReadStop}
 use Rattle.command_spelling.specs.Reading.{Out, Parsed, Unexpected, Parser, and_then, pure, map_to}
 use Rattle.command_spelling.specs.Reading.{digits, items, listed, prepend}
 use Rattle.command_codec.specs.Reads.{Fails}
@@ -48,7 +48,7 @@ module _ {A : Type 0} (p : Parser A) where
         ∙ one_before a (items p (count - (i + 1)) rest))
         ∙ prepend_more l (a ∷ []) (items p (count - (i + 1)) rest)
 
-    pub no_item : (e : Stop) (new : List ℕ) → i < count → Fails (p ts) e new
+    pub no_item : (e : ReadStop) (new : List ℕ) → i < count → Fails (p ts) e new
         → Fails (items p count start) e new
     no_item e new h = fails_along (p ts) (items p count start) e new
         (λ rest f. so ∙ ap (prepend l) (left h
@@ -80,7 +80,7 @@ one_more_item p count i start ts l so more a rest pushed h e =
 module _ {A : Type 0} (p : Parser A) (k most count i : ℕ) (start us ts : List ℕ) (l : List A)
     (counted : digits most k 0 start ≡ Parsed count us)
     (so : SoMany p count (count - i) us ts l) where
-  pub no_counted_item : (e : Stop) (new : List ℕ) → i < count → Fails (p ts) e new
+  pub no_counted_item : (e : ReadStop) (new : List ℕ) → i < count → Fails (p ts) e new
       → Fails (listed k most p start) e new
   no_counted_item e new h f = fails_along (items p count us) (listed k most p start) e new
       (λ rest g. ap (λ o. and_then o (λ n. items p n)) counted ∙ g)

@@ -4,20 +4,20 @@ use Rattle.std.proofs.Common.{cond, nat_lt, nat_le, List, [], ◌∷◌, ◌++�
 use Rattle.std.proofs.Common.{ap, ◌∙◌, append_assoc, append-nil, length-append, arith}
 use Rattle.std.proofs.lemmas.Bool.{leb-true}
 use Rattle.std.proofs.lemmas.List.{take_at}
-use Rattle.command_codec.specs.declared.reader.Stop.{Stop}
-use Rattle.command_codec.specs.declared.reader.Stop.TheVariants as stop
+use Rattle.command_codec.specs.declared.reader.ReadStop.{ReadStop}
+use Rattle.command_codec.specs.declared.reader.ReadStop.TheVariants as stop
 use Rattle.command_spelling.specs.Reading.{Out, Parsed, Unexpected, Parser, and_then, pure, map_to}
 use Rattle.command_spelling.specs.Reading.{byte_by, byte, run, digits, prepend}
 use Rattle.command_codec.specs.Reads.{Fails}
 use Rattle.command_spelling.proofs.Numbers.{goes_on, of_both, higher}
 
 -- a failure of a part is one of the whole
-pub fails_along : {A B : Type 0} (p : Out A) (q : Out B) (e : Stop) (new : List ℕ)
+pub fails_along : {A B : Type 0} (p : Out A) (q : Out B) (e : ReadStop) (new : List ℕ)
     → ((rest : List ℕ) → p ≡ Unexpected rest → q ≡ Unexpected rest) → Fails p e new → Fails q e new
 fails_along p q stop.NoMemory new h f = tt
 fails_along p q stop.Unexpected new h f = h new f
 
-pub of_stuck : {A : Type 0} (out : Out A) (e : Stop) (new : List ℕ) → e ≡ stop.Unexpected
+pub of_stuck : {A : Type 0} (out : Out A) (e : ReadStop) (new : List ℕ) → e ≡ stop.Unexpected
     → Fails out e new → out ≡ Unexpected new
 of_stuck out stop.NoMemory new h f = absurd cc
 of_stuck out stop.Unexpected new h f = f

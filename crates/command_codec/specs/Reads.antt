@@ -1,16 +1,16 @@
 -- What a function that reads ensures.
 use Rattle.std.specs.Prelude.{◌≡◌, ℕ, List, Result, Ok, Err}
-use Rattle.command_codec.specs.declared.reader.Stop.{Stop}
-use Rattle.command_codec.specs.declared.reader.Stop.TheVariants as stop
+use Rattle.command_codec.specs.declared.reader.ReadStop.{ReadStop}
+use Rattle.command_codec.specs.declared.reader.ReadStop.TheVariants as stop
 use Rattle.command_spelling.specs.Reading.{Out, Parsed, Unexpected}
 
 -- it stands at the byte with which nothing goes on; running out of memory is free
-abbrev pub Fails : {A : Type 0} → Out A → Stop → List ℕ → Type 0
+abbrev pub Fails : {A : Type 0} → Out A → ReadStop → List ℕ → Type 0
 Fails out stop.NoMemory new = Unit {0}
 Fails out stop.Unexpected new = out ≡ Unexpected new
 
 -- it was read, or failed, as reading says
-abbrev pub Reads : {A X : Type 0} → (X → A) → Out A → Result X Stop → List ℕ → Type 0
+abbrev pub Reads : {A X : Type 0} → (X → A) → Out A → Result X ReadStop → List ℕ → Type 0
 Reads view out (Ok x) new = out ≡ Parsed (view x) new
 Reads view out (Err e) new = Fails out e new
 
@@ -22,11 +22,11 @@ pub record Passes {A : Type 0} (out : Out A) (new : List ℕ) : Type 0 where
   pub got : out ≡ Parsed read new
 
 -- it stands at the byte with which nothing goes on
-abbrev pub Halts : {A : Type 0} → Out A → Stop → List ℕ → Type 0
+abbrev pub Halts : {A : Type 0} → Out A → ReadStop → List ℕ → Type 0
 Halts out stop.NoMemory new = ⊥
 Halts out stop.Unexpected new = out ≡ Unexpected new
 
 -- the bytes were recognized as a spelling, or not, as reading says
-abbrev pub Recognizes : {A X : Type 0} → Out A → Result X Stop → List ℕ → Type 0
+abbrev pub Recognizes : {A X : Type 0} → Out A → Result X ReadStop → List ℕ → Type 0
 Recognizes out (Ok x) new = Passes out new
 Recognizes out (Err e) new = Halts out e new

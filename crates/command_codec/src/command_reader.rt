@@ -8,7 +8,7 @@ ghost use Rattle.command_codec.specs.Reads.{Reads};
 
 use crate::field::{name, value};
 use crate::operator_reader::{op, ops};
-use crate::reader::{Reader, Stop};
+use crate::reader::{ReadStop, Reader};
 use crate::tree_reader::{outer_cond, outer_expr};
 use cond_expr::Expr;
 use prima_base::{FOREVER, Name, Value};
@@ -17,7 +17,7 @@ use std::alloc::Global;
 
 // A column's name and its value.
 #[tactic(auto, unfolding(command_spelling::specs::Reader::cell))]
-fn cell(alloc: Global, reader: &mut Reader<'_>) -> Result<(Name, Value), Stop>
+fn cell(alloc: Global, reader: &mut Reader<'_>) -> Result<(Name, Value), ReadStop>
     ensures { Reads (λ c. c) (spec.cell reader.old.rest.now) result reader.new.rest.now }
 {
     let column = name(alloc, reader)?;
@@ -27,7 +27,7 @@ fn cell(alloc: Global, reader: &mut Reader<'_>) -> Result<(Name, Value), Stop>
 
 // Cells, with their count before them.
 #[tactic(auto, unfolding(command_spelling::specs::Reader::cells))]
-fn cells(alloc: Global, reader: &mut Reader<'_>) -> Result<Vec<(Name, Value)>, Stop>
+fn cells(alloc: Global, reader: &mut Reader<'_>) -> Result<Vec<(Name, Value)>, ReadStop>
     ensures { Reads (λ v. v.items) (spec.cells reader.old.rest.now) result reader.new.rest.now }
 {
     let count = reader.number(4, 0xFFFF_FFFF)?;
@@ -40,7 +40,7 @@ fn cells(alloc: Global, reader: &mut Reader<'_>) -> Result<Vec<(Name, Value)>, S
 
 // A column's name and what it is set to.
 #[tactic(auto, unfolding(command_spelling::specs::Reader::set))]
-fn set(alloc: Global, reader: &mut Reader<'_>) -> Result<(Name, Expr), Stop>
+fn set(alloc: Global, reader: &mut Reader<'_>) -> Result<(Name, Expr), ReadStop>
     ensures { Reads set_of_expr (spec.set reader.old.rest.now) result reader.new.rest.now }
 {
     let column = name(alloc, reader)?;
@@ -50,7 +50,7 @@ fn set(alloc: Global, reader: &mut Reader<'_>) -> Result<(Name, Expr), Stop>
 
 // What columns are set to, with their count before them.
 #[tactic(auto, unfolding(command_spelling::specs::Reader::sets))]
-fn sets(alloc: Global, reader: &mut Reader<'_>) -> Result<Vec<(Name, Expr)>, Stop>
+fn sets(alloc: Global, reader: &mut Reader<'_>) -> Result<Vec<(Name, Expr)>, ReadStop>
     ensures { Reads (λ v. sets_of v.items) (spec.sets reader.old.rest.now) result
         reader.new.rest.now }
 {
@@ -63,7 +63,7 @@ fn sets(alloc: Global, reader: &mut Reader<'_>) -> Result<Vec<(Name, Expr)>, Sto
 }
 
 // What stands after the tag of INSERT.
-fn insert(alloc: Global, reader: &mut Reader<'_>) -> Result<Change, Stop>
+fn insert(alloc: Global, reader: &mut Reader<'_>) -> Result<Change, ReadStop>
     ensures { Reads change_of (map_to spec.inserted (pair spec.name spec.cells)
         reader.old.rest.now) result reader.new.rest.now }
 {
@@ -73,7 +73,7 @@ fn insert(alloc: Global, reader: &mut Reader<'_>) -> Result<Change, Stop>
 }
 
 // What stands after the tag of DELETE.
-fn delete(alloc: Global, reader: &mut Reader<'_>) -> Result<Change, Stop>
+fn delete(alloc: Global, reader: &mut Reader<'_>) -> Result<Change, ReadStop>
     ensures { Reads change_of (map_to spec.deleted (pair spec.name spec.outermost.cond)
         reader.old.rest.now) result reader.new.rest.now }
 {
@@ -83,7 +83,7 @@ fn delete(alloc: Global, reader: &mut Reader<'_>) -> Result<Change, Stop>
 }
 
 // What stands after the tag of UPDATE.
-fn update(alloc: Global, reader: &mut Reader<'_>) -> Result<Change, Stop>
+fn update(alloc: Global, reader: &mut Reader<'_>) -> Result<Change, ReadStop>
     ensures { Reads change_of (map_to spec.updated
         (pair (pair spec.name spec.sets) spec.outermost.cond) reader.old.rest.now) result
         reader.new.rest.now }
@@ -96,7 +96,7 @@ fn update(alloc: Global, reader: &mut Reader<'_>) -> Result<Change, Stop>
 
 // A change.
 #[tactic(auto, unfolding(command_spelling::specs::Reader::change))]
-fn change(alloc: Global, reader: &mut Reader<'_>) -> Result<Change, Stop>
+fn change(alloc: Global, reader: &mut Reader<'_>) -> Result<Change, ReadStop>
     ensures { Reads change_of (spec.change reader.old.rest.now) result reader.new.rest.now }
 {
     match reader.tag(2)? {
@@ -108,7 +108,7 @@ fn change(alloc: Global, reader: &mut Reader<'_>) -> Result<Change, Stop>
 
 // Changes, with their count before them.
 #[tactic(auto, unfolding(command_spelling::specs::Reader::changes))]
-fn changes(alloc: Global, reader: &mut Reader<'_>) -> Result<Vec<Change>, Stop>
+fn changes(alloc: Global, reader: &mut Reader<'_>) -> Result<Vec<Change>, ReadStop>
     ensures { Reads (λ v. changes_of v.items) (spec.changes reader.old.rest.now) result
         reader.new.rest.now }
 {
@@ -122,7 +122,7 @@ fn changes(alloc: Global, reader: &mut Reader<'_>) -> Result<Vec<Change>, Stop>
 
 // What a command does.
 #[tactic(auto, unfolding(command_spelling::specs::Reader::body))]
-fn body(alloc: Global, reader: &mut Reader<'_>) -> Result<Body, Stop>
+fn body(alloc: Global, reader: &mut Reader<'_>) -> Result<Body, ReadStop>
     ensures { Reads body_of (spec.body reader.old.rest.now) result reader.new.rest.now }
 {
     match reader.tag(1)? {
@@ -137,7 +137,7 @@ fn body(alloc: Global, reader: &mut Reader<'_>) -> Result<Body, Stop>
 
 /// A command.
 #[tactic(auto, unfolding(command_spelling::specs::Reader::command))]
-pub fn command(alloc: Global, reader: &mut Reader<'_>) -> Result<Command, Stop>
+pub fn command(alloc: Global, reader: &mut Reader<'_>) -> Result<Command, ReadStop>
     ensures { Reads command_of (spec.command reader.old.rest.now) result reader.new.rest.now }
 {
     let stamp = reader.number(8, FOREVER - 1)?;

@@ -5,7 +5,7 @@ ghost use Rattle.command_codec.specs.Answers.{decoding_of};
 
 use crate::CodecFault;
 use crate::command_reader::command;
-use crate::reader::{Reader, Stop};
+use crate::reader::{ReadStop, Reader};
 use smo_types::Command;
 use std::alloc::Global;
 
@@ -35,7 +35,9 @@ pub fn decode(alloc: Global, bytes: &[u8]) -> Result<Command, CodecFault>
     let mut reader = Reader { rest: bytes };
     match command(alloc, &mut reader) {
         Ok(command) => alone(command, bytes, reader.rest),
-        Err(Stop::Unexpected) => Err(CodecFault::BadAt((bytes.len() - reader.rest.len()) as u64)),
-        Err(Stop::NoMemory) => Err(CodecFault::NoMemory),
+        Err(ReadStop::Unexpected) => Err(CodecFault::BadAt(
+            (bytes.len() - reader.rest.len()) as u64,
+        )),
+        Err(ReadStop::NoMemory) => Err(CodecFault::NoMemory),
     }
 }

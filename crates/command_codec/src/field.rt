@@ -2,18 +2,18 @@
 
 ghost use Rattle.std.specs.Prelude.{◌≡◌, true, Err, IfOk};
 ghost use Rattle.prima_base.specs.Bytes.{IsName};
-ghost use Rattle.command_codec.specs.declared.reader.Stop.TheVariants as stop;
+ghost use Rattle.command_codec.specs.declared.reader.ReadStop.TheVariants as stop;
 ghost use Rattle.command_spelling.specs.Reader as spec;
 ghost use Rattle.command_codec.specs.Reads.{Reads};
 
-use crate::reader::{Alphabet, Reader, Stop};
+use crate::reader::{Alphabet, ReadStop, Reader};
 use crate::value_reader::borrowed_text;
 use cond_expr::CmpOp;
 use prima_base::{ColType, Name, Txt, Value};
 use std::alloc::Global;
 
 // So many bytes of a name.
-fn name_text<'a>(reader: &mut Reader<'a>, count: u8) -> Result<&'a [u8], Stop>
+fn name_text<'a>(reader: &mut Reader<'a>, count: u8) -> Result<&'a [u8], ReadStop>
     requires { spec.is_name_length count ≡ true }
     ensures reads { Reads (λ s. s.now) (spec.name_text count reader.old.rest.now) result
         reader.new.rest.now }
@@ -27,7 +27,7 @@ fn name_text<'a>(reader: &mut Reader<'a>, count: u8) -> Result<&'a [u8], Stop>
 
 /// A name, where it stands in the bytes. It takes no memory.
 #[tactic(auto, unfolding(command_spelling::specs::Reader::name))]
-pub fn borrowed_name<'a>(reader: &mut Reader<'a>) -> Result<&'a [u8], Stop>
+pub fn borrowed_name<'a>(reader: &mut Reader<'a>) -> Result<&'a [u8], ReadStop>
     ensures reads { Reads (λ s. s.now) (spec.name reader.old.rest.now) result reader.new.rest.now }
     ensures valid { IfOk result (λ s. IsName s.now) }
     ensures memory { result ≡ Err stop.NoMemory → ⊥ }
@@ -38,7 +38,7 @@ pub fn borrowed_name<'a>(reader: &mut Reader<'a>) -> Result<&'a [u8], Stop>
 }
 
 /// A name.
-pub fn name(alloc: Global, reader: &mut Reader<'_>) -> Result<Name, Stop>
+pub fn name(alloc: Global, reader: &mut Reader<'_>) -> Result<Name, ReadStop>
     ensures { Reads (λ n. n) (spec.name reader.old.rest.now) result reader.new.rest.now }
 {
     let bytes = borrowed_name(reader)?;
@@ -46,7 +46,7 @@ pub fn name(alloc: Global, reader: &mut Reader<'_>) -> Result<Name, Stop>
 }
 
 // A text.
-fn text(alloc: Global, reader: &mut Reader<'_>) -> Result<Txt, Stop>
+fn text(alloc: Global, reader: &mut Reader<'_>) -> Result<Txt, ReadStop>
     ensures { Reads (λ t. t) (spec.text reader.old.rest.now) result reader.new.rest.now }
 {
     let bytes = borrowed_text(reader)?;
@@ -55,7 +55,7 @@ fn text(alloc: Global, reader: &mut Reader<'_>) -> Result<Txt, Stop>
 
 /// A value.
 #[tactic(auto, unfolding(command_spelling::specs::Reader::value, command_spelling::specs::Reader::number_64))]
-pub fn value(alloc: Global, reader: &mut Reader<'_>) -> Result<Value, Stop>
+pub fn value(alloc: Global, reader: &mut Reader<'_>) -> Result<Value, ReadStop>
     ensures { Reads (λ v. v) (spec.value reader.old.rest.now) result reader.new.rest.now }
 {
     match reader.tag(1)? {
@@ -66,8 +66,9 @@ pub fn value(alloc: Global, reader: &mut Reader<'_>) -> Result<Value, Stop>
 
 /// A column's type.
 #[tactic(auto, unfolding(command_spelling::specs::Reader::column_type))]
-pub fn column_type(reader: &mut Reader<'_>) -> Result<ColType, Stop>
-    ensures reads { Reads (λ k. k) (spec.column_type reader.old.rest.now) result reader.new.rest.now }
+pub fn column_type(reader: &mut Reader<'_>) -> Result<ColType, ReadStop>
+    ensures reads { Reads (λ k. k) (spec.column_type reader.old.rest.now) result
+        reader.new.rest.now }
     ensures memory { result ≡ Err stop.NoMemory → ⊥ }
 {
     match reader.tag(1)? {
@@ -78,7 +79,7 @@ pub fn column_type(reader: &mut Reader<'_>) -> Result<ColType, Stop>
 
 /// The sign of a comparison.
 #[tactic(auto, unfolding(command_spelling::specs::Reader::sign))]
-pub fn sign(reader: &mut Reader<'_>) -> Result<CmpOp, Stop>
+pub fn sign(reader: &mut Reader<'_>) -> Result<CmpOp, ReadStop>
     ensures reads { Reads (λ o. o) (spec.sign reader.old.rest.now) result reader.new.rest.now }
     ensures memory { result ≡ Err stop.NoMemory → ⊥ }
 {

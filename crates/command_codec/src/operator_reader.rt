@@ -6,7 +6,7 @@ ghost use Rattle.command_spelling.specs.Reader as spec;
 ghost use Rattle.command_codec.specs.Reads.{Reads};
 
 use crate::field::{column_type, name};
-use crate::reader::{Reader, Stop};
+use crate::reader::{ReadStop, Reader};
 use crate::tree_reader::{outer_cond, outer_expr};
 use prima_base::{ColType, Name};
 use smo_types::Op;
@@ -14,7 +14,7 @@ use std::alloc::Global;
 
 // A column's name and its type.
 #[tactic(auto, unfolding(command_spelling::specs::Reader::column_of))]
-fn column(alloc: Global, reader: &mut Reader<'_>) -> Result<(Name, ColType), Stop>
+fn column(alloc: Global, reader: &mut Reader<'_>) -> Result<(Name, ColType), ReadStop>
     ensures { Reads (λ c. c) (spec.column_of reader.old.rest.now) result reader.new.rest.now }
 {
     let column = name(alloc, reader)?;
@@ -24,7 +24,7 @@ fn column(alloc: Global, reader: &mut Reader<'_>) -> Result<(Name, ColType), Sto
 
 // Columns, with their count before them.
 #[tactic(auto, unfolding(command_spelling::specs::Reader::columns))]
-fn columns(alloc: Global, reader: &mut Reader<'_>) -> Result<Vec<(Name, ColType)>, Stop>
+fn columns(alloc: Global, reader: &mut Reader<'_>) -> Result<Vec<(Name, ColType)>, ReadStop>
     ensures { Reads (λ v. v.items) (spec.columns reader.old.rest.now) result reader.new.rest.now }
 {
     let count = reader.number(1, 0xFF)?;
@@ -37,7 +37,7 @@ fn columns(alloc: Global, reader: &mut Reader<'_>) -> Result<Vec<(Name, ColType)
 
 // Names, with their count before them.
 #[tactic(auto, unfolding(command_spelling::specs::Reader::names))]
-fn names(alloc: Global, reader: &mut Reader<'_>) -> Result<Vec<Name>, Stop>
+fn names(alloc: Global, reader: &mut Reader<'_>) -> Result<Vec<Name>, ReadStop>
     ensures { Reads (λ v. v.items) (spec.names reader.old.rest.now) result reader.new.rest.now }
 {
     let count = reader.number(1, 0xFF)?;
@@ -50,7 +50,7 @@ fn names(alloc: Global, reader: &mut Reader<'_>) -> Result<Vec<Name>, Stop>
 
 // Two names.
 #[tactic(auto, unfolding(command_spelling::specs::Reader::two_names))]
-fn two_names(alloc: Global, reader: &mut Reader<'_>) -> Result<(Name, Name), Stop>
+fn two_names(alloc: Global, reader: &mut Reader<'_>) -> Result<(Name, Name), ReadStop>
     ensures { Reads (λ x. (x.0, x.1)) (spec.two_names reader.old.rest.now) result
         reader.new.rest.now }
 {
@@ -61,7 +61,7 @@ fn two_names(alloc: Global, reader: &mut Reader<'_>) -> Result<(Name, Name), Sto
 
 // Three names.
 #[tactic(auto, unfolding(command_spelling::specs::Reader::three_names))]
-fn three_names(alloc: Global, reader: &mut Reader<'_>) -> Result<(Name, Name, Name), Stop>
+fn three_names(alloc: Global, reader: &mut Reader<'_>) -> Result<(Name, Name, Name), ReadStop>
     ensures { Reads (λ x. ((x.0, x.1), x.2)) (spec.three_names reader.old.rest.now) result
         reader.new.rest.now }
 {
@@ -71,7 +71,7 @@ fn three_names(alloc: Global, reader: &mut Reader<'_>) -> Result<(Name, Name, Na
 }
 
 // What stands after the tag of CREATE TABLE.
-fn created_table(alloc: Global, reader: &mut Reader<'_>) -> Result<Op, Stop>
+fn created_table(alloc: Global, reader: &mut Reader<'_>) -> Result<Op, ReadStop>
     ensures { Reads operator_of (map_to spec.created_table (pair spec.name spec.columns)
         reader.old.rest.now) result reader.new.rest.now }
 {
@@ -81,7 +81,7 @@ fn created_table(alloc: Global, reader: &mut Reader<'_>) -> Result<Op, Stop>
 }
 
 // What stands after the tag of PARTITION TABLE.
-fn partitioned_table(alloc: Global, reader: &mut Reader<'_>) -> Result<Op, Stop>
+fn partitioned_table(alloc: Global, reader: &mut Reader<'_>) -> Result<Op, ReadStop>
     ensures { Reads operator_of (map_to spec.partitioned
         (pair (pair spec.two_names spec.outermost.cond) spec.name) reader.old.rest.now) result
         reader.new.rest.now }
@@ -98,7 +98,7 @@ fn partitioned_table(alloc: Global, reader: &mut Reader<'_>) -> Result<Op, Stop>
 }
 
 // What stands after the tag of DECOMPOSE TABLE.
-fn decomposed_table(alloc: Global, reader: &mut Reader<'_>) -> Result<Op, Stop>
+fn decomposed_table(alloc: Global, reader: &mut Reader<'_>) -> Result<Op, ReadStop>
     ensures { Reads operator_of (map_to spec.decomposed
         (pair (pair (pair spec.two_names spec.names) spec.name) spec.names) reader.old.rest.now)
         result reader.new.rest.now }
@@ -117,9 +117,10 @@ fn decomposed_table(alloc: Global, reader: &mut Reader<'_>) -> Result<Op, Stop>
 }
 
 // What stands after the tag of JOIN TABLE.
-fn joined_table(alloc: Global, reader: &mut Reader<'_>) -> Result<Op, Stop>
+fn joined_table(alloc: Global, reader: &mut Reader<'_>) -> Result<Op, ReadStop>
     ensures { Reads operator_of (map_to spec.joined_tables
-        (pair spec.three_names spec.outermost.cond) reader.old.rest.now) result reader.new.rest.now }
+        (pair spec.three_names spec.outermost.cond) reader.old.rest.now) result
+        reader.new.rest.now }
 {
     let (left, right, into) = three_names(alloc, reader)?;
     let cond = outer_cond(alloc, reader)?;
@@ -132,7 +133,7 @@ fn joined_table(alloc: Global, reader: &mut Reader<'_>) -> Result<Op, Stop>
 }
 
 // What stands after the tag of ADD COLUMN.
-fn added_column(alloc: Global, reader: &mut Reader<'_>) -> Result<Op, Stop>
+fn added_column(alloc: Global, reader: &mut Reader<'_>) -> Result<Op, ReadStop>
     ensures { Reads operator_of (map_to spec.added_column
         (pair spec.two_names spec.outermost.expr) reader.old.rest.now) result reader.new.rest.now }
 {
@@ -146,7 +147,7 @@ fn added_column(alloc: Global, reader: &mut Reader<'_>) -> Result<Op, Stop>
 }
 
 // What stands after the tag of RENAME COLUMN.
-fn renamed_column(alloc: Global, reader: &mut Reader<'_>) -> Result<Op, Stop>
+fn renamed_column(alloc: Global, reader: &mut Reader<'_>) -> Result<Op, ReadStop>
     ensures { Reads operator_of (map_to spec.renamed_column spec.three_names
         reader.old.rest.now) result reader.new.rest.now }
 {
@@ -160,7 +161,7 @@ fn renamed_column(alloc: Global, reader: &mut Reader<'_>) -> Result<Op, Stop>
 
 /// An operator.
 #[tactic(auto, unfolding(command_spelling::specs::Reader::operator))]
-pub fn op(alloc: Global, reader: &mut Reader<'_>) -> Result<Op, Stop>
+pub fn op(alloc: Global, reader: &mut Reader<'_>) -> Result<Op, ReadStop>
     ensures { Reads operator_of (spec.operator reader.old.rest.now) result reader.new.rest.now }
 {
     match reader.tag(11)? {
@@ -195,7 +196,7 @@ pub fn op(alloc: Global, reader: &mut Reader<'_>) -> Result<Op, Stop>
 
 /// Operators, with their count before them.
 #[tactic(auto, unfolding(command_spelling::specs::Reader::operators))]
-pub fn ops(alloc: Global, reader: &mut Reader<'_>) -> Result<Vec<Op>, Stop>
+pub fn ops(alloc: Global, reader: &mut Reader<'_>) -> Result<Vec<Op>, ReadStop>
     ensures { Reads (λ v. operators_of v.items) (spec.operators reader.old.rest.now) result
         reader.new.rest.now }
 {

@@ -10,7 +10,7 @@ ghost use Rattle.command_codec.specs.Answers.{part_of};
 use crate::CodecFault;
 use crate::field::{name, value};
 use crate::operator_reader::op;
-use crate::reader::{Reader, Stop};
+use crate::reader::{ReadStop, Reader};
 use prima_base::{Name, Value};
 use smo_types::Op;
 use std::alloc::Global;
@@ -38,8 +38,10 @@ pub fn read_name(alloc: Global, bytes: &[u8], from: usize) -> Result<(Name, usiz
     let mut reader = reader_at(bytes, from);
     match name(alloc, &mut reader) {
         Ok(name) => Ok((name, bytes.len() - reader.rest.len())),
-        Err(Stop::Unexpected) => Err(CodecFault::BadAt((bytes.len() - reader.rest.len()) as u64)),
-        Err(Stop::NoMemory) => Err(CodecFault::NoMemory),
+        Err(ReadStop::Unexpected) => Err(CodecFault::BadAt(
+            (bytes.len() - reader.rest.len()) as u64,
+        )),
+        Err(ReadStop::NoMemory) => Err(CodecFault::NoMemory),
     }
 }
 
@@ -56,8 +58,10 @@ pub fn read_value(alloc: Global, bytes: &[u8], from: usize) -> Result<(Value, us
     let mut reader = reader_at(bytes, from);
     match value(alloc, &mut reader) {
         Ok(value) => Ok((value, bytes.len() - reader.rest.len())),
-        Err(Stop::Unexpected) => Err(CodecFault::BadAt((bytes.len() - reader.rest.len()) as u64)),
-        Err(Stop::NoMemory) => Err(CodecFault::NoMemory),
+        Err(ReadStop::Unexpected) => Err(CodecFault::BadAt(
+            (bytes.len() - reader.rest.len()) as u64,
+        )),
+        Err(ReadStop::NoMemory) => Err(CodecFault::NoMemory),
     }
 }
 
@@ -74,7 +78,9 @@ pub fn read_op(alloc: Global, bytes: &[u8], from: usize) -> Result<(Op, usize), 
     let mut reader = reader_at(bytes, from);
     match op(alloc, &mut reader) {
         Ok(op) => Ok((op, bytes.len() - reader.rest.len())),
-        Err(Stop::Unexpected) => Err(CodecFault::BadAt((bytes.len() - reader.rest.len()) as u64)),
-        Err(Stop::NoMemory) => Err(CodecFault::NoMemory),
+        Err(ReadStop::Unexpected) => Err(CodecFault::BadAt(
+            (bytes.len() - reader.rest.len()) as u64,
+        )),
+        Err(ReadStop::NoMemory) => Err(CodecFault::NoMemory),
     }
 }

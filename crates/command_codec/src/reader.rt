@@ -8,43 +8,43 @@ use std::alloc::{AllocError, AllocFailed};
 
 /// Why nothing was read.
 #[derive(Clone, Copy, Debug, PartialEq, Eq)]
-pub enum Stop {
+pub enum ReadStop {
     /// Memory ran out. Where the reader stands then is not said.
     NoMemory,
     /// With the byte at the reader no spelling goes on, or the bytes ended.
     Unexpected,
 }
 
-impl From<AllocError> for Stop {
+impl From<AllocError> for ReadStop {
     ghost use Rattle.std.specs.Prelude.{◌≡◌};
-    ghost use Rattle.command_codec.specs.declared.reader.Stop.TheVariants.{NoMemory as OutOfMemory};
+    ghost use Rattle.command_codec.specs.declared.reader.ReadStop.TheVariants as stop;
 
-    ghost from_gives = { λ _ e. e ≡ OutOfMemory };
+    ghost from_gives = { λ _ e. e ≡ stop.NoMemory };
 
-    fn from(_error: AllocError) -> Stop {
-        Stop::NoMemory
+    fn from(_error: AllocError) -> ReadStop {
+        ReadStop::NoMemory
     }
 }
 
-impl<T: Drop> From<AllocFailed<T>> for Stop {
+impl<T: Drop> From<AllocFailed<T>> for ReadStop {
     ghost use Rattle.std.specs.Prelude.{◌≡◌};
-    ghost use Rattle.command_codec.specs.declared.reader.Stop.TheVariants.{NoMemory as OutOfMemory};
+    ghost use Rattle.command_codec.specs.declared.reader.ReadStop.TheVariants as stop;
 
-    ghost from_gives = { λ _ e. e ≡ OutOfMemory };
+    ghost from_gives = { λ _ e. e ≡ stop.NoMemory };
 
-    fn from(_error: AllocFailed<T>) -> Stop {
-        Stop::NoMemory
+    fn from(_error: AllocFailed<T>) -> ReadStop {
+        ReadStop::NoMemory
     }
 }
 
-impl From<NoMemory> for Stop {
+impl From<NoMemory> for ReadStop {
     ghost use Rattle.std.specs.Prelude.{◌≡◌};
-    ghost use Rattle.command_codec.specs.declared.reader.Stop.TheVariants.{NoMemory as OutOfMemory};
+    ghost use Rattle.command_codec.specs.declared.reader.ReadStop.TheVariants as stop;
 
-    ghost from_gives = { λ _ e. e ≡ OutOfMemory };
+    ghost from_gives = { λ _ e. e ≡ stop.NoMemory };
 
-    fn from(_error: NoMemory) -> Stop {
-        Stop::NoMemory
+    fn from(_error: NoMemory) -> ReadStop {
+        ReadStop::NoMemory
     }
 }
 
@@ -89,14 +89,14 @@ pub struct Reader<'a> {
 impl<'a> Reader<'a> {
     ghost use Rattle.std.specs.Prelude.{◌≡◌, ◌+◌, ◌*◌, ◌/◌, ◌≤◌, ◌<◌, ◌^◌, ◌&&◌, nat_lt, nat_le, ℕ};
     ghost use Rattle.std.specs.Prelude.{length, IfOk, Err};
-    ghost use Rattle.command_codec.specs.declared.reader.Stop.TheVariants as stop;
+    ghost use Rattle.command_codec.specs.declared.reader.ReadStop.TheVariants as stop;
     ghost use Rattle.command_spelling.specs.Reading.{byte, digits, run, map_to};
     ghost use Rattle.command_spelling.specs.Reader as spec;
     ghost use Rattle.command_codec.specs.Reads.{Reads};
     ghost use Rattle.command_codec.specs.Answers.{takes as may_stand};
 
     /// The next byte, if it is at most this.
-    pub fn tag(&mut self, most: u8) -> Result<u8, Stop>
+    pub fn tag(&mut self, most: u8) -> Result<u8, ReadStop>
         ensures reads { Reads (λ b. b) (byte (spec.up_to most) self.old.rest.now) result
             self.new.rest.now }
         ensures memory { result ≡ Err stop.NoMemory → ⊥ }
@@ -106,12 +106,12 @@ impl<'a> Reader<'a> {
                 self.rest = rest;
                 Ok(*first)
             }
-            _ => Err(Stop::Unexpected),
+            _ => Err(ReadStop::Unexpected),
         }
     }
 
     // A number that goes on with the next byte after `high`, if it is at most this.
-    fn digit(&mut self, high: u64, most: u64) -> Result<u64, Stop>
+    fn digit(&mut self, high: u64, most: u64) -> Result<u64, ReadStop>
         requires { high ≤ most / 256 }
         ensures reads { Reads (λ n. n) (map_to (λ b. high * 256 + b)
             (byte (λ b. nat_lt b 256 && nat_le (high * 256 + b) most)) self.old.rest.now) result
@@ -119,18 +119,18 @@ impl<'a> Reader<'a> {
         ensures memory { result ≡ Err stop.NoMemory → ⊥ }
     {
         let [first, rest @ ..] = self.rest else {
-            return Err(Stop::Unexpected);
+            return Err(ReadStop::Unexpected);
         };
         let number = high * 256 + *first as u64;
         if number > most {
-            return Err(Stop::Unexpected);
+            return Err(ReadStop::Unexpected);
         }
         self.rest = rest;
         Ok(number)
     }
 
     /// A number of so many bytes, at most 8, the highest first, if it is at most `most`.
-    pub fn number(&mut self, width: u32, most: u64) -> Result<u64, Stop>
+    pub fn number(&mut self, width: u32, most: u64) -> Result<u64, ReadStop>
         requires { width ≤ 8 }
         ensures reads { Reads (λ n. n) (digits most width 0 self.old.rest.now) result
             self.new.rest.now }
@@ -146,7 +146,7 @@ impl<'a> Reader<'a> {
     }
 
     /// A number of eight bytes, the highest first. They are taken at once where so many are left.
-    pub fn number_64(&mut self) -> Result<u64, Stop>
+    pub fn number_64(&mut self) -> Result<u64, ReadStop>
         ensures reads { Reads (λ n. n) (digits u64.MAX 8 0 self.old.rest.now) result
             self.new.rest.now }
         ensures memory { result ≡ Err stop.NoMemory → ⊥ }
@@ -161,7 +161,7 @@ impl<'a> Reader<'a> {
     }
 
     /// The next byte, if it begins a name.
-    pub fn name_start(&mut self) -> Result<u8, Stop>
+    pub fn name_start(&mut self) -> Result<u8, ReadStop>
         ensures reads { Reads (λ b. b) (byte spec.is_name_start self.old.rest.now) result
             self.new.rest.now }
         ensures memory { result ≡ Err stop.NoMemory → ⊥ }
@@ -171,12 +171,12 @@ impl<'a> Reader<'a> {
                 self.rest = rest;
                 Ok(*first)
             }
-            _ => Err(Stop::Unexpected),
+            _ => Err(ReadStop::Unexpected),
         }
     }
 
     /// The next byte, if it is a name's length.
-    pub fn name_length(&mut self) -> Result<u8, Stop>
+    pub fn name_length(&mut self) -> Result<u8, ReadStop>
         ensures reads { Reads (λ b. b) (byte spec.is_name_length self.old.rest.now) result
             self.new.rest.now }
         ensures memory { result ≡ Err stop.NoMemory → ⊥ }
@@ -186,12 +186,12 @@ impl<'a> Reader<'a> {
                 self.rest = rest;
                 Ok(*first)
             }
-            _ => Err(Stop::Unexpected),
+            _ => Err(ReadStop::Unexpected),
         }
     }
 
     // The next byte, if it may stand there.
-    fn one_of(&mut self, alphabet: Alphabet) -> Result<u8, Stop>
+    fn one_of(&mut self, alphabet: Alphabet) -> Result<u8, ReadStop>
         ensures reads { Reads (λ b. b) (byte (may_stand alphabet) self.old.rest.now) result
             self.new.rest.now }
         ensures memory { result ≡ Err stop.NoMemory → ⊥ }
@@ -201,12 +201,12 @@ impl<'a> Reader<'a> {
                 self.rest = rest;
                 Ok(*first)
             }
-            _ => Err(Stop::Unexpected),
+            _ => Err(ReadStop::Unexpected),
         }
     }
 
     /// So many bytes, each of which may stand there.
-    pub fn run(&mut self, alphabet: Alphabet, count: usize) -> Result<&'a [u8], Stop>
+    pub fn run(&mut self, alphabet: Alphabet, count: usize) -> Result<&'a [u8], ReadStop>
         ensures reads { Reads (λ s. s.now) (run (may_stand alphabet) count self.old.rest.now) result
             self.new.rest.now }
         ensures memory { result ≡ Err stop.NoMemory → ⊥ }

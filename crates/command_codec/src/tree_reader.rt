@@ -7,11 +7,11 @@ ghost use Rattle.cond_expr.specs.Trees.{all_of, some_of, fails};
 ghost use Rattle.cond_expr.specs.Seen.{tree, test, trees_of, tests_of};
 ghost use Rattle.command_spelling.specs.Reading.{byte, digits, map_to, pair, items, listed};
 ghost use Rattle.command_spelling.specs.Reader as spec;
-ghost use Rattle.command_codec.specs.declared.reader.Stop.TheVariants as stop;
+ghost use Rattle.command_codec.specs.declared.reader.ReadStop.TheVariants as stop;
 ghost use Rattle.command_codec.specs.Reads.{Reads};
 
 use crate::field::{name, sign, value};
-use crate::reader::{Reader, Stop};
+use crate::reader::{ReadStop, Reader};
 use cond_expr::{ColRef, Cond, Expr, Whose};
 use prima_base::limits::MAX_DEPTH;
 use std::alloc::Global;
@@ -21,7 +21,7 @@ pub const MOST_LEVELS: u32 = MAX_DEPTH as u32;
 
 /// The tag of an expression. Where no level may stand below it, LENGTH and CASE cannot stand. It
 /// takes no memory.
-pub fn expr_tag(reader: &mut Reader<'_>, deeper: bool) -> Result<u8, Stop>
+pub fn expr_tag(reader: &mut Reader<'_>, deeper: bool) -> Result<u8, ReadStop>
     ensures reads { Reads (λ b. b) (byte (spec.is_expr_tag deeper) reader.old.rest.now) result
         reader.new.rest.now }
     ensures memory { result ≡ Err stop.NoMemory → ⊥ }
@@ -34,13 +34,13 @@ pub fn expr_tag(reader: &mut Reader<'_>, deeper: bool) -> Result<u8, Stop>
             reader.rest = rest;
             Ok(*first)
         }
-        _ => Err(Stop::Unexpected),
+        _ => Err(ReadStop::Unexpected),
     }
 }
 
 /// The tag of a condition. Where no level may stand below it, comparisons and NOT cannot stand. It
 /// takes no memory.
-pub fn cond_tag(reader: &mut Reader<'_>, deeper: bool) -> Result<u8, Stop>
+pub fn cond_tag(reader: &mut Reader<'_>, deeper: bool) -> Result<u8, ReadStop>
     ensures reads { Reads (λ b. b) (byte (spec.is_cond_tag deeper) reader.old.rest.now) result
         reader.new.rest.now }
     ensures memory { result ≡ Err stop.NoMemory → ⊥ }
@@ -53,13 +53,18 @@ pub fn cond_tag(reader: &mut Reader<'_>, deeper: bool) -> Result<u8, Stop>
             reader.rest = rest;
             Ok(*first)
         }
-        _ => Err(Stop::Unexpected),
+        _ => Err(ReadStop::Unexpected),
     }
 }
 
 /// How many parts stand in a list, where it has any only if a level may stand below. It takes no
 /// memory.
-pub fn part_count(reader: &mut Reader<'_>, width: u32, most: u64, deeper: bool) -> Result<u64, Stop>
+pub fn part_count(
+    reader: &mut Reader<'_>,
+    width: u32,
+    most: u64,
+    deeper: bool,
+) -> Result<u64, ReadStop>
     requires { width ≤ 8 }
     ensures reads { Reads (λ n. n) (digits (spec.most_parts deeper most) width 0
         reader.old.rest.now) result reader.new.rest.now }
@@ -69,7 +74,7 @@ pub fn part_count(reader: &mut Reader<'_>, width: u32, most: u64, deeper: bool) 
 }
 
 // A column.
-fn column(alloc: Global, reader: &mut Reader<'_>) -> Result<Expr, Stop>
+fn column(alloc: Global, reader: &mut Reader<'_>) -> Result<Expr, ReadStop>
     ensures { Reads tree (map_to (λ n. column (Atom 0) n) spec.name reader.old.rest.now) result
         reader.new.rest.now }
 {
@@ -79,15 +84,21 @@ fn column(alloc: Global, reader: &mut Reader<'_>) -> Result<Expr, Stop>
 }
 
 // A constant.
-fn constant(alloc: Global, reader: &mut Reader<'_>) -> Result<Expr, Stop>
-    ensures { Reads tree (map_to constant spec.value reader.old.rest.now) result reader.new.rest.now }
+fn constant(alloc: Global, reader: &mut Reader<'_>) -> Result<Expr, ReadStop>
+    ensures { Reads tree (map_to constant spec.value reader.old.rest.now) result
+        reader.new.rest.now }
 {
     Ok(Expr::Const(value(alloc, reader)?))
 }
 
 // So many expressions, each of at most so many levels.
 #[cycle(reads)]
-fn exprs(alloc: Global, reader: &mut Reader<'_>, count: u64, levels: u32) -> Result<Vec<Expr>, Stop>
+fn exprs(
+    alloc: Global,
+    reader: &mut Reader<'_>,
+    count: u64,
+    levels: u32,
+) -> Result<Vec<Expr>, ReadStop>
     ensures { Reads (λ v. map tree v.items) (items (spec.level levels).expr count
         reader.old.rest.now) result reader.new.rest.now }
 {
@@ -100,7 +111,12 @@ fn exprs(alloc: Global, reader: &mut Reader<'_>, count: u64, levels: u32) -> Res
 
 // So many conditions, each of at most so many levels.
 #[cycle(reads)]
-fn conds(alloc: Global, reader: &mut Reader<'_>, count: u64, levels: u32) -> Result<Vec<Cond>, Stop>
+fn conds(
+    alloc: Global,
+    reader: &mut Reader<'_>,
+    count: u64,
+    levels: u32,
+) -> Result<Vec<Cond>, ReadStop>
     ensures { Reads (λ v. map test v.items) (items (spec.level levels).cond count
         reader.old.rest.now) result reader.new.rest.now }
 {
@@ -113,7 +129,7 @@ fn conds(alloc: Global, reader: &mut Reader<'_>, count: u64, levels: u32) -> Res
 
 // LENGTH, whose part has at most so many levels.
 #[cycle(reads)]
-fn length(alloc: Global, reader: &mut Reader<'_>, levels: u32) -> Result<Expr, Stop>
+fn length(alloc: Global, reader: &mut Reader<'_>, levels: u32) -> Result<Expr, ReadStop>
     ensures { Reads tree (map_to length_of (spec.level levels).expr reader.old.rest.now) result
         reader.new.rest.now }
 {
@@ -123,7 +139,7 @@ fn length(alloc: Global, reader: &mut Reader<'_>, levels: u32) -> Result<Expr, S
 
 // CONCAT, whose parts have at most so many levels.
 #[cycle(reads)]
-fn concat(alloc: Global, reader: &mut Reader<'_>, levels: u32) -> Result<Expr, Stop>
+fn concat(alloc: Global, reader: &mut Reader<'_>, levels: u32) -> Result<Expr, ReadStop>
     ensures { Reads tree (map_to (λ l. joined (trees_of l))
         (listed 1 (spec.most_parts (nat_lt 0 levels) 255) (spec.level levels).expr)
         reader.old.rest.now) result reader.new.rest.now }
@@ -135,7 +151,7 @@ fn concat(alloc: Global, reader: &mut Reader<'_>, levels: u32) -> Result<Expr, S
 
 // CASE, whose parts have at most so many levels.
 #[cycle(reads)]
-fn case(alloc: Global, reader: &mut Reader<'_>, levels: u32) -> Result<Expr, Stop>
+fn case(alloc: Global, reader: &mut Reader<'_>, levels: u32) -> Result<Expr, ReadStop>
     ensures { Reads tree (map_to spec.chosen
         (pair (pair (spec.level levels).cond (spec.level levels).expr) (spec.level levels).expr)
         reader.old.rest.now) result reader.new.rest.now }
@@ -149,7 +165,7 @@ fn case(alloc: Global, reader: &mut Reader<'_>, levels: u32) -> Result<Expr, Sto
 // An expression whose parts have at most so many levels.
 #[cycle(reads)]
 #[tactic(auto, unfolding(command_spelling::specs::Reader::expr))]
-fn expr_over(alloc: Global, reader: &mut Reader<'_>, levels: u32) -> Result<Expr, Stop>
+fn expr_over(alloc: Global, reader: &mut Reader<'_>, levels: u32) -> Result<Expr, ReadStop>
     ensures { Reads tree (spec.expr (nat_lt 0 levels) (spec.level levels) reader.old.rest.now)
         result reader.new.rest.now }
 {
@@ -164,18 +180,18 @@ fn expr_over(alloc: Global, reader: &mut Reader<'_>, levels: u32) -> Result<Expr
 
 // An expression of at most so many levels.
 #[cycle(reads)]
-fn expr(alloc: Global, reader: &mut Reader<'_>, levels: u32) -> Result<Expr, Stop>
+fn expr(alloc: Global, reader: &mut Reader<'_>, levels: u32) -> Result<Expr, ReadStop>
     ensures { Reads tree ((spec.level levels).expr reader.old.rest.now) result reader.new.rest.now }
 {
     if levels == 0 {
-        return Err(Stop::Unexpected);
+        return Err(ReadStop::Unexpected);
     }
     expr_over(alloc, reader, levels - 1)
 }
 
 // A comparison, whose sides have at most so many levels.
 #[cycle(reads)]
-fn comparison(alloc: Global, reader: &mut Reader<'_>, levels: u32) -> Result<Cond, Stop>
+fn comparison(alloc: Global, reader: &mut Reader<'_>, levels: u32) -> Result<Cond, ReadStop>
     ensures { Reads test (map_to spec.comparison
         (pair (pair spec.sign (spec.level levels).expr) (spec.level levels).expr)
         reader.old.rest.now) result reader.new.rest.now }
@@ -188,7 +204,7 @@ fn comparison(alloc: Global, reader: &mut Reader<'_>, levels: u32) -> Result<Con
 
 // The conditions of an AND or an OR, each of at most so many levels.
 #[cycle(reads)]
-fn parts(alloc: Global, reader: &mut Reader<'_>, levels: u32) -> Result<Vec<Cond>, Stop>
+fn parts(alloc: Global, reader: &mut Reader<'_>, levels: u32) -> Result<Vec<Cond>, ReadStop>
     ensures { Reads (λ v. map test v.items) (listed 2 (spec.most_parts (nat_lt 0 levels) 65535)
         (spec.level levels).cond reader.old.rest.now) result reader.new.rest.now }
 {
@@ -198,7 +214,7 @@ fn parts(alloc: Global, reader: &mut Reader<'_>, levels: u32) -> Result<Vec<Cond
 
 // NOT, whose part has at most so many levels.
 #[cycle(reads)]
-fn negation(alloc: Global, reader: &mut Reader<'_>, levels: u32) -> Result<Cond, Stop>
+fn negation(alloc: Global, reader: &mut Reader<'_>, levels: u32) -> Result<Cond, ReadStop>
     ensures { Reads test (map_to fails (spec.level levels).cond reader.old.rest.now) result
         reader.new.rest.now }
 {
@@ -209,7 +225,7 @@ fn negation(alloc: Global, reader: &mut Reader<'_>, levels: u32) -> Result<Cond,
 // A condition whose parts have at most so many levels.
 #[cycle(reads)]
 #[tactic(auto, unfolding(command_spelling::specs::Reader::cond))]
-fn cond_over(alloc: Global, reader: &mut Reader<'_>, levels: u32) -> Result<Cond, Stop>
+fn cond_over(alloc: Global, reader: &mut Reader<'_>, levels: u32) -> Result<Cond, ReadStop>
     ensures { Reads test (spec.cond (nat_lt 0 levels) (spec.level levels) reader.old.rest.now)
         result reader.new.rest.now }
 {
@@ -225,18 +241,18 @@ fn cond_over(alloc: Global, reader: &mut Reader<'_>, levels: u32) -> Result<Cond
 
 // A condition of at most so many levels.
 #[cycle(reads)]
-fn cond(alloc: Global, reader: &mut Reader<'_>, levels: u32) -> Result<Cond, Stop>
+fn cond(alloc: Global, reader: &mut Reader<'_>, levels: u32) -> Result<Cond, ReadStop>
     ensures { Reads test ((spec.level levels).cond reader.old.rest.now) result reader.new.rest.now }
 {
     if levels == 0 {
-        return Err(Stop::Unexpected);
+        return Err(ReadStop::Unexpected);
     }
     cond_over(alloc, reader, levels - 1)
 }
 
 /// An expression.
 #[tactic(auto, unfolding(command_spelling::specs::Reader::outermost))]
-pub fn outer_expr(alloc: Global, reader: &mut Reader<'_>) -> Result<Expr, Stop>
+pub fn outer_expr(alloc: Global, reader: &mut Reader<'_>) -> Result<Expr, ReadStop>
     ensures { Reads tree (spec.outermost.expr reader.old.rest.now) result reader.new.rest.now }
 {
     expr(alloc, reader, MOST_LEVELS)
@@ -244,7 +260,7 @@ pub fn outer_expr(alloc: Global, reader: &mut Reader<'_>) -> Result<Expr, Stop>
 
 /// A condition.
 #[tactic(auto, unfolding(command_spelling::specs::Reader::outermost))]
-pub fn outer_cond(alloc: Global, reader: &mut Reader<'_>) -> Result<Cond, Stop>
+pub fn outer_cond(alloc: Global, reader: &mut Reader<'_>) -> Result<Cond, ReadStop>
     ensures { Reads test (spec.outermost.cond reader.old.rest.now) result reader.new.rest.now }
 {
     cond(alloc, reader, MOST_LEVELS)

@@ -5,16 +5,16 @@ ghost use Rattle.prima_base.specs.Bytes.{IsTxt};
 ghost use Rattle.prima_base.specs.Columns.{IsValid};
 ghost use Rattle.prima_base.specs.Order.{shown, IsBorrowed};
 ghost use Rattle.command_spelling.specs.Reader as spec;
-ghost use Rattle.command_codec.specs.declared.reader.Stop.TheVariants as stop;
+ghost use Rattle.command_codec.specs.declared.reader.ReadStop.TheVariants as stop;
 ghost use Rattle.command_codec.specs.Reads.{Reads};
 
-use crate::reader::{Alphabet, Reader, Stop};
+use crate::reader::{Alphabet, ReadStop, Reader};
 use prima_base::Val;
 use prima_base::limits::MAX_TEXT;
 
 /// A text, where it stands in the bytes. It takes no memory.
 #[tactic(auto, unfolding(command_spelling::specs::Reader::text))]
-pub fn borrowed_text<'a>(reader: &mut Reader<'a>) -> Result<&'a [u8], Stop>
+pub fn borrowed_text<'a>(reader: &mut Reader<'a>) -> Result<&'a [u8], ReadStop>
     ensures reads { Reads (λ s. s.now) (spec.text reader.old.rest.now) result reader.new.rest.now }
     ensures valid { IfOk result (λ s. IsTxt s.now) }
     ensures memory { result ≡ Err stop.NoMemory → ⊥ }
@@ -26,7 +26,7 @@ pub fn borrowed_text<'a>(reader: &mut Reader<'a>) -> Result<&'a [u8], Stop>
 
 /// A value; a text where it stands in the bytes. It takes no memory.
 #[tactic(auto, unfolding(command_spelling::specs::Reader::value, command_spelling::specs::Reader::number_64))]
-pub fn borrowed_value<'a>(reader: &mut Reader<'a>) -> Result<Val<'a>, Stop>
+pub fn borrowed_value<'a>(reader: &mut Reader<'a>) -> Result<Val<'a>, ReadStop>
     ensures reads { Reads shown (spec.value reader.old.rest.now) result reader.new.rest.now }
     ensures valid { IfOk result (λ v. IsValid (shown v)) }
     ensures borrowed { IfOk result IsBorrowed }

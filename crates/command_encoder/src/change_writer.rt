@@ -118,7 +118,8 @@ fn write_update(
     requires { IsWritableChange (update table.now (sets_of sets.now) (test cond.now)) }
     ensures ok { OnOk result (out.new.items ≡ out.old.items
         ++ change_bytes (update table.now (sets_of sets.now) (test cond.now))) }
-    ensures named { OnOk result (ChangeNamed (update table.now (sets_of sets.now) (test cond.now))) }
+    ensures named { OnOk result (ChangeNamed (update table.now (sets_of sets.now)
+        (test cond.now))) }
 {
     tagged_name(out, 2, table)?;
     write_sets(out, sets)?;
@@ -129,7 +130,8 @@ fn write_update(
 // A change.
 fn write_change(out: &mut Vec<u8>, change: &Change) -> Result<(), NoMemory>
     requires { IsWritableChange (change_of change.now) }
-    ensures ok { OnOk result (out.new.items ≡ out.old.items ++ change_bytes (change_of change.now)) }
+    ensures ok { OnOk result (out.new.items ≡ out.old.items
+        ++ change_bytes (change_of change.now)) }
     ensures named { OnOk result (ChangeNamed (change_of change.now)) }
 {
     match change {

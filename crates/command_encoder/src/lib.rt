@@ -1,8 +1,9 @@
 //! Commands as bytes: writing them. Which bytes they are says command_spelling, with its laws.
 //!
-//! `encode` writes a command, `encode_changes` and `encode_operator` one by its parts, and `put_name`, `put_value` and `put_op` append a part, all or none.
-//! The functions `put`, `put_u32`, `put_u64` and those that begin with `write` are for who writes a
-//! larger format into a buffer of its own.
+//! `encode` writes a command, `encode_changes` and `encode_operator` one by its parts, and
+//! `put_name`, `put_value` and `put_op` append a part, all or none. The functions `put`, `put_u32`,
+//! `put_u64` and those that begin with `write` are for who writes a larger format into a buffer of
+//! its own.
 #![tactic(auto)]
 
 mod change_writer;

@@ -243,7 +243,8 @@ fn write_added(out: &mut Vec<u8>, column: &Name, expr: &Expr, table: &Name) -> R
 /// `NoMemory`, where memory runs out; a part of it may then stand there.
 pub fn write_op(out: &mut Vec<u8>, op: &Op) -> Result<(), NoMemory>
     requires { IsWritableOperator (operator_of op.now) }
-    ensures ok { OnOk result (out.new.items ≡ out.old.items ++ operator_bytes (operator_of op.now)) }
+    ensures ok { OnOk result (out.new.items ≡ out.old.items
+        ++ operator_bytes (operator_of op.now)) }
     ensures named { OnOk result (OperatorNamed (operator_of op.now)) }
 {
     match op {

@@ -144,7 +144,8 @@ fn decomposed_size(
     right_columns: &[Name],
 ) -> u64
     ensures { result ≡ min (length (operator_bytes
-        (decompose_table table.now left.now left_columns.now right.now right_columns.now))) u64.MAX }
+        (decompose_table table.now left.now left_columns.now right.now right_columns.now)))
+        u64.MAX }
 {
     let columns = names_size(left_columns).saturating_add(names_size(right_columns));
     columns.saturating_add(name_size(table) + name_size(left) + name_size(right) + 3)

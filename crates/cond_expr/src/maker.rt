@@ -1,3 +1,5 @@
+//! Expressions and conditions, made of their parts.
+
 use crate::{CmpOp, Cond, Expr};
 use prima_base::NoMemory;
 use std::alloc::Global;

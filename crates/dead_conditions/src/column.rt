@@ -31,7 +31,8 @@ struct Refuses<'a> {
 }
 
 impl PartTest for Refuses<'_> {
-    ghost passes = { λ r t. not (lets r.column.atom r.column.name.now (tried_value r.tried.now) t) };
+    ghost passes = { λ r t. not (lets r.column.atom r.column.name.now
+        (tried_value r.tried.now) t) };
 
     #[tactic(auto, using(crate::proofs::PartLists::refused, crate::proofs::PartLists::not_refused, crate::proofs::PartLists::valid_limit))]
     fn passes(&self, part: &Cond) -> bool {

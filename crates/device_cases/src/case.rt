@@ -19,7 +19,7 @@ struct Case {
     file: Vec<u8>,
     script: Vec<u8>,
     later: Vec<u8>,
-    piece: u64,
+    chunk: u64,
     answers: Vec<u8>,
 }
 
@@ -41,7 +41,7 @@ impl Case {
             file: Vec::new(alloc),
             script: Vec::new(alloc),
             later: Vec::new(alloc),
-            piece: 7,
+            chunk: 7,
             answers: Vec::new(alloc),
         }
     }
@@ -50,7 +50,7 @@ impl Case {
         self.file.clear();
         self.script.clear();
         self.later.clear();
-        self.piece = 7;
+        self.chunk = 7;
         self.words(b" run")?;
         self.answers.extend_from_slice(b"== ")?;
         self.answers.extend_from_slice(name)?;
@@ -112,7 +112,7 @@ impl Case {
     // Runs the case's script over the device of this kind and number.
     fn play_over(&self, kind: Kind, number: u64) -> Result<Played, NoMemory> {
         let mut devices = Devices::sure(self.alloc);
-        devices.piece = self.piece as usize;
+        devices.chunk = self.chunk as usize;
         match kind {
             Kind::Source => devices.failing_takes.push(number)?,
             Kind::Sink => devices.failing_puts.push(number)?,
@@ -146,8 +146,8 @@ impl LinePlayer for Case {
             Line::Words(list) => self.words(list),
             Line::Script(text) => put_line(text, &mut self.script),
             Line::Later(text) => put_line(text, &mut self.later),
-            Line::Piece(most) => {
-                self.piece = most;
+            Line::Chunk(most) => {
+                self.chunk = most;
                 Ok(())
             }
             Line::Run => self.run(),

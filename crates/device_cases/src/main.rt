@@ -15,7 +15,7 @@
 //!   them it carries out again;
 //! - `later TEXT` puts a line after those of the script that is run afterwards over the file that
 //!   is left;
-//! - `piece N`: the source hands out at most N bytes a call;
+//! - `chunk N`: the source hands out at most N bytes a call;
 //! - `sources` runs the script, over the file each time, over sources that fail at their first
 //!   call, at their second one, and so on;
 //! - `sinks` runs it over sinks that fail so;

@@ -18,7 +18,7 @@ use std::sync::ledger::{Blank, Ledger};
 const ROOM: usize = 1 << 12;
 
 // How many bytes a source hands out at once that is told no other number.
-const PIECE: usize = 7;
+const CHUNK: usize = 7;
 
 // How many writes and syncs a disk has room for that fails at none of them.
 const DISK_CALLS: u64 = 1 << 12;
@@ -38,7 +38,7 @@ pub(crate) struct Runs<'a> {
 /// counted from 0, the sink's room, and how many writes and syncs the disk has before it fails.
 #[derive(Drop)]
 pub(crate) struct Devices {
-    pub(crate) piece: usize,
+    pub(crate) chunk: usize,
     pub(crate) failing_takes: Vec<u64>,
     pub(crate) failing_puts: Vec<u64>,
     pub(crate) room: usize,
@@ -49,7 +49,7 @@ impl Devices {
     /// Devices that do not fail.
     pub(crate) fn sure(alloc: Global) -> Devices {
         Devices {
-            piece: PIECE,
+            chunk: CHUNK,
             failing_takes: Vec::new(alloc),
             failing_puts: Vec::new(alloc),
             room: ROOM,
@@ -85,7 +85,7 @@ fn run_over<D: Disk>(
         return Err(NoMemory);
     };
     let bytes = Vec::from_slice(alloc, runs.script)?;
-    let mut source = MemSource::new(bytes, devices.piece.max(1), devices.failing_takes);
+    let mut source = MemSource::new(bytes, devices.chunk.max(1), devices.failing_takes);
     let mut sink = MemSink::new(alloc, devices.room, devices.failing_puts)?;
     let status: Status = run(alloc, runs.words, &book, &mut source, &mut sink, disk);
     Ok(Ended {

@@ -1,3 +1,5 @@
+//! A borrowed disk is a disk: each call goes to the disk that it borrows.
+
 use crate::{Disk, Failed};
 
 impl<D: Disk> Disk for &mut D {

@@ -41,7 +41,8 @@ fn copy_at<'a>(values: &[Value], at: usize) -> Result<Val<'a>, NoMemory>
 fn copy_val_at<'a>(values: &[Val<'a>], at: usize) -> Result<Val<'a>, NoMemory>
     requires within { at < length values.now }
     requires valid { All (λ v. IsValid (shown v)) values.now }
-    ensures value { IfOk result (λ v. shown v ≡ slice_index_or (map shown values.now) at (shown v)) }
+    ensures value { IfOk result (λ v. shown v
+        ≡ slice_index_or (map shown values.now) at (shown v)) }
     ensures valid { IfOk result (λ v. IsValid (shown v)) }
     ensures borrowed { All IsBorrowed values.now → IfOk result IsBorrowed }
 {

@@ -99,9 +99,9 @@ impl StoredTable {
     ghost use Rattle.row_writes.specs.Writing.{new_keys};
     ghost use Rattle.row_order.specs.Handing.{handed, only_in};
     ghost use Rattle.table_meaning.specs.Handing.{written};
-    ghost use Rattle.table_meaning.specs.Change.{PreparedChange, IsPlan, rows_after, rows_along};
-    ghost use Rattle.table_meaning.specs.Change.{changed, keys_after, cells_after, write_rows};
-    ghost use Rattle.table_meaning.specs.Change.{no_cells};
+    ghost use Rattle.table_meaning.specs.Change.{PreparedChange, IsPrepared, rows_after};
+    ghost use Rattle.table_meaning.specs.Change.{rows_along, changed, keys_after, cells_after};
+    ghost use Rattle.table_meaning.specs.Change.{write_rows, no_cells};
     ghost use Rattle.history_store.specs.Scans.{keys_from};
     ghost use Rattle.row_order.specs.Cuts.{between};
     ghost use Rattle.table_meaning.specs.Restoring.{store_with, IsInOrder};
@@ -165,7 +165,8 @@ impl StoredTable {
         requires valid { All (All (λ c. IsValid c.value)) (entries_of cells.items) }
         requires order { IsInOrder keys.items (entries_of cells.items) order.now }
         ensures table { IfOk result (λ t. t ≡ record
-            (store_with columns.now keys.items (entries_of cells.entry.items)) { spare = t.spare }) }
+            (store_with columns.now keys.items (entries_of cells.entry.items))
+            { spare = t.spare }) }
         ensures valid { IfOk result (λ t. IsStore t) }
     {
         check_cells(&cells)?;
@@ -206,7 +207,7 @@ impl StoredTable {
         after: After,
     ) -> Result<Prepared<'a>, NoMemory>
         ensures same { self.new ≡ record self.old { spare = self.new.spare } }
-        ensures plan { IfOk result (λ p. p ≡ record {
+        ensures made { IfOk result (λ p. p ≡ record {
           stamp = stamp;
           lost = lost.items;
           gained = gained.entry.items;
@@ -234,10 +235,11 @@ impl StoredTable {
         requires relation { IsRelation self.old.columns rows.now }
         ensures same { self.new ≡ record self.old { spare = self.new.spare } }
         ensures stamp { IfOk result (λ p. p.stamp ≡ stamp) }
-        ensures fits { IfOk result (λ p. IsPlan self.new p) }
+        ensures fits { IfOk result (λ p. IsPrepared self.new p) }
         ensures lost { IfOk result (λ p. rows_along p.lost stamp self.old.cells
             ≡ only_in (relation_at self.old stamp) rows.now) }
-        ensures gained { IfOk result (λ p. p.gained ≡ only_in rows.now (relation_at self.old stamp)) }
+        ensures gained { IfOk result (λ p. p.gained
+            ≡ only_in rows.now (relation_at self.old stamp)) }
         ensures leads { IfOk result (λ p. rows_after self.new p ≡ rows.now) }
         ensures room { IfOk result (λ p. length p.gained ≤ self.new.spare) }
         ensures spare { self.old.spare ≤ self.new.spare }
@@ -275,7 +277,7 @@ impl StoredTable {
             → In row (relation_at self.old stamp) → ⊥ }
         ensures same { self.new ≡ record self.old { spare = self.new.spare } }
         ensures stamp { IfOk result (λ p. p.stamp ≡ stamp) }
-        ensures fits { IfOk result (λ p. IsPlan self.new p) }
+        ensures fits { IfOk result (λ p. IsPrepared self.new p) }
         ensures lost { IfOk result (λ p. rows_along p.lost stamp self.old.cells ≡ lost.now) }
         ensures gained { IfOk result (λ p. p.gained ≡ gained.entry.items) }
         ensures leads { IfOk result (λ p. rows_after self.new p
@@ -312,7 +314,7 @@ impl StoredTable {
         requires relation { IsRelation self.old.columns rows.items }
         ensures same { self.new ≡ record self.old { spare = self.new.spare } }
         ensures stamp { IfOk result (λ p. p.stamp ≡ stamp) }
-        ensures fits { IfOk result (λ p. IsPlan self.new p) }
+        ensures fits { IfOk result (λ p. IsPrepared self.new p) }
         ensures lost { IfOk result (λ p. p.lost ≡ []) }
         ensures gained { IfOk result (λ p. p.gained
             ≡ only_in rows.entry.items (relation_at self.old stamp)) }
@@ -344,7 +346,7 @@ impl StoredTable {
     /// stay where no more rows are lost, and no more gained, than are few in the table: 64, or one
     /// in 64 of its rows where that is more. Else they go, since to sort the ids anew costs less.
     pub fn install(&mut self, prepared: Prepared<'_>)
-        requires fits { IsPlan self.old prepared }
+        requires fits { IsPrepared self.old prepared }
         requires room { length prepared.gained ≤ self.old.spare }
         ensures columns { self.new.columns ≡ self.old.columns }
         ensures keys { self.new.keys ≡ keys_after self.old prepared.entry }

@@ -3,8 +3,8 @@ use Rattle.std.proofs.Common.{◌≡◌, ℕ, Bool, true, false, cond, List, [],
 use Rattle.std.proofs.Common.{append-nil}
 use Rattle.command_spelling.specs.Reading.{Out, Parsed, Unexpected, Parser, and_then, pure, map_to}
 use Rattle.command_spelling.specs.Reading.{prepend}
-use Rattle.command_codec.specs.declared.reader.Stop.{Stop}
-use Rattle.command_codec.specs.declared.reader.Stop.TheVariants as stop
+use Rattle.command_codec.specs.declared.reader.ReadStop.{ReadStop}
+use Rattle.command_codec.specs.declared.reader.ReadStop.TheVariants as stop
 use Rattle.command_codec.specs.Reads.{Fails}
 use Rattle.command_codec.proofs.ReadSteps.{prepend_more}
 use Rattle.image_spelling.specs.Items.{named_at, item, if_right, judged}
@@ -14,7 +14,7 @@ module _ {A : Type 0} (p : Parser A) where
   item_got a ts rest e = ap (named_at ts) e
 
   -- where an item is not read the reader is set back to its first byte
-  pub item_fails : (e : Stop) (ts rest : List ℕ) → Fails (p ts) e rest → Fails (item p ts) e ts
+  pub item_fails : (e : ReadStop) (ts rest : List ℕ) → Fails (p ts) e rest → Fails (item p ts) e ts
   item_fails stop.NoMemory ts rest h = tt
   item_fails stop.Unexpected ts rest h = ap (named_at ts) h
 
@@ -28,7 +28,7 @@ module _ {A : Type 0} (p : Parser A) where
   judged_wrong right a ts rest e h = ap (λ o. named_at ts (if_right ts right o)) e
       ∙ ap (λ b. named_at ts (cond b (Parsed a rest) (Unexpected ts))) h
 
-  pub judged_fails : (right : A → Bool) (e : Stop) (ts rest : List ℕ) → Fails (p ts) e rest
+  pub judged_fails : (right : A → Bool) (e : ReadStop) (ts rest : List ℕ) → Fails (p ts) e rest
       → Fails (item (judged right p) ts) e ts
   judged_fails right stop.NoMemory ts rest h = tt
   judged_fails right stop.Unexpected ts rest h = ap (λ o. named_at ts (if_right ts right o)) h
@@ -55,7 +55,7 @@ module _ {A : Type 0} (whole : Out (List A)) (l : List A) (p : Parser A) (ts : L
   one_more a rest e = so ∙ ap (λ o. prepend l (and_then o (λ a. map_to (λ m. a ∷ m) (f a)))) e
       ∙ ap (prepend l) (one_before a (f a rest)) ∙ prepend_more l (a ∷ []) (f a rest)
 
-  pub no_more : (e : Stop) (new : List ℕ) → Fails (p ts) e new → Fails whole e new
+  pub no_more : (e : ReadStop) (new : List ℕ) → Fails (p ts) e new → Fails whole e new
   no_more stop.NoMemory new h = tt
   no_more stop.Unexpected new h = so ∙ ap (λ o.
       prepend l (and_then o (λ a. map_to (λ m. a ∷ m) (f a)))) h
@@ -71,12 +71,12 @@ stuck_after whole l ts so = so
 -- ---- a count in prefix
 
 module _ {A B : Type 0} (p : Parser A) (f : A → Parser B) (ts : List ℕ) where
-  pub counted_fails : (e : Stop) (rest : List ℕ) → Fails (p ts) e rest
+  pub counted_fails : (e : ReadStop) (rest : List ℕ) → Fails (p ts) e rest
       → Fails (and_then (p ts) f) e rest
   counted_fails stop.NoMemory rest h = tt
   counted_fails stop.Unexpected rest h = ap (λ o. and_then o f) h
 
-  pub after_fails : (a : A) (us : List ℕ) → p ts ≡ Parsed a us → (e : Stop) (rest : List ℕ)
+  pub after_fails : (a : A) (us : List ℕ) → p ts ≡ Parsed a us → (e : ReadStop) (rest : List ℕ)
       → Fails (f a us) e rest → Fails (and_then (p ts) f) e rest
   after_fails a us g stop.NoMemory rest h = tt
   after_fails a us g stop.Unexpected rest h = ap (λ o. and_then o f) g ∙ h

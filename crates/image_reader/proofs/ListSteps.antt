@@ -14,7 +14,7 @@ use Rattle.smo_types.specs.declared.version.Version.{Version}
 use Rattle.smo_meaning.specs.Past.{no_tables, newest_from}
 use Rattle.command_spelling.specs.Reading.{Out, Parsed, Unexpected, Parser, and_then, map_to, items}
 use Rattle.command_spelling.specs.Reading.{prepend}
-use Rattle.command_codec.specs.declared.reader.Stop.{Stop}
+use Rattle.command_codec.specs.declared.reader.ReadStop.{ReadStop}
 use Rattle.command_codec.specs.Reads.{Fails}
 use Rattle.lifelines.specs.Lifelines.{Lifeline}
 use Rattle.image_spelling.specs.Images.{StoredLine}
@@ -52,7 +52,8 @@ module _ {A : Type 0} (p : Parser A) (whole : Out (List A)) (l : List A) (count 
       → whole ≡ prepend (l ++ a ∷ []) (items p (count - (i + 1)) rest)
   item_taken a rest h e = one_more whole l p ts (λ a. items p (count - (i + 1))) (next h) a rest e
 
-  pub item_failed : (e : Stop) (new : List ℕ) → i < count → Fails (p ts) e new → Fails whole e new
+  pub item_failed : (e : ReadStop) (new : List ℕ) → i < count → Fails (p ts) e new
+      → Fails whole e new
   item_failed e new h f = no_more whole l p ts (λ a. items p (count - (i + 1))) (next h) e new f
 
   pub items_taken : count ≤ i → whole ≡ Parsed l ts
@@ -124,7 +125,7 @@ module _ (last : Option ℕ) (type : ColType) (whole : Out (List Cell)) (l : Lis
         step true = refl
         step false = refl
 
-    pub entry_failed : (e : Stop) (new : List ℕ) → Fails (spec.entry last type id left ts) e new
+    pub entry_failed : (e : ReadStop) (new : List ℕ) → Fails (spec.entry last type id left ts) e new
         → Fails whole e new
     entry_failed stop new f = no_more whole l (spec.entry last type id left) ts
         (after_entry (count - (i + 1)) left more) next_entry stop new f
@@ -173,7 +174,7 @@ module _ (last : Option ℕ) (keys : List Span) (whole : Out (List (List Cell)))
     column_taken cells rest f = one_more whole l (spec.column_entries last keys c.1) ts
         (λ cells. spec.columns last keys more) next_column cells rest f
 
-    pub column_failed : (stop : Stop) (new : List ℕ)
+    pub column_failed : (stop : ReadStop) (new : List ℕ)
         → Fails (spec.column_entries last keys c.1 ts) stop new → Fails whole stop new
     column_failed stop new f = no_more whole l (spec.column_entries last keys c.1) ts
         (λ cells. spec.columns last keys more) next_column stop new f
@@ -247,7 +248,7 @@ module _ (last : Option ℕ) (whole : Out (List PlainVersion)) (l : List PlainVe
       (λ v. spec.versions last (count - (i + 1)) (number + 1) (Some v.stamp) v.tables)
       (next_version h) v rest e
 
-  pub version_failed : (stop : Stop) (new : List ℕ) → i < count
+  pub version_failed : (stop : ReadStop) (new : List ℕ) → i < count
       → Fails (spec.version last number before tables ts) stop new → Fails whole stop new
   version_failed stop new h f = no_more whole l (spec.version last number before tables) ts
       (λ v. spec.versions last (count - (i + 1)) (number + 1) (Some v.stamp) v.tables)
@@ -307,7 +308,7 @@ module _ (last : Option ℕ) (whole : Out (List StoredLine)) (l : List StoredLin
     line_taken x rest f = one_more whole l (spec.stored_line last d) ts
         (λ x. spec.lines last (count - (i + 1)) more) next_line x rest f
 
-    pub line_failed : (stop : Stop) (new : List ℕ) → Fails (spec.stored_line last d ts) stop new
+    pub line_failed : (stop : ReadStop) (new : List ℕ) → Fails (spec.stored_line last d ts) stop new
         → Fails whole stop new
     line_failed stop new f = no_more whole l (spec.stored_line last d) ts
         (λ x. spec.lines last (count - (i + 1)) more) next_line stop new f

@@ -6,11 +6,11 @@ ghost use Rattle.image_spelling.specs.Items.{item};
 ghost use Rattle.image_spelling.specs.Reader as spec;
 ghost use Rattle.command_codec.specs.Reads.{Reads};
 
-use command_codec::{Reader, Stop};
+use command_codec::{ReadStop, Reader};
 
 /// A number of eight bytes.
 #[tactic(auto, unfolding(command_spelling::specs::Reader::number_64))]
-pub(crate) fn number_64(reader: &mut Reader<'_>) -> Result<u64, Stop>
+pub(crate) fn number_64(reader: &mut Reader<'_>) -> Result<u64, ReadStop>
     ensures { Reads (λ n. n) (parts.number_64 reader.old.rest.now) result reader.new.rest.now }
 {
     reader.number_64()
@@ -18,7 +18,7 @@ pub(crate) fn number_64(reader: &mut Reader<'_>) -> Result<u64, Stop>
 
 /// A count of four bytes. Where it is cut off the reader stands at its first byte.
 #[tactic(auto, unfolding(image_spelling::specs::Reader::number_32), using(crate::proofs::ItemSteps::item_got, crate::proofs::ItemSteps::item_fails))]
-pub(crate) fn count_32(reader: &mut Reader<'_>) -> Result<u64, Stop>
+pub(crate) fn count_32(reader: &mut Reader<'_>) -> Result<u64, ReadStop>
     ensures { Reads (λ n. n) (item spec.number_32 reader.old.rest.now) result reader.new.rest.now }
 {
     let start = reader.rest;
@@ -33,7 +33,7 @@ pub(crate) fn count_32(reader: &mut Reader<'_>) -> Result<u64, Stop>
 
 /// A count of eight bytes. Where it is cut off the reader stands at its first byte.
 #[tactic(auto, using(crate::proofs::ItemSteps::item_got, crate::proofs::ItemSteps::item_fails))]
-pub(crate) fn count_64(reader: &mut Reader<'_>) -> Result<u64, Stop>
+pub(crate) fn count_64(reader: &mut Reader<'_>) -> Result<u64, ReadStop>
     ensures { Reads (λ n. n) (item parts.number_64 reader.old.rest.now) result reader.new.rest.now }
 {
     let start = reader.rest;

@@ -13,7 +13,7 @@ ghost use Rattle.image_reader.specs.Due.{keys_left, IsNextDue};
 
 use crate::count::{count_64, number_64, room_for};
 use crate::key::{is_period, period};
-use command_codec::{Reader, Stop, borrowed_value};
+use command_codec::{ReadStop, Reader, borrowed_value};
 use history_store::Cell;
 use prima_base::{ColType, Name, Period, Val};
 use std::alloc::Global;
@@ -31,7 +31,7 @@ struct Unjudged<'a> {
 }
 
 // An entry, not yet judged.
-fn entry_read<'a>(reader: &mut Reader<'a>) -> Result<Unjudged<'a>, Stop>
+fn entry_read<'a>(reader: &mut Reader<'a>) -> Result<Unjudged<'a>, ReadStop>
     ensures { Reads unjudged_seen (map_to spec.cell_of
         (pair (pair parts.number_64 parts.value) spec.period) reader.old.rest.now) result
         reader.new.rest.now }
@@ -74,7 +74,7 @@ fn entry<'a>(
     kind: ColType,
     id: u64,
     left: Period,
-) -> Result<Cell<'a>, Stop>
+) -> Result<Cell<'a>, ReadStop>
     ensures reads { Reads cell_seen (spec.entry last kind id left reader.old.rest.now) result
         reader.new.rest.now }
     ensures within { IfOk result (λ c. c.period.end ≤ left.end) }
@@ -93,7 +93,7 @@ fn entry<'a>(
         }
         Ok(_) => {
             reader.rest = first;
-            Err(Stop::Unexpected)
+            Err(ReadStop::Unexpected)
         }
         Err(stop) => {
             reader.rest = first;
@@ -151,7 +151,7 @@ fn entries<'a>(
     kind: ColType,
     keys: &[Period],
     count: u64,
-) -> Result<Vec<Cell<'a>>, Stop>
+) -> Result<Vec<Cell<'a>>, ReadStop>
     ensures { Reads (λ v. map cell_seen v.items)
         (spec.entries last kind count 0 keys.now reader.old.rest.now) result reader.new.rest.now }
 {
@@ -159,14 +159,14 @@ fn entries<'a>(
     let mut due = first_due(keys);
     for _ in 0..count {
         let Some(left) = due.left else {
-            return Err(Stop::Unexpected);
+            return Err(ReadStop::Unexpected);
         };
         let cell = entry(reader, last, kind, due.id as u64, left)?;
         due = next_due(keys, due.id, left, cell.period);
         list.push(cell)?;
     }
     match due.left {
-        Some(_) => Err(Stop::Unexpected),
+        Some(_) => Err(ReadStop::Unexpected),
         None => Ok(list),
     }
 }
@@ -179,7 +179,7 @@ fn column_entries<'a>(
     last: Option<u64>,
     keys: &[Period],
     kind: ColType,
-) -> Result<Vec<Cell<'a>>, Stop>
+) -> Result<Vec<Cell<'a>>, ReadStop>
     ensures { Reads (λ v. map cell_seen v.items)
         (spec.column_entries last keys.now kind reader.old.rest.now) result reader.new.rest.now }
 {
@@ -194,7 +194,7 @@ pub(crate) fn columns<'a>(
     last: Option<u64>,
     keys: &[Period],
     columns: &[(Name, ColType)],
-) -> Result<Vec<Vec<Cell<'a>>>, Stop>
+) -> Result<Vec<Vec<Cell<'a>>>, ReadStop>
     ensures { Reads (λ v. cells_seen v.items)
         (spec.columns last keys.now columns.now reader.old.rest.now) result reader.new.rest.now }
 {

@@ -15,7 +15,7 @@ use crate::due::due_lines;
 use crate::line::{ReadLine, all_lines};
 use crate::stamp::last_stamp;
 use crate::version::all_versions;
-use command_codec::{Reader, Stop};
+use command_codec::{ReadStop, Reader};
 use image_spelling::{an_image_is_what_is_read, bytes_are_an_image_or_break};
 use smo_types::Versions;
 use std::alloc::Global;
@@ -35,7 +35,7 @@ fn lines_of<'a>(
     reader: &mut Reader<'a>,
     last: Option<u64>,
     versions: &Versions,
-) -> Result<Vec<ReadLine<'a>>, Stop>
+) -> Result<Vec<ReadLine<'a>>, ReadStop>
     requires { length versions.now.list.items < 2 ^ 32 }
     ensures lines { Reads (λ v. lines_seen (lifelines_of (versions_of versions.now)) v.items)
         (spec.all_lines last (lifelines_of (versions_of versions.now)) reader.old.rest.now) result
@@ -48,7 +48,7 @@ fn lines_of<'a>(
 
 // An image, which is all of the bytes.
 #[tactic(auto, unfolding(image_spelling::specs::Reader::image))]
-fn image<'a>(alloc: Global, reader: &mut Reader<'a>) -> Result<ReadImage<'a>, Stop>
+fn image<'a>(alloc: Global, reader: &mut Reader<'a>) -> Result<ReadImage<'a>, ReadStop>
     ensures image { Reads image_seen (spec.image reader.old.rest.now) result reader.new.rest.now }
     ensures order { IfOk result (λ it. All IsOrdered it.lines.items) }
 {
@@ -62,7 +62,7 @@ fn image<'a>(alloc: Global, reader: &mut Reader<'a>) -> Result<ReadImage<'a>, St
             lines,
         });
     }
-    Err(Stop::Unexpected)
+    Err(ReadStop::Unexpected)
 }
 
 /// What the image has that is all of these bytes. `BadAt` comes exactly where they are no image,
@@ -79,10 +79,10 @@ pub fn read(alloc: Global, bytes: &[u8]) -> Result<ReadImage<'_>, ImageFault>
             an_image_is_what_is_read();
             Ok(image)
         }
-        Err(Stop::Unexpected) => {
+        Err(ReadStop::Unexpected) => {
             bytes_are_an_image_or_break();
             Err(ImageFault::BadAt((bytes.len() - reader.rest.len()) as u64))
         }
-        Err(Stop::NoMemory) => Err(ImageFault::NoMemory),
+        Err(ReadStop::NoMemory) => Err(ImageFault::NoMemory),
     }
 }

@@ -8,7 +8,7 @@ ghost use Rattle.image_spelling.specs.Reader as spec;
 
 use crate::count::{count_64, number_64, room_for};
 use crate::stamp::{is_end, is_stamp};
-use command_codec::{Reader, Stop};
+use command_codec::{ReadStop, Reader};
 use prima_base::Period;
 use std::alloc::Global;
 
@@ -17,7 +17,7 @@ const LEAST_KEY: usize = 16;
 
 /// A start and an end.
 #[tactic(auto, unfolding(image_spelling::specs::Reader::period))]
-pub(crate) fn period(reader: &mut Reader<'_>) -> Result<(u64, u64), Stop>
+pub(crate) fn period(reader: &mut Reader<'_>) -> Result<(u64, u64), ReadStop>
     ensures { Reads spec.a_span (spec.period reader.old.rest.now) result reader.new.rest.now }
 {
     let start = number_64(reader)?;
@@ -34,7 +34,7 @@ pub(crate) fn is_period(last: Option<u64>, start: u64, end: u64) -> bool
 }
 
 // A key. Where it is not as it must be the reader stands at its first byte.
-fn key(reader: &mut Reader<'_>, last: Option<u64>) -> Result<Period, Stop>
+fn key(reader: &mut Reader<'_>, last: Option<u64>) -> Result<Period, ReadStop>
     ensures { Reads (λ p. p) (spec.key last reader.old.rest.now) result reader.new.rest.now }
 {
     let first = reader.rest;
@@ -42,7 +42,7 @@ fn key(reader: &mut Reader<'_>, last: Option<u64>) -> Result<Period, Stop>
         Ok((start, end)) if is_period(last, start, end) => Ok(Period::between(start, end)),
         Ok(_) => {
             reader.rest = first;
-            Err(Stop::Unexpected)
+            Err(ReadStop::Unexpected)
         }
         Err(stop) => {
             reader.rest = first;
@@ -56,7 +56,7 @@ pub(crate) fn keys(
     alloc: Global,
     reader: &mut Reader<'_>,
     last: Option<u64>,
-) -> Result<Vec<Period>, Stop>
+) -> Result<Vec<Period>, ReadStop>
     ensures { Reads (λ v. v.items) (spec.keys last reader.old.rest.now) result reader.new.rest.now }
 {
     let count = count_64(reader)?;

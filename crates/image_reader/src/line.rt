@@ -14,7 +14,7 @@ use crate::count::count_32;
 use crate::due::DueLine;
 use crate::entry::columns;
 use crate::key::keys;
-use command_codec::{Reader, Stop, name};
+use command_codec::{ReadStop, Reader, name};
 use history_store::Cell;
 use prima_base::{Name, Period, same_name};
 use shown_rows::order_of;
@@ -38,7 +38,7 @@ type Parts<'a> = (Vec<Period>, Vec<Vec<Cell<'a>>>);
 
 // A first and a last version, and a table.
 #[tactic(auto, unfolding(image_spelling::specs::Reader::line_head, image_spelling::specs::Reader::number_32))]
-fn head_read(alloc: Global, reader: &mut Reader<'_>) -> Result<(u64, u64, Name), Stop>
+fn head_read(alloc: Global, reader: &mut Reader<'_>) -> Result<(u64, u64, Name), ReadStop>
     ensures { Reads (λ x. ((x.0, x.1), x.2)) (spec.line_head reader.old.rest.now) result
         reader.new.rest.now }
 {
@@ -67,7 +67,7 @@ fn is_line(due: &DueLine<'_>, first: u64, last: u64, table: &Name) -> bool
 
 // The versions and the table of the lifeline that is due. Where they are not the reader stands at
 // their first byte.
-fn head(alloc: Global, reader: &mut Reader<'_>, due: &DueLine<'_>) -> Result<(), Stop>
+fn head(alloc: Global, reader: &mut Reader<'_>, due: &DueLine<'_>) -> Result<(), ReadStop>
     ensures { Reads (λ u. head_of (line_seen due.now))
         (item (judged (is_line (line_seen due.now)) spec.line_head) reader.old.rest.now) result
         reader.new.rest.now }
@@ -77,7 +77,7 @@ fn head(alloc: Global, reader: &mut Reader<'_>, due: &DueLine<'_>) -> Result<(),
         Ok((first, last, table)) if is_line(due, first, last, &table) => Ok(()),
         Ok(_) => {
             reader.rest = start;
-            Err(Stop::Unexpected)
+            Err(ReadStop::Unexpected)
         }
         Err(stop) => {
             reader.rest = start;
@@ -92,7 +92,7 @@ fn parts<'a>(
     reader: &mut Reader<'a>,
     last: Option<u64>,
     due: &DueLine<'_>,
-) -> Result<Parts<'a>, Stop>
+) -> Result<Parts<'a>, ReadStop>
     ensures { Reads (parts_seen (line_seen due.now))
         (bind (item (judged (is_line (line_seen due.now)) spec.line_head))
         (λ h. bind (spec.keys last) (λ ks. map_to (spec.a_line (line_seen due.now) ks)
@@ -113,7 +113,7 @@ fn stored_line<'a>(
     reader: &mut Reader<'a>,
     last: Option<u64>,
     due: &DueLine<'_>,
-) -> Result<ReadLine<'a>, Stop>
+) -> Result<ReadLine<'a>, ReadStop>
     ensures line { Reads (stored_seen (line_seen due.now))
         (spec.stored_line last (line_seen due.now) reader.old.rest.now) result reader.new.rest.now }
     ensures order { IfOk result IsOrdered }
@@ -124,7 +124,7 @@ fn stored_line<'a>(
         return Ok(ReadLine { keys, cells, order });
     }
     reader.rest = start;
-    Err(Stop::Unexpected)
+    Err(ReadStop::Unexpected)
 }
 
 /// What is kept over each of the lifelines that are due, with their count before them. Where one is
@@ -134,21 +134,22 @@ pub(crate) fn all_lines<'a>(
     reader: &mut Reader<'a>,
     last: Option<u64>,
     due: &[DueLine<'_>],
-) -> Result<Vec<ReadLine<'a>>, Stop>
+) -> Result<Vec<ReadLine<'a>>, ReadStop>
     ensures lines { Reads (λ v. lines_seen (map line_seen due.now) v.items)
-        (spec.all_lines last (map line_seen due.now) reader.old.rest.now) result reader.new.rest.now }
+        (spec.all_lines last (map line_seen due.now) reader.old.rest.now) result
+        reader.new.rest.now }
     ensures order { IfOk result (λ v. All IsOrdered v.items) }
 {
     let count = count_32(reader)?;
     let mut list = Vec::new(alloc);
     for i in 0..count {
         let Some(line) = due.get(i as usize) else {
-            return Err(Stop::Unexpected);
+            return Err(ReadStop::Unexpected);
         };
         list.push(stored_line(alloc, reader, last, line)?)?;
     }
     if count < due.len() as u64 {
-        return Err(Stop::Unexpected);
+        return Err(ReadStop::Unexpected);
     }
     Ok(list)
 }

@@ -7,7 +7,7 @@ ghost use Rattle.command_codec.specs.Reads.{Reads};
 ghost use Rattle.image_spelling.specs.Judged.{is_stamp, is_later, is_end};
 ghost use Rattle.image_spelling.specs.Reader as spec;
 
-use command_codec::{Reader, Stop};
+use command_codec::{ReadStop, Reader};
 use prima_base::FOREVER;
 
 /// Whether the moment is at most the last stamp; where there is none, no moment is.
@@ -38,7 +38,7 @@ pub(crate) fn is_end(last: Option<u64>, moment: u64) -> bool
 }
 
 // None with eight zero bytes, or the stamp of a command.
-fn stamp_or_none(reader: &mut Reader<'_>) -> Result<Option<u64>, Stop>
+fn stamp_or_none(reader: &mut Reader<'_>) -> Result<Option<u64>, ReadStop>
     ensures { Reads (λ s. s) (tagged (up_to 1) spec.last_arm reader.old.rest.now) result
         reader.new.rest.now }
 {
@@ -53,7 +53,7 @@ fn stamp_or_none(reader: &mut Reader<'_>) -> Result<Option<u64>, Stop>
 
 /// The last stamp. Where it is not as it must be the reader stands at its first byte.
 #[tactic(auto, unfolding(image_spelling::specs::Reader::last_stamp), using(crate::proofs::ItemSteps::item_got, crate::proofs::ItemSteps::item_fails))]
-pub(crate) fn last_stamp(reader: &mut Reader<'_>) -> Result<Option<u64>, Stop>
+pub(crate) fn last_stamp(reader: &mut Reader<'_>) -> Result<Option<u64>, ReadStop>
     ensures { Reads (λ s. s) (spec.last_stamp reader.old.rest.now) result reader.new.rest.now }
 {
     let start = reader.rest;

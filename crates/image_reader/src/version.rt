@@ -13,7 +13,7 @@ ghost use Rattle.image_reader.specs.NextVersion.{IsAcceptedAfter};
 
 use crate::count::count_32;
 use crate::stamp::{is_later, is_stamp};
-use command_codec::{Reader, Stop, op, ops};
+use command_codec::{ReadStop, Reader, op, ops};
 use prima_base::NoMemory;
 use prima_base::limits::MAX_VERSIONS;
 use schema_catalog::Schema;
@@ -25,7 +25,7 @@ use std::alloc::Global;
 
 // A stamp, an operator, and the operators of its inverse.
 #[tactic(auto, unfolding(command_spelling::specs::Reader::number_64))]
-fn evolution(alloc: Global, reader: &mut Reader<'_>) -> Result<(u64, Op, Vec<Op>), Stop>
+fn evolution(alloc: Global, reader: &mut Reader<'_>) -> Result<(u64, Op, Vec<Op>), ReadStop>
     ensures { Reads (λ x. (x.0, (operator_of x.1, operators_of x.2.items)))
         (pair parts.number_64 (pair parts.operator parts.operators) reader.old.rest.now) result
         reader.new.rest.now }
@@ -129,7 +129,7 @@ fn version(
     last: Option<u64>,
     nothing: &Schema,
     versions: &[Version],
-) -> Result<Version, Stop>
+) -> Result<Version, ReadStop>
     requires { nothing.now ≡ no_tables }
     ensures { Reads version_of (spec.version last (length versions.now)
         (newest_stamp (map version_of versions.now))
@@ -142,7 +142,7 @@ fn version(
             Some(version) => Ok(version),
             None => {
                 reader.rest = first;
-                Err(Stop::Unexpected)
+                Err(ReadStop::Unexpected)
             }
         },
         Err(stop) => {
@@ -157,7 +157,7 @@ pub(crate) fn all_versions(
     alloc: Global,
     reader: &mut Reader<'_>,
     last: Option<u64>,
-) -> Result<Versions, Stop>
+) -> Result<Versions, ReadStop>
     ensures { Reads versions_of (spec.all_versions last reader.old.rest.now) result
         reader.new.rest.now }
 {

@@ -32,7 +32,8 @@ fn take_column<'a, L: Ledger>(
         → OnOk result (IsGathered table.now slice (names ++ name.now ∷ [])
         (parts_of stretches.new.items)) }
     ensures cost { steps.new ≤ steps.old + count_in (column_of table.now name.now) }
-    ensures counted { OnOk result (steps.new ≡ steps.old + count_in (column_of table.now name.now)) }
+    ensures counted { OnOk result (steps.new ≡ steps.old
+        + count_in (column_of table.now name.now)) }
     ensures rises { steps.old ≤ steps.new }
 {
     let Some(cells) = table.scan_column(name) else {

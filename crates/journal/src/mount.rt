@@ -1,3 +1,6 @@
+//! Mounting the file of a disk: an empty journal is begun where there is none, and the records of a
+//! journal are read.
+
 ghost use Rattle.std.specs.Prelude.{◌≡◌, ◌+◌, ◌-◌, ◌^◌, ◌<◌, ◌≤◌, IsTrue, List, ℕ, [], length, min};
 ghost use Rattle.std.specs.Prelude.{◌⊎◌, Some, Err, IfOk, IfErr, OnOk, OnErr};
 ghost use Rattle.prima_io.specs.Causes.{Rose};

@@ -1,3 +1,6 @@
+//! Reading a journal's file: its header and the records up to the closed gate, or the first place
+//! where the file is damaged.
+
 ghost use Rattle.std.specs.Prelude.{◌≡◌, ◌+◌, ◌<◌, ◌≤◌, ◌-◌, ◌^◌, length, drop, take};
 ghost use Rattle.std.specs.Prelude.{IfOk, IfSome, IfNone, Err};
 ghost use Rattle.journal.specs.Damage.{IsBadFrame, IsCut, IsDamagedAt, DiffersAt};

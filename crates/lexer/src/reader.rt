@@ -151,7 +151,8 @@ pub fn expr(
     depth: u32,
 ) -> Result<Expr, Stop>
     requires { depth ≤ 32 }
-    ensures { Reads tree ((spec.level qualified depth).expr c.old.nodes (ahead c.old)) result c.new }
+    ensures { Reads tree ((spec.level qualified depth).expr c.old.nodes (ahead c.old))
+        result c.new }
 {
     if c.sees_word(b"LENGTH") {
         c.step()?;
@@ -219,7 +220,8 @@ pub fn fact(
     depth: u32,
 ) -> Result<Cond, Stop>
     requires { depth ≤ 32 }
-    ensures { Reads test ((spec.level qualified depth).fact c.old.nodes (ahead c.old)) result c.new }
+    ensures { Reads test ((spec.level qualified depth).fact c.old.nodes (ahead c.old))
+        result c.new }
 {
     if c.sees_word(b"NOT") {
         if depth == 0 {
@@ -369,7 +371,8 @@ pub fn cond(
     depth: u32,
 ) -> Result<Cond, Stop>
     requires { depth ≤ 32 }
-    ensures { Reads test ((spec.level qualified depth).cond c.old.nodes (ahead c.old)) result c.new }
+    ensures { Reads test ((spec.level qualified depth).cond c.old.nodes (ahead c.old))
+        result c.new }
 {
     let first = conj(alloc, c, qualified, depth)?;
     conjs(alloc, c, first, qualified, depth)

@@ -102,7 +102,7 @@ impl<'a, 't> Cursor<'a, 't> {
         }
     }
 
-    /// Goes after the next token.
+    /// Goes past the next token.
     pub fn skip(&mut self)
         requires { 0 < length self.old.rest.now }
         ensures rest { ahead self.new ≡ drop 1 (ahead self.old) }
@@ -112,7 +112,7 @@ impl<'a, 't> Cursor<'a, 't> {
         self.rest = &self.rest[1..];
     }
 
-    /// Counts a node at the next token, and goes after it.
+    /// Counts a node at the next token, and goes past it.
     pub fn step(&mut self) -> Result<(), Stop>
         requires { 0 < length self.old.rest.now }
         ensures ok { OnOk result ((has_room self.old.nodes ≡ true)
@@ -130,7 +130,7 @@ impl<'a, 't> Cursor<'a, 't> {
         }
     }
 
-    /// Goes after this word, which must come next.
+    /// Goes past this word, which must come next.
     pub fn expect_word(&mut self, wanted: &[u8]) -> Result<(), Stop>
         ensures nodes { self.new.nodes ≡ self.old.nodes }
         ensures ok { OnOk result ((sees (is_word wanted.now) (ahead self.old) ≡ true)
@@ -146,7 +146,7 @@ impl<'a, 't> Cursor<'a, 't> {
         }
     }
 
-    /// Goes after this sign, which must come next.
+    /// Goes past this sign, which must come next.
     pub fn expect_sign(&mut self, wanted: &[u8]) -> Result<(), Stop>
         ensures nodes { self.new.nodes ≡ self.old.nodes }
         ensures ok { OnOk result ((sees (is_sign wanted.now) (ahead self.old) ≡ true)

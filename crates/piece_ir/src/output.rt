@@ -1,3 +1,5 @@
+//! The outputs of a piece, with what is put for their references.
+
 ghost use Rattle.std.specs.Prelude.{◌≡◌, IfOk};
 ghost use Rattle.smo_types.specs.Changes.{set_of_expr, sets_of};
 ghost use Rattle.piece_meaning.specs.Unfolding.{filled_out, filled_outs};

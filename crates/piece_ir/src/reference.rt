@@ -1,3 +1,5 @@
+//! The references in expressions and conditions: whether one is to a column of an atom.
+
 ghost use Rattle.std.specs.Prelude.{◌≡◌, map};
 ghost use Rattle.std.specs.List.{flat_map};
 ghost use Rattle.cond_expr.specs.Seen.{tree, test, trees_of, tests_of};

@@ -1,3 +1,5 @@
+//! A borrowed source is a source, and a borrowed sink a sink: each call goes to the one borrowed.
+
 use crate::{Failed, Sink, Source};
 
 impl<S: Source> Source for &mut S {

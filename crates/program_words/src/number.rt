@@ -1,3 +1,5 @@
+//! A number among the words of a call, as decimal digits.
+
 ghost use Rattle.std.specs.Prelude.{◌≡◌};
 ghost use Rattle.std.specs.List.{list_all};
 ghost use Rattle.std.specs.Char.{is_ascii_digit};
@@ -9,7 +11,7 @@ fn are_digits(bytes: &[u8]) -> bool
     bytes.iter().all(|byte| byte.is_ascii_digit())
 }
 
-// The number that the text writes: 1 to 20 digits, with a value below 2^64.
+/// The number that the text writes: 1 to 20 digits, with a value below 2^64.
 pub fn number_of(text: &str) -> Option<u64>
     ensures { result ≡ spec.number_of text.now }
 {

@@ -9,8 +9,8 @@ ghost use Rattle.program_words.specs.Reading.{program};
 use clap::{Arg, ArgAction, ArgMatches, Command, Error};
 use std::alloc::Global;
 
-// The words as clap reads them: two options, each of which may come more than once as far as clap
-// is concerned, and one other word.
+/// The words as clap reads them: two options, each of which may come more than once as far as clap
+/// is concerned, and one other word.
 pub fn parse<'a>(alloc: Global, words: &'a [String]) -> Result<ArgMatches<'a>, Error>
     ensures rows { IfOk result (λ m. rows_of (found_of m)
         ≡ matches_of program (map string_bytes words.entry.now)) }

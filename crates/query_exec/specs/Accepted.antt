@@ -46,8 +46,8 @@ MayBranches versions route [] = ⊤
 MayBranches versions route (b ∷ branches) = MayBranch versions route b
     × MayBranches versions route branches
 
--- the groups show a past after which such a query is not refused
-pub record IsShown (kept : Kept) (query : PlainQuery) : Type 0 where
+-- the groups represent a past after which such a query is not refused
+pub record IsAnswerable (kept : Kept) (query : PlainQuery) : Type 0 where
   pub past : Past
   pub asked : PlainQuery
   pub represents : Represents kept past

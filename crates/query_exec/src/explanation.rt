@@ -11,7 +11,7 @@ ghost use Rattle.query_types.specs.Queries.{query_of, IsLasting};
 ghost use Rattle.version_groups.specs.Groups.{versions_in};
 ghost use Rattle.version_groups.specs.Representation.{Represents};
 ghost use Rattle.rewrite.specs.Books.{meaning_of, EachOf};
-ghost use Rattle.query_exec.specs.Accepted.{MayItems, MayBranch, MayBranches, IsShown};
+ghost use Rattle.query_exec.specs.Accepted.{MayItems, MayBranch, MayBranches, IsAnswerable};
 ghost use Rattle.query_exec.specs.Planned.{planned_pieces};
 ghost use Rattle.query_exec.specs.Questions.{own_read};
 ghost use Rattle.query_exec.specs.QueryPieces.{explained_in, table_pieces, items_pieces};
@@ -229,7 +229,7 @@ pub fn explain(
     query: &Query,
 ) -> Result<Vec<Explained>, NoMemory>
     requires each { EachOf book.now.rules.items (λ r. handles (r.vtable, r.value)) }
-    requires shown { IsShown groups.now (query_of query.now) }
+    requires answerable { IsAnswerable groups.now (query_of query.now) }
     requires there { query.now.version ≤ length groups.now.versions }
     requires lasting { IsLasting query.now.when }
     ensures are { IfOk result (λ v. ArePieces

@@ -73,7 +73,8 @@ pub(crate) fn part_pieces(
     ensures living { IfOk result (λ x. AreLiving
         (tables_from no_tables (versions_in groups.now) part.1) (pieces_of pieces.now)
         (pieces_of x.pieces.items)) }
-    ensures told { IfOk result (λ x. pieces_of x.pieces.items ≡ filter lives (pieces_of pieces.now)) }
+    ensures told { IfOk result (λ x. pieces_of x.pieces.items
+        ≡ filter lives (pieces_of pieces.now)) }
 {
     let schema = groups.schema_of(part.1);
     let pieces = living_copies(alloc, pieces, schema)?;

@@ -12,7 +12,7 @@ ghost use Rattle.query_types.specs.Queries.{PlainQuery, query_of, slice_of, IsLa
 ghost use Rattle.version_groups.specs.Groups.{versions_in};
 ghost use Rattle.version_groups.specs.Representation.{Represents};
 ghost use Rattle.rewrite.specs.Books.{meaning_of, EachOf};
-ghost use Rattle.query_exec.specs.Accepted.{IsAccepted, IsShown};
+ghost use Rattle.query_exec.specs.Accepted.{IsAccepted, IsAnswerable};
 ghost use Rattle.piece_texts.specs.ExplainedPieces.{PlainExplained};
 ghost use Rattle.query_exec.specs.Borrowed.{BorrowedByBranch, AreSpared, AreBorrowedBy};
 ghost use Rattle.query_exec.specs.QueryPieces.{ArePieces};
@@ -48,7 +48,7 @@ pub fn answer<'a, L: Ledger>(
     steps: &mut Steps<L>,
 ) -> Result<Vec<TimedRow<'a>>, NoMemory>
     requires each { EachOf book.now.rules.items (λ r. handles (r.vtable, r.value)) }
-    requires shown { IsShown groups.now (query_of query.now) }
+    requires answerable { IsAnswerable groups.now (query_of query.now) }
     requires there { query.now.version ≤ length groups.now.versions }
     requires lasting { IsLasting query.now.when }
     ensures listed { (past : Past) → (asked : PlainQuery) → Represents groups.now past

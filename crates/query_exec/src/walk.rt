@@ -31,7 +31,8 @@ pub(crate) fn pieces_back(
     requires each { EachOf book.now.rules.items (λ r. handles (r.vtable, r.value)) }
     requires represents { (past : Past) × Represents groups.now past }
     requires route { IsRoute (versions_in groups.now) route.now }
-    requires read { MayBeRead (versions_in groups.now) route.now table.now (read_asked question.now) }
+    requires read { MayBeRead (versions_in groups.now) route.now table.now
+        (read_asked question.now) }
     ensures { IfOk result (λ v. ArePlanned (meaning_of book.now.rules.items
         (λ r. handles (r.vtable, r.value)) (λ r. answers (r.vtable, r.value)))
         (versions_in groups.now) route.now.asked table.now (read_asked question.now)
@@ -61,7 +62,8 @@ pub(crate) fn pieces_on(
     requires each { EachOf book.now.rules.items (λ r. handles (r.vtable, r.value)) }
     requires represents { (past : Past) × Represents groups.now past }
     requires route { IsRoute (versions_in groups.now) route.now }
-    requires read { MayBeRead (versions_in groups.now) route.now table.now (read_asked question.now) }
+    requires read { MayBeRead (versions_in groups.now) route.now table.now
+        (read_asked question.now) }
     ensures { IfOk result (λ v. ArePlanned (meaning_of book.now.rules.items
         (λ r. handles (r.vtable, r.value)) (λ r. answers (r.vtable, r.value)))
         (versions_in groups.now) route.now.asked table.now (read_asked question.now)

@@ -108,7 +108,8 @@ fn lasting(c: &mut Cursor<'_, '_>) -> Result<Keep, Stop>
 // What stands after OVERLAPPING.
 #[tactic(auto, unfolding(query_grammar::specs::QueryReader::between))]
 fn overlapping(c: &mut Cursor<'_, '_>) -> Result<Keep, Stop>
-    ensures { Reads (λ k. k) (spec.between kinds.Overlapping c.old.nodes (ahead c.old)) result c.new }
+    ensures { Reads (λ k. k) (spec.between kinds.Overlapping c.old.nodes (ahead c.old))
+        result c.new }
 {
     let (first, second) = bounds(c)?;
     Ok(Keep::Overlapping(first, second))
@@ -204,7 +205,8 @@ fn range(alloc: Global, c: &mut Cursor<'_, '_>) -> Result<(When, Vec<Keep>), Sto
 /// Which moments a query asks of, and its conditions of KEEP, of which AS OF has none.
 #[tactic(auto, unfolding(query_grammar::specs::QueryReader::when_part))]
 pub fn when_part(alloc: Global, c: &mut Cursor<'_, '_>) -> Result<(When, Vec<Keep>), Stop>
-    ensures { Reads (λ r. (r.0, r.1.items)) (spec.when_part c.old.nodes (ahead c.old)) result c.new }
+    ensures { Reads (λ r. (r.0, r.1.items)) (spec.when_part c.old.nodes (ahead c.old))
+        result c.new }
 {
     match as_of(c)? {
         Some(moment) => Ok((When::AsOf(moment), Vec::new(alloc))),

@@ -1,3 +1,5 @@
+//! Copies of queries and of what they are made of.
+
 ghost use Rattle.std.specs.Prelude.{◌≡◌, IfOk, map};
 ghost use Rattle.cond_expr.specs.Seen.{tree};
 ghost use Rattle.query_types.specs.Branches.{branch_of, branches_of};

@@ -30,10 +30,12 @@ fn through(
 ) -> Result<Vec<Piece>, NoMemory>
     requires valid { IsValid before.now }
     requires accepted { op_fault before.now (operator_of op.now) ≡ None }
-    requires typed { AllTyped (schema_after before.now (operator_of op.now)) (pieces_of pieces.now) }
+    requires typed { AllTyped (schema_after before.now (operator_of op.now))
+        (pieces_of pieces.now) }
     ensures { IfOk result (λ news. pieces_of news.items
         ≡ through (meaning_of book.now.rules.items (λ r. handles (r.vtable, r.value))
-        (λ r. answers (r.vtable, r.value))) (operator_of op.now) before.now (pieces_of pieces.now)) }
+        (λ r. answers (r.vtable, r.value))) (operator_of op.now) before.now
+        (pieces_of pieces.now)) }
 {
     let mut all = Vec::new(alloc);
     for piece in pieces {

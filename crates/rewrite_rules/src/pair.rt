@@ -83,7 +83,8 @@ fn common_parts(
     first: &[(Name, ColType)],
     second: &[(Name, ColType)],
 ) -> Result<Vec<Cond>, NoMemory>
-    ensures { IfOk result (λ v. map test v.items ≡ map in_both (common_names first.now second.now)) }
+    ensures { IfOk result (λ v. map test v.items
+        ≡ map in_both (common_names first.now second.now)) }
 {
     let mut tests = Vec::new(alloc);
     for (name, _) in first {

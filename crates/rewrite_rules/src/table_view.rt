@@ -24,7 +24,8 @@ pub(crate) fn two_views(
     first: View,
     second: View,
 ) -> Result<TableViews, NoMemory>
-    ensures { IfOk result (λ t. table_views_of t ≡ (table.now, view_of first ∷ view_of second ∷ [])) }
+    ensures { IfOk result (λ t. table_views_of t
+        ≡ (table.now, view_of first ∷ view_of second ∷ [])) }
 {
     let mut views = Vec::new(alloc);
     views.push(first)?;

@@ -16,7 +16,7 @@ use Rattle.prima_base.specs.OrderLaws.{row_exact}
 use Rattle.prima_base.specs.declared.value.Value.{Value}
 use Rattle.column_log.specs.Log.{Write}
 use Rattle.row_order.specs.Rows.{row_now, rows_of}
-use Rattle.row_order.specs.Logs.{few_rows}
+use Rattle.row_order.specs.Logs.{few_changed_rows}
 use Rattle.row_order.specs.Indexes.{Index, Whole, Moved, IsPlaced, more_ids, without, with_each}
 use Rattle.row_order.specs.Indexes.{place_without, AreAmong, AreAlong}
 use Rattle.row_order.proofs.RowsOf.{rows_of_in, in_rows_of}
@@ -317,7 +317,8 @@ left_there columns (at ∷ from) ids y a i =
     (rows_of_in r.0 ids columns (was_there ids at r.0 a.0 r.1))
 
 -- what is kept by places is of few rows
-pub few_placed : (index : Index) (ids : List ℕ) → IsPlaced index ids → more_ids index ≤ few_rows
+pub few_placed : (index : Index) (ids : List ℕ) → IsPlaced index ids
+    → more_ids index ≤ few_changed_rows
 few_placed (Whole index) ids p = omega arith
 few_placed (Moved from to) ids p = p.2
 

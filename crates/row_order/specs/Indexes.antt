@@ -3,7 +3,7 @@ use Rattle.std.specs.Prelude.{ℕ, ◌-◌, ◌<◌, ◌≤◌, List, [], ◌∷
 use Rattle.std.specs.List.{insert, remove}
 use Rattle.row_order.specs.declared.index_splice.After.{After}
 use Rattle.row_order.specs.declared.index_splice.After.TheVariants as given
-use Rattle.row_order.specs.Logs.{few_rows}
+use Rattle.row_order.specs.Logs.{few_changed_rows}
 
 -- the ids but for those at these places, each a place among the ids that are left by then
 abbrev pub without : List ℕ → List ℕ → List ℕ
@@ -55,4 +55,4 @@ more_ids (Moved from to) = length to
 abbrev pub IsPlaced : Index → List ℕ → Type 0
 IsPlaced (Whole ids) before = ⊤
 IsPlaced (Moved from to) before = AreAmong from before × AreAlong to (length (without from before))
-    × (length to ≤ few_rows)
+    × (length to ≤ few_changed_rows)

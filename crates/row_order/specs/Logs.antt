@@ -7,9 +7,9 @@ cells_of [] = []
 cells_of (c ∷ columns) = c.cells ∷ cells_of columns
 
 -- a change that gains and loses no more rows than so many keeps their places alone
-abbrev pub few_rows : ℕ
-few_rows = 64
+abbrev pub few_changed_rows : ℕ
+few_changed_rows = 64
 
 -- how many rows are few in a table of so many: 64, or one in 64 where that is more
 abbrev pub few_of : ℕ → ℕ
-few_of rows = max few_rows (rows / few_rows)
+few_of rows = max few_changed_rows (rows / few_changed_rows)

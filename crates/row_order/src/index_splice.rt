@@ -9,7 +9,7 @@ ghost use Rattle.relations.specs.Sets.{Ascends, In};
 ghost use Rattle.prima_base.specs.Order.{row_cmp};
 ghost use Rattle.prima_base.specs.declared.value.Value.{Value as OneValue};
 ghost use Rattle.column_log.specs.Log.{Log};
-ghost use Rattle.row_order.specs.Logs.{cells_of, few_rows, few_of};
+ghost use Rattle.row_order.specs.Logs.{cells_of, few_changed_rows, few_of};
 ghost use Rattle.row_order.specs.Rows.{row_now, rows_of};
 ghost use Rattle.row_order.specs.Handing.{handed, only_in};
 ghost use Rattle.row_order.specs.Rows.{AllWidth};
@@ -25,14 +25,14 @@ use row_index::RowIndex;
 use std::alloc::Global;
 
 /// How many rows a change may lose, and how many gain, for their places alone to be kept.
-pub const FEW_ROWS: usize = 64;
+pub const FEW_CHANGED_ROWS: usize = 64;
 
 /// How many rows are few in a table of so many: for a change of no more it costs less to keep an
 /// index of a column than to sort it anew.
 pub fn few_of(rows: usize) -> usize
     ensures { result ≡ few_of rows }
 {
-    FEW_ROWS.max(rows / FEW_ROWS)
+    FEW_CHANGED_ROWS.max(rows / FEW_CHANGED_ROWS)
 }
 
 /// The index after a change.
@@ -254,7 +254,8 @@ fn gained_places(
     ensures joined { IfOk result (λ to. IsJoined (cells_of columns.now)
         (without from.now live.now.ids) (handed lost.now next gained.now)
         (with_each to.items (without from.now live.now.ids)) gained.now) }
-    ensures placed { IfOk result (λ to. AreAlong to.items (length (without from.now live.now.ids))) }
+    ensures placed { IfOk result (λ to. AreAlong to.items
+        (length (without from.now live.now.ids))) }
     ensures count { IfOk result (λ to. length to.items ≡ length gained.now) }
 {
     let mut to = Vec::with_capacity(alloc, gained.len())?;
@@ -289,7 +290,7 @@ fn splice_few(
     requires fresh { (row : List OneValue) → In row gained.now
         → In row (rows_of live.now.ids (cells_of columns.now)) → ⊥ }
     requires few { next + length gained.now < 2 ^ 64 }
-    requires few_gained { length gained.now ≤ few_rows }
+    requires few_gained { length gained.now ≤ few_changed_rows }
     ensures spliced { IfOk result (λ (found, after).
         IsSpliced (cells_of columns.now) live.now.ids lost.now next gained.now found.items
         (later_ids (index_of after) live.now.ids)) }
@@ -329,7 +330,7 @@ pub fn splice(
     ensures placed { IfOk result (λ (_found, after). IsPlaced (index_of after) live.now.ids) }
     ensures more { IfOk result (λ (_found, after). more_ids (index_of after) ≤ length gained.now) }
 {
-    if lost.len() <= FEW_ROWS && gained.len() <= FEW_ROWS {
+    if lost.len() <= FEW_CHANGED_ROWS && gained.len() <= FEW_CHANGED_ROWS {
         return splice_few(alloc, columns, live, lost, next, gained);
     }
     let (found, kept) = take_out(alloc, columns, &live.copy()?, lost)?;
@@ -406,10 +407,11 @@ pub fn splice_fresh<'a>(
         IsSpliced (cells_of columns.now) live.now.ids [] next gained.items []
         (later_ids (index_of after) live.now.ids)) }
     ensures placed { IfOk result (λ (_gained, after). IsPlaced (index_of after) live.now.ids) }
-    ensures more { IfOk result (λ (gained, after). more_ids (index_of after) ≤ length gained.items) }
+    ensures more { IfOk result (λ (gained, after). more_ids (index_of after)
+        ≤ length gained.items) }
 {
     let (gained, to) = fresh_places(alloc, columns, live, next, rows)?;
-    if to.len() <= FEW_ROWS {
+    if to.len() <= FEW_CHANGED_ROWS {
         return Ok((gained, After::Moved(Vec::new(alloc), to)));
     }
     let index = index_with(alloc, live, &to)?;

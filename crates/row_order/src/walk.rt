@@ -219,7 +219,8 @@ pub fn place_of(columns: &[Column], live: &[usize], row: &GivenRow<'_>) -> Resul
         ≡ Ordering.Equal)) }
     ensures within { IfErr result (λ at. at ≤ length live.now) }
     ensures before { IfErr result (λ at. (k : _) → k < at
-        → row_cmp (row_now (slice_index live.now k) (cells_of columns.now)) row.now ≡ Ordering.Less) }
+        → row_cmp (row_now (slice_index live.now k) (cells_of columns.now)) row.now
+        ≡ Ordering.Less) }
     ensures after { IfErr result (λ at. (k : _) → at ≤ k → k < length live.now
         → row_cmp (row_now (slice_index live.now k) (cells_of columns.now)) row.now
         ≡ Ordering.Greater) }

@@ -1,4 +1,4 @@
--- What is needed where a plan is carried out.
+-- What is needed where a change is carried out.
 use Rattle.std.proofs.Common.{◌≡◌, true, false, ℕ, zero, suc, ◌+◌, ◌-◌, ◌<◌, ◌≤◌, List, [], ◌∷◌}
 use Rattle.std.proofs.Common.{◌++◌, length, get_or, set, drop, refl, sym, ap, ◌∙◌, subst, arith}
 use Rattle.std.proofs.Common.{inl, inr}
@@ -11,7 +11,7 @@ use Rattle.prima_base.specs.declared.value.Value.{Value}
 use Rattle.relations.specs.Sets.{In}
 use Rattle.column_log.specs.Log.{Log}
 use Rattle.row_writes.specs.Logs.{least_spare, with_index}
-use Rattle.row_order.specs.Logs.{few_rows, few_of}
+use Rattle.row_order.specs.Logs.{few_changed_rows, few_of}
 use Rattle.column_log.specs.Keys.{no_span, IsOpen, ended_at}
 use Rattle.row_writes.specs.Writing.{end_keys, unpaired, new_keys, keys_handed}
 use Rattle.value_order.proofs.Places.{in_get, all_in}
@@ -94,8 +94,8 @@ module _ (few room n : ℕ) where
     | inr h ↦ (let e = with_room h in omega (arith, e, l))
   ]
 
-pub few_are_few : (rows more : ℕ) → more ≤ few_rows → more ≤ few_of rows
-few_are_few rows more h = most few_rows (rows / few_rows) more h
+pub few_are_few : (rows more : ℕ) → more ≤ few_changed_rows → more ≤ few_of rows
+few_are_few rows more h = most few_changed_rows (rows / few_changed_rows) more h
   where
     most : (a b n : ℕ) → n ≤ a → n ≤ max a b
     most a b n h = omega arith

@@ -1,4 +1,4 @@
--- Room for rows, in pieces.
+-- Room for rows, in units.
 use Rattle.std.proofs.Common.{ℕ, zero, suc, ◌<◌, ◌≤◌, List, [], ◌∷◌, length, get_or, arith}
 use Rattle.prima_base.specs.declared.value.Value.{Value}
 use Rattle.column_log.specs.StoredValues.{text_room}

@@ -41,7 +41,7 @@ least_spare least (c ∷ columns) = min c.spare (least_spare least columns)
 abbrev pub countable_rows : List (List Write) → ℕ
 countable_rows columns = (2 ^ 64 - 1 - cells_in columns) / max (length columns) 1
 
--- how many pieces of room there are, of which a row takes at least one: in the indexes and among
+-- how many units of room there are, of which a row takes at least one: in the indexes and among
 -- the keys, in each column, and in the number of all cells. No more than few rows are put into
 -- indexes
 abbrev pub spare_rows : ℕ → ℕ → ℕ → List Log → ℕ

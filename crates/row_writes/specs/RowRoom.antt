@@ -3,7 +3,7 @@ use Rattle.std.specs.Prelude.{ℕ, ◌+◌, List, [], ◌∷◌}
 use Rattle.prima_base.specs.declared.value.Value.{Value}
 use Rattle.column_log.specs.StoredValues.{text_room}
 
--- a row takes a piece of room, and one more for each 32 bytes of a text of it
+-- a row takes a unit of room, and one more for each 32 bytes of a text of it
 abbrev pub row_room : List Value → ℕ
 row_room [] = 1
 row_room (v ∷ row) = text_room v + row_room row

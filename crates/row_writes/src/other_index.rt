@@ -37,7 +37,8 @@ pub fn reserve_each(others: &mut Vec<ValueIndex>, more: usize) -> Result<(), NoM
         ≡ (slice_index_or others.old.items k d).column)
         × ((slice_index_or others.new.items k d).ids
         ≡ (slice_index_or others.old.items k d).ids) }
-    ensures kept { (room : ℕ) → least_room room others.old.items ≤ least_room room others.new.items }
+    ensures kept { (room : ℕ) → least_room room others.old.items
+        ≤ least_room room others.new.items }
     ensures room { OnOk result (All (λ x. more ≤ x.room) others.new.items) }
 {
     for k in 0..others.len() {

@@ -120,7 +120,8 @@ pub fn carry_out(
     requires key_room { vec_len keys.old + length gained.items ≤ vec_capacity keys.old }
     ensures keys { keys.new.items ≡ keys_handed keys.old.items lost.now gained.entry.items stamp }
     ensures cells { cells_of columns.new.items
-        ≡ logs_handed keys.old.items (cells_of columns.old.items) lost.now gained.entry.items stamp }
+        ≡ logs_handed keys.old.items (cells_of columns.old.items) lost.now
+        gained.entry.items stamp }
     ensures ids { All (λ c. c.ids ≡ vec_len keys.new) columns.new.items }
     ensures kinds { kinds_of columns.new.items ≡ kinds_of columns.old.items }
 {
@@ -129,7 +130,7 @@ pub fn carry_out(
     hand_rows(keys, columns, lost, gained, stamp);
 }
 
-// How many pieces of room the row takes.
+// How many units of room the row takes.
 fn row_room(row: &GivenRow<'_>) -> Result<usize, NoMemory>
     ensures { IfOk result (λ n. n ≡ row_room row.now) }
 {
@@ -143,7 +144,7 @@ fn row_room(row: &GivenRow<'_>) -> Result<usize, NoMemory>
     Ok(room)
 }
 
-/// How many pieces of room the rows take: each takes one, and one more for each 32 bytes of a text
+/// How many units of room the rows take: each takes one, and one more for each 32 bytes of a text
 /// of it.
 pub fn rows_room(rows: &[GivenRow<'_>]) -> Result<usize, NoMemory>
     ensures { IfOk result (λ n. n ≡ rows_room rows.now) }
@@ -158,7 +159,7 @@ pub fn rows_room(rows: &[GivenRow<'_>]) -> Result<usize, NoMemory>
     Ok(room)
 }
 
-/// Room for this many cells more in each column, with as many pieces of text.
+/// Room for this many cells more in each column, with as many units of text.
 pub fn reserve_all(columns: &mut Vec<Column>, more: usize) -> Result<(), NoMemory>
     ensures len { vec_len columns.new ≡ vec_len columns.old }
     ensures cells { cells_of columns.new.items ≡ cells_of columns.old.items }
@@ -200,8 +201,8 @@ fn check_count(columns: &[Column], more: usize) -> Result<(), NoMemory>
     Ok(())
 }
 
-/// Room for this many pieces more, of which a row takes at least one: for their keys, for the ids
-/// of few of them in each index, for a cell of each in each column and as many pieces of text, and
+/// Room for this many units more, of which a row takes at least one: for their keys, for the ids
+/// of few of them in each index, for a cell of each in each column and as many units of text, and
 /// in the number of all cells.
 pub fn reserve_rows(
     keys: &mut Vec<Period>,

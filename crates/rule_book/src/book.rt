@@ -187,7 +187,8 @@ impl RuleBook {
     ) -> Result<Vec<Piece>, NoMemory>
         requires valid { IsValid before.now }
         requires accepted { op_fault before.now (operator_of op.now) ≡ None }
-        requires typed { IsTyped (schema_after before.now (operator_of op.now)) (piece_of piece.now) }
+        requires typed { IsTyped (schema_after before.now (operator_of op.now))
+            (piece_of piece.now) }
         ensures { IfOk result (λ news. pieces_of news.items
             ≡ book_of handles answers self.now.rules.items (operator_of op.now) before.now
             (piece_of piece.now)) }

@@ -42,7 +42,8 @@ pub trait Rule: Drop {
         requires kind { operator_kind (operator_of op.now) ≡ handles self.now }
         requires valid { IsValid before.now }
         requires accepted { op_fault before.now (operator_of op.now) ≡ None }
-        requires typed { IsTyped (schema_after before.now (operator_of op.now)) (piece_of piece.now) }
+        requires typed { IsTyped (schema_after before.now (operator_of op.now))
+            (piece_of piece.now) }
         ensures is { IfOk result (λ news. pieces_of news.items
             ≡ answers self.now (operator_of op.now) before.now (piece_of piece.now)) }
         ensures keeps { IfOk result (λ news. KeepsMeaning before.now (operator_of op.now)

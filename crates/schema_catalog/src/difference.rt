@@ -21,9 +21,9 @@ pub enum SameFault {
 
 impl From<NoMemory> for SameFault {
     ghost use Rattle.std.specs.Prelude.{◌≡◌};
-    ghost use Rattle.schema_catalog.specs.declared.difference.SameFault.TheVariants.{NoMemory as OutOfMemory};
+    ghost use Rattle.schema_catalog.specs.declared.difference.SameFault.TheVariants as fault;
 
-    ghost from_gives = { λ _ e. e ≡ OutOfMemory };
+    ghost from_gives = { λ _ e. e ≡ fault.NoMemory };
 
     fn from(_error: NoMemory) -> SameFault {
         SameFault::NoMemory

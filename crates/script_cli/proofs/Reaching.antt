@@ -170,30 +170,30 @@ module _ {D : Type 0} {g : Ghosts D} (limit : Given) (start : Recorded)
     puts = (place_of m, whole_put limit start ReadFault r.took.parts [] o m refl r.took.puts);
   }
 
-  pub drove_limit : (r : Reached limit start o m a b u v s n) (piece : List ℕ) → Consumes b c piece
-      → n ≡ longest_script → length piece ≡ 1
+  pub drove_limit : (r : Reached limit start o m a b u v s n) (chunk : List ℕ) → Consumes b c chunk
+      → n ≡ longest_script → length chunk ≡ 1
       → Drove limit start InputLimit a c u v (below o) (below m) (place_of o)
-  drove_limit r piece k e l = record {
+  drove_limit r chunk k e l = record {
     ran = record {
-      taken = r.taken ++ piece;
-      consumed = Consumes-trans a b c r.taken piece r.consumed k;
+      taken = r.taken ++ chunk;
+      consumed = Consumes-trans a b c r.taken chunk r.consumed k;
       whole = r.took.parts;
-      rest = parts_after s piece;
-      are = parts_is limit start o m r.run s r.begun_so r.taken u v r.took piece;
+      rest = parts_after s chunk;
+      are = parts_is limit start o m r.run s r.begun_so r.taken u v r.took chunk;
       between = v;
       replied = r.took.wrote;
       wrote = (
-        length-append r.taken piece ∙ omega (arith, r.counted, e, l),
-        sym (ap parts_of (take_at r.taken piece longest_script (sym r.counted ∙ e))
+        length-append r.taken chunk ∙ omega (arith, r.counted, e, l),
+        sym (ap parts_of (take_at r.taken chunk longest_script (sym r.counted ∙ e))
             ∙ all_parts limit start o m r.run s r.begun_so r.taken u v r.took),
         refl,
       );
     };
-    log = whole_log limit start InputLimit r.took.parts (parts_after s piece) o m refl
+    log = whole_log limit start InputLimit r.took.parts (parts_after s chunk) o m refl
         r.took.puts;
     puts = (
       place_of m,
-      whole_put limit start InputLimit r.took.parts (parts_after s piece) o m
+      whole_put limit start InputLimit r.took.parts (parts_after s chunk) o m
           refl r.took.puts,
     );
   }
@@ -201,12 +201,12 @@ module _ {D : Type 0} {g : Ghosts D} (limit : Given) (start : Recorded)
 -- what the run had answered when it stopped, and in which reply it did
 stopped : {D : Type 0} {g : Ghosts D} (limit : Given) (start : Recorded) (o m e : Archive D g)
     (a b u v w : Option (List ℕ)) (s : ScriptRun) (n : ℕ) (h : Halt)
-    (r : Reached limit start o m a b u v s n) (piece : List ℕ)
+    (r : Reached limit start o m a b u v s n) (chunk : List ℕ)
     → ((now : Recorded) → RepresentsAt m limit now
-    → Halted h limit now (parts_after s piece) m e v w)
-    → Halted h limit start (r.took.parts ++ parts_after s piece) o e u w
-stopped limit start o m e a b u v w s n h r piece f =
-    halted_after limit start h r.took.parts (parts_after s piece) o m e u v w r.took.puts
+    → Halted h limit now (parts_after s chunk) m e v w)
+    → Halted h limit start (r.took.parts ++ parts_after s chunk) o e u w
+stopped limit start o m e a b u v w s n h r chunk f =
+    halted_after limit start h r.took.parts (parts_after s chunk) o m e u v w r.took.puts
     r.took.wrote (f (recorded_after limit start r.took.parts) r.took.represents)
 
 module _ {D : Type 0} {g : Ghosts D} (limit : Given) (start : Recorded) (o e : Archive D g)
@@ -260,43 +260,43 @@ module _ {D : Type 0} {g : Ghosts D} (limit : Given) (start : Recorded) (o e : A
 
 module _ {D : Type 0} {g : Ghosts D} (limit : Given) (start : Recorded)
     (o m e : Archive D g) {a b c u v w : Option (List ℕ)} {s : ScriptRun} {n : ℕ} where
-  pub reach : (r : Reached limit start o m a b u v s n) (piece : List ℕ) (k : ℕ) (next : ScriptRun)
-      → Consumes b c piece → k ≡ n + length piece
-      → ((now : Recorded) → RepresentsAt m limit now → Took limit now s next m e piece [] v w)
+  pub reach : (r : Reached limit start o m a b u v s n) (chunk : List ℕ) (k : ℕ) (next : ScriptRun)
+      → Consumes b c chunk → k ≡ n + length chunk
+      → ((now : Recorded) → RepresentsAt m limit now → Took limit now s next m e chunk [] v w)
       → Reached limit start o e a c u w next k
   unfolding took_longer
-  reach r piece k next consumes is f = record {
+  reach r chunk k next consumes is f = record {
     run = r.run;
     begun_so = r.begun_so;
-    taken = r.taken ++ piece;
-    consumed = Consumes-trans a b c r.taken piece r.consumed consumes;
-    counted = is ∙ ap (λ j. j + length piece) r.counted ∙ sym (length-append r.taken piece);
-    took = took_more limit start r.run s next o m e (r.taken ++ piece) piece [] u v w
-        (took_longer limit start r.run s o m r.taken [] piece u v r.took)
+    taken = r.taken ++ chunk;
+    consumed = Consumes-trans a b c r.taken chunk r.consumed consumes;
+    counted = is ∙ ap (λ j. j + length chunk) r.counted ∙ sym (length-append r.taken chunk);
+    took = took_more limit start r.run s next o m e (r.taken ++ chunk) chunk [] u v w
+        (took_longer limit start r.run s o m r.taken [] chunk u v r.took)
         (f (recorded_after limit start r.took.parts) r.took.represents);
   }
 
-  pub drove_halted : (h : Halt) (r : Reached limit start o m a b u v s n) (piece : List ℕ)
-      → IsValid (below e) → n + length piece ≤ longest_script → Consumes b c piece
+  pub drove_halted : (h : Halt) (r : Reached limit start o m a b u v s n) (chunk : List ℕ)
+      → IsValid (below e) → n + length chunk ≤ longest_script → Consumes b c chunk
       → ((now : Recorded) → RepresentsAt m limit now
-      → Halted h limit now (parts_after s piece) m e v w)
+      → Halted h limit now (parts_after s chunk) m e v w)
       → Drove limit start (status_of h) a c u w (below o) (below e) (place_of o)
-  drove_halted h r piece law l k f =
-      let x = stopped limit start o m e a b u v w s n h r piece f in
-      let puts = puts_halted limit start o e u w h (r.took.parts ++ parts_after s piece) law x in
-      let within : length (r.taken ++ piece) ≤ longest_script =
-      omega (arith, l, r.counted, length-append r.taken piece) in
+  drove_halted h r chunk law l k f =
+      let x = stopped limit start o m e a b u v w s n h r chunk f in
+      let puts = puts_halted limit start o e u w h (r.took.parts ++ parts_after s chunk) law x in
+      let within : length (r.taken ++ chunk) ≤ longest_script =
+      omega (arith, l, r.counted, length-append r.taken chunk) in
       record {
         ran = record {
-          taken = r.taken ++ piece;
-          consumed = Consumes-trans a b c r.taken piece r.consumed k;
+          taken = r.taken ++ chunk;
+          consumed = Consumes-trans a b c r.taken chunk r.consumed k;
           whole = x.whole;
           rest = x.rest;
-          are = parts_is limit start o m r.run s r.begun_so r.taken u v r.took piece ∙ x.are;
+          are = parts_is limit start o m r.run s r.begun_so r.taken u v r.took chunk ∙ x.are;
           between = x.between;
           replied = x.wrote;
-          wrote = wrote_halted limit start o e u w h c (r.taken ++ piece)
-              (r.took.parts ++ parts_after s piece) within x;
+          wrote = wrote_halted limit start o e u w h c (r.taken ++ chunk)
+              (r.took.parts ++ parts_after s chunk) within x;
         };
         log = puts.0;
         puts = puts.1;

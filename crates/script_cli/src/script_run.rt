@@ -171,14 +171,14 @@ impl ScriptRun {
         }
     }
 
-    /// Takes the next piece of the script, and puts the replies to the statements that end in it.
+    /// Takes the next chunk of the script, and puts the replies to the statements that end in it.
     /// The first fault stops it.
     pub(crate) fn feed<K: Sink, D: Disk>(
         &mut self,
         archive: &mut Archive<D>,
         book: &RuleBook,
         sink: &mut K,
-        piece: &[u8],
+        chunk: &[u8],
     ) -> Result<(), Halt>
         requires each { EachOf book.now.rules.items (λ r. handles (r.vtable, r.value)) }
         requires ready { self.old.splitter.spent ≡ false }
@@ -187,20 +187,20 @@ impl ScriptRun {
             ≡ meaning_of book.now.rules.items (λ r. handles (r.vtable, r.value))
             (λ r. answers (r.vtable, r.value)) → (now : Recorded)
             → RepresentsAt archive.old limit now
-            → OnOk result (Took limit now self.old self.new archive.old archive.new piece.now []
+            → OnOk result (Took limit now self.old self.new archive.old archive.new chunk.now []
             (K.written sink.old) (K.written sink.new)) }
         ensures halted { (limit : Given) → limit.book
             ≡ meaning_of book.now.rules.items (λ r. handles (r.vtable, r.value))
             (λ r. answers (r.vtable, r.value)) → (now : Recorded)
             → RepresentsAt archive.old limit now
-            → IfErr result (λ halt. Halted halt limit now (parts_after self.old piece.now)
+            → IfErr result (λ halt. Halted halt limit now (parts_after self.old chunk.now)
             archive.old archive.new (K.written sink.old) (K.written sink.new)) }
         ensures ready { OnOk result (self.new.splitter.spent ≡ false) }
         ensures takes { OnOk result (TakesRecords archive.new) }
         ensures counts { HaltCounted result (K.faults sink.old) (K.faults sink.new)
             (below archive.old).faults (below archive.new).faults }
     {
-        let mut rest = piece;
+        let mut rest = chunk;
         'turns: loop {
             match self.turn(archive, book, sink, rest) {
                 Ok(left) => match left {

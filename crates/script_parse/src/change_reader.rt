@@ -178,7 +178,8 @@ fn more_changes(alloc: Global, c: &mut Cursor<'_, '_>, list: &mut Vec<Change>) -
 /// Changes joined by THEN, one at least.
 #[tactic(auto, unfolding(crate::specs::StatementReader::changes))]
 pub fn changes(alloc: Global, c: &mut Cursor<'_, '_>) -> Result<Vec<Change>, Stop>
-    ensures { Reads (λ v. changes_of v.items) (spec.changes c.old.nodes (ahead c.old)) result c.new }
+    ensures { Reads (λ v. changes_of v.items)
+        (spec.changes c.old.nodes (ahead c.old)) result c.new }
 {
     let first = change(alloc, c)?;
     let mut list = vec![in alloc; first]?;

@@ -1,4 +1,4 @@
-//! Scripts, as they come in: cut into statements, wherever the pieces in which they come begin and
+//! Scripts, as they come in: cut into statements, wherever the chunks in which they come begin and
 //! end, and each statement read from its text.
 //!
 //! A statement goes up to the next `;` that stands neither in a text literal nor in a comment. A

@@ -1,4 +1,4 @@
-//! The splitter: from pieces of a script to its statements.
+//! The splitter: from chunks of a script to its statements.
 
 use crate::mode::Mode;
 use prima_base::NoMemory;
@@ -7,7 +7,7 @@ use std::alloc::Global;
 use std::marker::Model;
 use std::mem;
 
-/// Cuts a script into its statements. The script comes in pieces of any sizes; the cuts depend on
+/// Cuts a script into its statements. The script comes in chunks of any sizes; the cuts depend on
 /// the joined bytes alone. A splitter keeps the current statement, and of one that is too long one
 /// byte more than the longest has.
 #[derive(Drop)]

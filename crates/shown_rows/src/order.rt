@@ -160,7 +160,8 @@ pub fn order_of(
 ) -> Result<Option<Vec<usize>>, NoMemory>
     requires { (last : Option ℕ) × (columns : List Column) × (ts : List ℕ) × (rest : List ℕ)
         × (spec.columns last keys.now columns ts ≡ Parsed (cells_seen cells.now) rest) }
-    ensures apart { IfOk result (λ order. is_some order ≡ are_apart keys.now (cells_seen cells.now)) }
+    ensures apart { IfOk result (λ order. is_some order
+        ≡ are_apart keys.now (cells_seen cells.now)) }
     ensures order { IfOk result (λ order. IfSome order
         (λ ids. AreOrdered keys.now (cells_seen cells.now) ids.items)) }
 {

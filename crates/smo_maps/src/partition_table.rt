@@ -14,7 +14,8 @@ use std::alloc::Global;
 
 // Puts an equal row after those that meet the condition, or after the others.
 fn push_into(met: bool, row: &Row, yes: &mut Vec<Row>, no: &mut Vec<Row>) -> Result<(), NoMemory>
-    ensures yes { OnOk result (yes.new.items ≡ yes.old.items ++ (if met then row.now ∷ [] else [])) }
+    ensures yes { OnOk result (yes.new.items ≡ yes.old.items
+        ++ (if met then row.now ∷ [] else [])) }
     ensures no { OnOk result (no.new.items ≡ no.old.items ++ (if met then [] else row.now ∷ [])) }
 {
     let copy = row.copy()?;

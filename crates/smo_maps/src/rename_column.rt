@@ -29,7 +29,8 @@ fn moved_sources(
     into: &Name,
 ) -> Result<Vec<Source>, NoMemory>
     ensures { IfOk result (λ v. v.items
-        ≡ map (λ n. source_of columns.now [] (if same into.now n then column.now else n)) names.now) }
+        ≡ map (λ n. source_of columns.now [] (if same into.now n then column.now else n))
+        names.now) }
 {
     let mut sources = Vec::with_capacity(alloc, names.len())?;
     for name in names {

@@ -182,8 +182,9 @@ fn check_in_table(
 /// each whether it stood before (27) and whether it is unknown (23); of an INSERT the first missing
 /// column in name order (35); the references of its expressions and its condition, in written order
 /// (23); its types (25). Places count nodes from `first_node` on, which is below 2^31; of an INSERT
-/// each value is one. Of an accepted change it answers where its table stands, and the number of the
-/// node after it. Each tree has at most 256 nodes, and each table of the schema at most 32 columns.
+/// each value is one. Of an accepted change it answers where its table stands, and the number of
+/// the node after it. Each tree has at most 256 nodes, and each table of the schema at most 32
+/// columns.
 pub fn check_change(
     alloc: Global,
     schema: &Schema,

@@ -128,7 +128,8 @@ fn set_values<'a>(
     requires valid { AreValid values.now }
     ensures value { IfOk result (λ v. AllZip (λ (c : TableColumn) (o : Option OneVal).
         unwrap_or (option_map shown o) (cell columns.now (map shown values.now) c.0)
-        ≡ set_value columns.now (map shown values.now) (sets_of sets.now) c.0) columns.now v.items) }
+        ≡ set_value columns.now (map shown values.now) (sets_of sets.now) c.0)
+        columns.now v.items) }
     ensures valid { IfOk result (λ v. All (λ o. IfSome o (λ v. IsValid (shown v))) v.items) }
 {
     let mut set = Vec::with_capacity(alloc, columns.len())?;

@@ -1,3 +1,5 @@
+//! An operator, checked against a schema, and the schema after it, kind by kind.
+
 ghost use Rattle.std.specs.Prelude.{◌≡◌, None, IfOk};
 ghost use Rattle.smo_types.specs.Operators.{operator_of};
 ghost use Rattle.smo_meaning.specs.Accepts.{operator_refusal};

@@ -1,3 +1,5 @@
+//! Copies of operators, changes and bodies of commands, and of what they are made of.
+
 ghost use Rattle.std.specs.Prelude.{◌≡◌, IfOk};
 ghost use Rattle.smo_types.specs.Operators.{operator_of, operators_of, create_table, rename_table};
 ghost use Rattle.smo_types.specs.Operators.{copy_table, merge_table, partition_table};

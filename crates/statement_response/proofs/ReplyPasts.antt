@@ -40,7 +40,8 @@ last_is : (past : Past) (stamp : ℕ) (body : PlainBody)
 last_is past stamp (changing changes) = refl
 last_is past stamp (evolving op inverse) = refl
 
-pub command_keeps : (past : Past) (command : PlainCommand) → IsOfScript past → (command.stamp < forever)
+pub command_keeps : (past : Past) (command : PlainCommand) → IsOfScript past
+    → (command.stamp < forever)
     × ValidInEvolution command.body → command_fault past command ≡ None
     → IsOfScript (past_with past command)
 command_keeps past command h written e = record {

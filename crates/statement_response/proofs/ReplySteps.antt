@@ -197,6 +197,7 @@ reading_step limit now Blank = unchanged now (reading_reply limit Blank now) ref
 reading_step limit now (Refused r) = unchanged now (reading_reply limit (Refused r) now) refl refl
 reading_step limit now (Whole s) = statement_step limit now s
 
-pub reply_step : (limit : Given) (now : Recorded) (text : List ℕ) → IsStep now (reply limit now text)
+pub reply_step : (limit : Given) (now : Recorded) (text : List ℕ)
+    → IsStep now (reply limit now text)
 unfolding reply
 reply_step limit now text = reading_step limit now (reading text)

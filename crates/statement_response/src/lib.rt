@@ -1,5 +1,5 @@
-//! The response to one statement over an archive on a disk: it is read, the archive carries it out or
-//! answers it, and its reply is put.
+//! The response to one statement over an archive on a disk: it is read, the archive carries it out
+//! or answers it, and its reply is put.
 //!
 //! `respond` carries the theorem: what is put of the reply, what is written, and what the archive
 //! then stands for, also where the sink or the disk fails.

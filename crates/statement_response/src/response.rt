@@ -35,7 +35,7 @@ use crate::checkpoint::respond_checkpoint;
 use crate::halt::{Halt, or_write_fault};
 use crate::put::Put;
 use answer_text::{
-    Explained, Listing, Stop, put_changed, put_count, put_evolved, put_explained, put_listing,
+    Explained, Listing, PutStop, put_changed, put_count, put_evolved, put_explained, put_listing,
     put_refusal, put_schema, put_size, put_versions,
 };
 use archive_core::{Archive, AskFault, CommitFault, Done};
@@ -135,8 +135,8 @@ fn put_pieces<K: Sink>(alloc: Global, sink: &mut K, pieces: &[Explained]) -> Res
 {
     match put_explained(alloc, sink, pieces) {
         Ok(()) => Ok(Put::NoError),
-        Err(Stop::WriteFault) => Err(Halt::WriteFault),
-        Err(Stop::NoMemory) => Err(Halt::NoMemory),
+        Err(PutStop::WriteFault) => Err(Halt::WriteFault),
+        Err(PutStop::NoMemory) => Err(Halt::NoMemory),
     }
 }
 
@@ -212,8 +212,8 @@ fn respond_versions<K: Sink, D: Disk>(
 {
     match put_versions(alloc, sink, &archive.groups().versions().list) {
         Ok(()) => Ok(Put::NoError),
-        Err(Stop::WriteFault) => Err(Halt::WriteFault),
-        Err(Stop::NoMemory) => Err(Halt::NoMemory),
+        Err(PutStop::WriteFault) => Err(Halt::WriteFault),
+        Err(PutStop::NoMemory) => Err(Halt::NoMemory),
     }
 }
 
@@ -232,8 +232,8 @@ fn respond_schema<K: Sink, D: Disk>(
     match groups.schema(version) {
         Some(schema) => match put_schema(alloc, sink, schema) {
             Ok(()) => Ok(Put::NoError),
-            Err(Stop::WriteFault) => Err(Halt::WriteFault),
-            Err(Stop::NoMemory) => Err(Halt::NoMemory),
+            Err(PutStop::WriteFault) => Err(Halt::WriteFault),
+            Err(PutStop::NoMemory) => Err(Halt::NoMemory),
         },
         None => or_write_fault(refuse(sink, &Refusal::NoVersion(version, groups.newest()))),
     }

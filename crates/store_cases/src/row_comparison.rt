@@ -110,7 +110,8 @@ fn rows_of<'a>(
     ids: &[usize],
 ) -> Result<Vec<GivenRow<'a>>, NoMemory>
     requires { All (All (λ c. IsValid c.value)) (entries_of columns.now) }
-    ensures { IfOk result (λ v. v.items ≡ rows_along ids.now (forever - 1) (entries_of columns.now)) }
+    ensures { IfOk result (λ v. v.items
+        ≡ rows_along ids.now (forever - 1) (entries_of columns.now)) }
 {
     let mut rows = Vec::new(alloc);
     for id in ids {

@@ -255,10 +255,10 @@ fn image_counted<L: Ledger>(
 
 /// The bytes of the image of the groups, with this last stamp. The versions are those of an
 /// archive: each is accepted after the one before. What was written is valid: the tables, their
-/// values, and the names and constants in the versions' operators. The image of groups that show a
-/// past with this last stamp shows just that past, and has as many bytes as its versions and sizes
-/// say. The bytes are counted first, and written into one buffer of just so many. The one error is
-/// `NoMemory`, where memory runs out.
+/// values, and the names and constants in the versions' operators. The image of groups that
+/// represent a past with this last stamp shows just that past, and has as many bytes as its
+/// versions and sizes say. The bytes are counted first, and written into one buffer of just so
+/// many. The one error is `NoMemory`, where memory runs out.
 pub fn image_of(alloc: Global, groups: &Groups, last: Option<u64>) -> Result<Vec<u8>, NoMemory>
     requires { AreVersions None no_tables (versions_in groups.now) }
     ensures bytes { IfOk result (λ v. v.items ≡ image_bytes (image_in groups.now last)) }

@@ -20,7 +20,7 @@ use image_spelling::an_image_is_what_is_read;
 use prima_base::NoMemory;
 use smo_types::Versions;
 use std::alloc::Global;
-use version_groups::{Groups, restored_shows};
+use version_groups::{Groups, restored_groups_represent};
 
 // The table that was kept over a lifeline.
 fn restored_table(
@@ -89,7 +89,7 @@ fn restored(alloc: Global, image: ReadImage<'_>) -> Result<(Groups, Option<u64>)
     } = image;
     let tables = tables_of(alloc, &versions, lines)?;
     let groups = Groups::restore(alloc, versions, tables)?;
-    restored_shows(&groups);
+    restored_groups_represent(&groups);
     Ok((groups, last))
 }
 

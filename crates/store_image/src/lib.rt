@@ -2,7 +2,7 @@
 //!
 //! `image_of` writes the image of groups into one buffer of just its bytes, and `read_image` makes
 //! groups again of the bytes of an image, or says where they break. Which bytes are an image says
-//! image_spelling; that the image of groups which show a past shows just this past, a law here.
+//! image_spelling; that the image of groups shows just the past that they represent, a law here.
 #![tactic(auto)]
 
 mod image_of_store;

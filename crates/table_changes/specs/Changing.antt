@@ -3,7 +3,7 @@ use Rattle.std.specs.Prelude.{◌≡◌, ℕ, ◌≤◌, List, [], ◌∷◌, le
 use Rattle.std.specs.Borrow.{Bor}
 use Rattle.prima_base.specs.Columns.{Column}
 use Rattle.history_store.specs.Store.{Store, relation_at}
-use Rattle.history_store.specs.Change.{PreparedChange, IsPlan, rows_along, rows_after}
+use Rattle.history_store.specs.Change.{PreparedChange, IsPrepared, rows_along, rows_after}
 use Rattle.smo_types.specs.Changes.{PlainChange, change_of}
 use Rattle.smo_types.specs.declared.change.Change.{Change}
 use Rattle.smo_meaning.specs.First.{first_refusal}
@@ -29,11 +29,11 @@ AreAccepted columns (c ∷ changes) = ((at : ℕ) × (first_refusal (tests_after
 
 -- a change of the table that is ready, has its room, and leads to these rows from the stamp on, by
 -- the rows in which they differ from the table's
-pub record IsChange (store : Store) (stamp : ℕ) (rows : Relation) (plan : PreparedChange) :
+pub record IsChange (store : Store) (stamp : ℕ) (rows : Relation) (change : PreparedChange) :
     Type 0 where
-  pub at : plan.stamp ≡ stamp
-  pub fits : IsPlan store plan
-  pub room : length plan.gained ≤ store.spare
-  pub leads : rows_after store plan ≡ rows
-  pub lost : rows_along plan.lost stamp store.cells ≡ gained_rows rows (relation_at store stamp)
-  pub gained : plan.gained ≡ gained_rows (relation_at store stamp) rows
+  pub at : change.stamp ≡ stamp
+  pub fits : IsPrepared store change
+  pub room : length change.gained ≤ store.spare
+  pub leads : rows_after store change ≡ rows
+  pub lost : rows_along change.lost stamp store.cells ≡ gained_rows rows (relation_at store stamp)
+  pub gained : change.gained ≡ gained_rows (relation_at store stamp) rows

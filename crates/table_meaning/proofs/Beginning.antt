@@ -16,7 +16,8 @@ use Rattle.row_writes.specs.Writing.{unpaired, new_keys}
 use Rattle.row_order.specs.Handing.{handed, only_in}
 use Rattle.table_meaning.specs.Handing.{written}
 use Rattle.row_order.specs.Indexes.{Index}
-use Rattle.table_meaning.specs.Change.{PreparedChange, IsPlan, keys_after, cells_after, rows_along}
+use Rattle.table_meaning.specs.Change.{PreparedChange, IsPrepared, keys_after, cells_after}
+use Rattle.table_meaning.specs.Change.{rows_along}
 use Rattle.table_meaning.specs.Change.{write_rows, close_all, no_cells}
 use Rattle.row_order.proofs.Cells.{length-cells_of}
 use Rattle.table_meaning.proofs.Preparing.{none_stored}
@@ -84,7 +85,7 @@ empty [] f = refl
 empty (x ∷ xs) f = absurd (f x (inl refl))
 
 pub no_lost : (columns : List Column) (logs : List (List Write)) (spare : ℕ) (p : PreparedChange)
-    → IsPlan (store_of columns [] logs spare []) p → p.lost ≡ []
+    → IsPrepared (store_of columns [] logs spare []) p → p.lost ≡ []
 no_lost columns logs spare p f = empty p.lost
     (λ x i. (let h = (f.hands.lost_open x i).0 in omega (arith, h)))
 
@@ -125,7 +126,7 @@ first_written f k p rows cells l g =
     ∙ ap (written f k []) g in
     omega (arith, e)
 
-pub plan_is : (p : PreparedChange) (stamp : ℕ) (rows : List (List Value)) → p.stamp ≡ stamp
+pub prepared_is : (p : PreparedChange) (stamp : ℕ) (rows : List (List Value)) → p.stamp ≡ stamp
     → p.lost ≡ [] → p.gained ≡ rows → p ≡ record {
       stamp = stamp;
       lost = [];
@@ -133,7 +134,7 @@ pub plan_is : (p : PreparedChange) (stamp : ℕ) (rows : List (List Value)) → 
       after =
           p.after;
     }
-plan_is p stamp rows a b c = ap (λ s. record {
+prepared_is p stamp rows a b c = ap (λ s. record {
   stamp = s;
   lost = p.lost;
   gained = p.gained;

@@ -1,4 +1,4 @@
--- A change of few rows makes a plan.
+-- What is found for a change of few rows is a prepared change.
 use Rattle.std.proofs.Common.{◌≡◌, ◌⊎◌, ℕ, ◌+◌, ◌<◌, ◌≤◌, true, false, List, [], ◌∷◌, ◌++◌, length}
 use Rattle.std.proofs.Common.{refl, sym, ap, ◌∙◌, subst, arith, inl, inr, if◌then◌else◌}
 use Rattle.relations.specs.Sets.{In, Ascends, set_of, has}
@@ -22,13 +22,14 @@ use Rattle.value_order.specs.ByValue.{Distinct}
 use Rattle.row_writes.specs.RowRoom.{rows_room}
 use Rattle.row_order.specs.Splices.{IsSplit, IsJoined, IsSpliced}
 use Rattle.row_order.specs.Indexes.{Index, later_ids, more_ids, IsPlaced}
-use Rattle.table_meaning.specs.Change.{IsPlan, ids_at, rows_after, rows_along, changed, write_rows}
+use Rattle.table_meaning.specs.Change.{IsPrepared, ids_at, rows_after, rows_along, changed}
+use Rattle.table_meaning.specs.Change.{write_rows}
 use Rattle.table_meaning.specs.Change.{close_all}
 use Rattle.value_order.proofs.Places.{not_true}
 use Rattle.row_order.proofs.Sides.{set_is}
 use Rattle.row_order.proofs.Coming.{from_only}
 use Rattle.row_order.proofs.RowsOf.{rows_of_in, in_rows_of}
-use Rattle.table_meaning.proofs.Plans.{rows_other, next_rows, handed_is}
+use Rattle.table_meaning.proofs.CarriedOut.{rows_other, next_rows, handed_is}
 use Rattle.table_meaning.proofs.Showing.{along_is, current_relation}
 use Rattle.table_meaning.proofs.Making.{all_wide, more_room}
 use Rattle.table_meaning.proofs.Moments.{same_id}
@@ -218,7 +219,7 @@ module _ {indexed : List ℕ} (columns : List Column) (keys : List Span) (logs :
       (more_room {others = indexed} columns keys logs spare n stamp b) l hands
 
   pub change_fits : {others : List ℕ} → (n : ℕ) → rows_room gained ≤ n
-      → IsPlan (store_of columns keys logs n others)
+      → IsPrepared (store_of columns keys logs n others)
       (record { stamp = stamp; lost = found; gained = gained; after = index })
   unfolding after
   change_fits {others} n room = record {

@@ -1,4 +1,4 @@
--- A plan that is installed.
+-- A prepared change that is installed.
 use Rattle.std.proofs.Common.{◌≡◌, ℕ, ◌<◌, ◌≤◌, List, [], ◌∷◌, ◌++◌, length, refl, sym, ap, ◌∙◌}
 use Rattle.std.proofs.Common.{subst, arith, length-append}
 use Rattle.std.proofs.Math.ListN.{get_or-append}
@@ -19,12 +19,12 @@ use Rattle.row_writes.specs.Writing.{logs_handed}
 use Rattle.row_order.specs.Handing.{handed}
 use Rattle.table_meaning.specs.Handing.{IsHandOver}
 use Rattle.value_order.specs.ByValue.{Distinct}
-use Rattle.table_meaning.specs.Change.{PreparedChange, IsPlan, ids_at, ids_after, rows_after}
+use Rattle.table_meaning.specs.Change.{PreparedChange, IsPrepared, ids_at, ids_after, rows_after}
 use Rattle.table_meaning.specs.Change.{rows_along, cells_after, write_rows, close_all}
 use Rattle.row_order.specs.Indexes.{IsPlaced, later_ids}
 use Rattle.table_meaning.proofs.Puts.{row_width}
-use Rattle.table_meaning.proofs.Plans.{stored_after, before_after, open_after, started_after}
-use Rattle.table_meaning.proofs.Plans.{unpaired_in, not_both, rows_all}
+use Rattle.table_meaning.proofs.CarriedOut.{stored_after, before_after, open_after, started_after}
+use Rattle.table_meaning.proofs.CarriedOut.{unpaired_in, not_both, rows_all}
 use Rattle.table_meaning.proofs.Now.{at_now}
 use Rattle.row_order.proofs.RowsOf.{rows_of_in}
 use Rattle.table_meaning.proofs.Histories.{below_rows}
@@ -180,10 +180,10 @@ module _ {indexed : List ℕ} (columns : List Column) (keys : List Span) (logs :
     later_then n m h = all_before columns (keys_handed keys lost gained stamp)
         (logs_handed keys logs lost gained stamp) after n stamp m stored_then h
 
--- the same from a plan
+-- the same from a prepared change
 module _ {indexed : List ℕ} (columns : List Column) (keys : List Span) (logs : List (List Write))
     (live : List ℕ) (spare : ℕ) (k : IsKept columns keys logs live) (p : PreparedChange)
-    (f : IsPlan (store_of columns keys logs spare indexed) p) where
+    (f : IsPrepared (store_of columns keys logs spare indexed) p) where
   pub ids_then : ids_after (store_of columns keys logs spare indexed) p ≡ later_ids p.after live
   ids_then = ap (λ ids. later_ids p.after ids)
       (live_is columns keys logs live spare p.stamp k f.before f.valid)
@@ -204,39 +204,39 @@ module _ {indexed : List ℕ} (columns : List Column) (keys : List Span) (logs :
       (logs_handed keys logs p.lost p.gained p.stamp))
   relation_then = subst (IsRelation columns) rows_are f.relation
 
-  pub plan_kept : IsKept columns (keys_handed keys p.lost p.gained p.stamp)
+  pub prepared_kept : IsKept columns (keys_handed keys p.lost p.gained p.stamp)
       (logs_handed keys logs p.lost p.gained p.stamp) (later_ids p.after live)
-  plan_kept = subst (IsKept columns (keys_handed keys p.lost p.gained p.stamp)
+  prepared_kept = subst (IsKept columns (keys_handed keys p.lost p.gained p.stamp)
       (logs_handed keys logs p.lost p.gained p.stamp)) ids_then
       (kept_then columns keys logs live spare k p.stamp p.lost p.gained
       (ids_after (store_of columns keys logs spare indexed) p) f.before f.valid f.hands
       relation_then)
 
-  pub plan_cells : all_entries (keys_handed keys p.lost p.gained p.stamp)
+  pub prepared_cells : all_entries (keys_handed keys p.lost p.gained p.stamp)
       (logs_handed keys logs p.lost p.gained p.stamp)
       ≡ cells_after (store_of columns keys logs spare indexed) p
-  plan_cells = entries_are columns keys logs live spare k p.stamp p.lost p.gained
+  prepared_cells = entries_are columns keys logs live spare k p.stamp p.lost p.gained
       (ids_after (store_of columns keys logs spare indexed) p) f.before f.valid f.hands
 
-  pub plan_before : (others : List ℕ) (n m : ℕ) → m < p.stamp
+  pub prepared_before : (others : List ℕ) (n m : ℕ) → m < p.stamp
       → relation_at (store_of columns (keys_handed keys p.lost p.gained p.stamp)
       (logs_handed keys logs p.lost p.gained p.stamp) n others) m
       ≡ relation_at (store_of columns keys logs spare indexed) m
-  plan_before = before_then columns keys logs live spare k p.stamp p.lost p.gained
+  prepared_before = before_then columns keys logs live spare k p.stamp p.lost p.gained
       (ids_after (store_of columns keys logs spare indexed) p) f.before f.valid f.hands
       relation_then
 
-  pub plan_from : (others : List ℕ) (n m : ℕ) → p.stamp ≤ m → m < forever
+  pub prepared_from : (others : List ℕ) (n m : ℕ) → p.stamp ≤ m → m < forever
       → relation_at (store_of columns (keys_handed keys p.lost p.gained p.stamp)
       (logs_handed keys logs p.lost p.gained p.stamp) n others) m
       ≡ rows_after (store_of columns keys logs spare indexed) p
-  plan_from others n m h l = from_then columns keys logs live spare k p.stamp p.lost p.gained
+  prepared_from others n m h l = from_then columns keys logs live spare k p.stamp p.lost p.gained
       (ids_after (store_of columns keys logs spare indexed) p) f.before f.valid f.hands
       relation_then others n m h l ∙ sym rows_are
 
-  pub plan_later : {others : List ℕ} → (n m : ℕ) → p.stamp < m
+  pub prepared_later : {others : List ℕ} → (n m : ℕ) → p.stamp < m
       → AllBefore (store_of columns (keys_handed keys p.lost p.gained p.stamp)
       (logs_handed keys logs p.lost p.gained p.stamp) n others) m
-  plan_later = later_then columns keys logs live spare k p.stamp p.lost p.gained
+  prepared_later = later_then columns keys logs live spare k p.stamp p.lost p.gained
       (ids_after (store_of columns keys logs spare indexed) p) f.before f.valid f.hands
       relation_then

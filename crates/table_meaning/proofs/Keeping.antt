@@ -1,4 +1,4 @@
--- The indexes of columns after a plan.
+-- The indexes of columns after a prepared change.
 use Rattle.std.proofs.Common.{◌≡◌, ◌≢◌, ℕ, zero, suc, ◌+◌, ◌-◌, ◌<◌, ◌≤◌, List, [], ◌∷◌, All}
 use Rattle.std.proofs.Common.{length, get_or, refl, sym, ap, ◌∙◌, subst, arith, inl, inr}
 use Rattle.relations.specs.Sets.{In, BeforeAll, Ascends}
@@ -14,10 +14,10 @@ use Rattle.value_order.specs.ByValue.{Distinct, by_value, ids_handed, IsWith}
 use Rattle.prima_base.specs.Columns.{Column}
 use Rattle.table_meaning.specs.Kept.{store_of, IsKept}
 use Rattle.row_order.specs.Indexes.{later_ids}
-use Rattle.table_meaning.specs.Change.{PreparedChange, IsPlan}
+use Rattle.table_meaning.specs.Change.{PreparedChange, IsPrepared}
 use Rattle.row_writes.specs.ValueIndexes.{Indexed, IsIndexed, IsReady, IsGaining}
 use Rattle.column_log.proofs.Puts.{put_other}
-use Rattle.table_meaning.proofs.Plans.{handed_is, handed_distinct}
+use Rattle.table_meaning.proofs.CarriedOut.{handed_is, handed_distinct}
 use Rattle.row_order.proofs.Cells.{length-cells_of}
 use Rattle.table_meaning.proofs.Rule.{length-unpaired}
 use Rattle.table_meaning.proofs.Installing.{rows_width, ids_then}
@@ -138,11 +138,11 @@ module _ (keys : List Span) (width : ℕ) (live lost : List ℕ) (gained : List 
       ];
     }
 
--- ---- the same from a plan
+-- ---- the same from a prepared change
 
 module _ {indexed : List ℕ} (columns : List Column) (keys : List Span) (logs : List (List Write))
     (live : List ℕ) (spare : ℕ) (k : IsKept columns keys logs live) (p : PreparedChange)
-    (f : IsPlan (store_of columns keys logs spare indexed) p) where
+    (f : IsPrepared (store_of columns keys logs spare indexed) p) where
   hands : IsHandOver keys (length columns) p.lost p.gained (later_ids p.after live)
   hands = subst (λ ids. IsHandOver keys (length columns) p.lost p.gained ids)
       (ids_then columns keys logs live spare k p f) f.hands

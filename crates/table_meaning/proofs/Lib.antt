@@ -14,8 +14,8 @@ pub mod Entering
 pub mod Histories
 pub mod Now
 pub mod Puts
-pub mod Plans
-pub mod Planning
+pub mod CarriedOut
+pub mod FoundIds
 pub mod Preparing
 pub mod Rule
 pub mod Counts

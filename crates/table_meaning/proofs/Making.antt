@@ -1,4 +1,4 @@
--- What is found along the current rows makes a plan.
+-- What is found along the current rows is a prepared change.
 use Rattle.std.proofs.Common.{◌≡◌, ℕ, suc, ◌<◌, ◌≤◌, List, [], ◌∷◌, length, refl, sym, ap, ◌∙◌}
 use Rattle.std.proofs.Common.{subst, arith, inl, inr}
 use Rattle.relations.specs.Sets.{In}
@@ -15,8 +15,8 @@ use Rattle.table_meaning.specs.Handing.{IsHandOver}
 use Rattle.row_order.specs.Handing.{only_in, lost_ids, gained_rows, after_ids}
 use Rattle.row_writes.specs.RowRoom.{rows_room}
 use Rattle.row_order.specs.Indexes.{Whole}
-use Rattle.table_meaning.specs.Change.{PreparedChange, IsPlan, rows_after, rows_along}
-use Rattle.table_meaning.proofs.Planning.{is_plan, plan_rows, lost_is}
+use Rattle.table_meaning.specs.Change.{PreparedChange, IsPrepared, rows_after, rows_along}
+use Rattle.table_meaning.proofs.FoundIds.{is_hand_over, found_rows, lost_is}
 use Rattle.table_meaning.proofs.Rule.{lost_rule, gained_rule}
 use Rattle.table_meaning.proofs.Showing.{along_is}
 use Rattle.table_meaning.proofs.Installing.{later, relation_from, along_after}
@@ -81,7 +81,7 @@ module _ {indexed : List ℕ} (columns : List Column) (keys : List Span) (logs :
       (after_ids logs live (lost_ids logs live rows) (length keys) rows)
   hands = subst (λ n. IsHandOver keys n (lost_ids logs live rows) (gained_rows logs live rows)
       (after_ids logs live (lost_ids logs live rows) (length keys) rows)) k.width
-      (is_plan keys logs live stamp rows s r.ascending w)
+      (is_hand_over keys logs live stamp rows s r.ascending w)
 
   pub made_leads : (others : List ℕ) (n : ℕ) → rows_after (store_of columns keys logs n others)
       (made stamp keys logs live rows) ≡ rows
@@ -90,10 +90,10 @@ module _ {indexed : List ℕ} (columns : List Column) (keys : List Span) (logs :
       along_after columns keys logs live n k stamp (lost_ids logs live rows)
       (gained_rows logs live rows) (after_ids logs live (lost_ids logs live rows) (length keys)
       rows) (more_room {others = indexed} columns keys logs spare n stamp b) l hands
-      ∙ plan_rows keys logs live stamp rows s r.ascending w stamp
+      ∙ found_rows keys logs live stamp rows s r.ascending w stamp
 
   pub made_fits : {others : List ℕ} → (n : ℕ) → rows_room (gained_rows logs live rows) ≤ n
-      → IsPlan (store_of columns keys logs n others) (made stamp keys logs live rows)
+      → IsPrepared (store_of columns keys logs n others) (made stamp keys logs live rows)
   made_fits {others} n room = record {
     before = more_room columns keys logs spare n stamp b;
     valid =

@@ -24,9 +24,11 @@ use Rattle.row_order.specs.Handing.{handed}
 use Rattle.relations.proofs.SetLaws.{before_in}
 use Rattle.table_meaning.proofs.Now.{row_is_now}
 use Rattle.row_order.proofs.RowsOf.{rows_of_in}
-use Rattle.table_meaning.proofs.Plans.{rows_before, in_or_not, length-end_keys, length-new_keys}
-use Rattle.table_meaning.proofs.Plans.{new_key, ended_start, ended_other, ended_same, holds_ended}
-use Rattle.table_meaning.proofs.Plans.{unpaired_in}
+use Rattle.table_meaning.proofs.CarriedOut.{rows_before, in_or_not, length-end_keys}
+use Rattle.table_meaning.proofs.CarriedOut.{length-new_keys}
+use Rattle.table_meaning.proofs.CarriedOut.{new_key, ended_start, ended_other, ended_same}
+use Rattle.table_meaning.proofs.CarriedOut.{holds_ended}
+use Rattle.table_meaning.proofs.CarriedOut.{unpaired_in}
 
 -- an id by its row
 pub same_id : (columns : List (List Write)) (ids : List ℕ) (p q : ℕ)

@@ -13,7 +13,7 @@ use Rattle.relations.specs.Sets.{has}
 use Rattle.row_order.specs.Rows.{row_now, rows_of}
 use Rattle.row_order.specs.Handing.{only_in, lost_ids, gained_by, gained_rows, found}
 use Rattle.row_writes.specs.Writing.{unpaired, keys_handed, new_keys}
-use Rattle.table_meaning.proofs.Plans.{length-end_keys, length-new_keys}
+use Rattle.table_meaning.proofs.CarriedOut.{length-end_keys, length-new_keys}
 
 pub lost_rule : (columns : List (List Write)) (rows : List (List Value)) (ids : List ℕ)
     → rows_of (lost_ids columns ids rows) columns ≡ only_in (rows_of ids columns) rows

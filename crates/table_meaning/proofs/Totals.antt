@@ -1,4 +1,4 @@
--- What a plan writes into each column, weighed.
+-- What a prepared change writes into each column, weighed.
 use Rattle.std.proofs.Common.{◌≡◌, ℕ, ◌+◌, ◌<◌, ◌≤◌, List, [], ◌∷◌, length, get_or, refl, sym, ap}
 use Rattle.std.proofs.Common.{◌∙◌, subst, arith}
 use Rattle.relations.specs.Spans.{Span}
@@ -14,12 +14,12 @@ use Rattle.row_order.specs.Rows.{rows_of, AllWidth}
 use Rattle.table_meaning.specs.Kept.{store_of, IsKept}
 use Rattle.row_writes.specs.Writing.{keys_handed, logs_handed}
 use Rattle.table_meaning.specs.Handing.{written}
-use Rattle.table_meaning.specs.Change.{PreparedChange, IsPlan, rows_along}
+use Rattle.table_meaning.specs.Change.{PreparedChange, IsPrepared, rows_along}
 use Rattle.column_log.proofs.Histories.{last_value, newest_is, none_known}
 use Rattle.table_meaning.proofs.Counts.{One, NoneYet, rows_weight}
 use Rattle.table_meaning.proofs.Counting.{column_weight}
 use Rattle.table_meaning.proofs.Showing.{along_is}
-use Rattle.table_meaning.proofs.Installing.{later, plan_kept}
+use Rattle.table_meaning.proofs.Installing.{later, prepared_kept}
 
 one_over : (x y : List Value) → length x ≡ 1 → length (over x y) ≡ 1
 one_over [] y e = absurd (omega (arith, e))
@@ -51,16 +51,17 @@ none_now keys (c ∷ columns) id h l = (
   none_now keys columns id h.1 l,
 )
 
-pub plan_written : {indexed : List ℕ} → (columns : List Column) (keys : List Span)
+pub prepared_written : {indexed : List ℕ} → (columns : List Column) (keys : List Span)
     (logs : List (List Write)) (live : List ℕ) (spare : ℕ) (w : IsKept columns keys logs live)
-    (p : PreparedChange) (f : IsPlan (store_of columns keys logs spare indexed) p) (g : Value → ℕ)
+    (p : PreparedChange) (f : IsPrepared (store_of columns keys logs spare indexed) p) (g : Value
+    → ℕ)
     (k : ℕ) → k < length columns
     → weight g (get_or (all_entries (keys_handed keys p.lost p.gained p.stamp)
     (logs_handed keys logs p.lost p.gained p.stamp)) k [])
     ≡ weight g (get_or (all_entries keys logs) k []) + written g k
     (rows_along p.lost p.stamp (all_entries keys logs)) p.gained
-plan_written columns keys logs live spare w p f g k h =
-    let then' = plan_kept columns keys logs live spare w p f in
+prepared_written columns keys logs live spare w p f g k h =
+    let then' = prepared_kept columns keys logs live spare w p f in
     let s = later columns keys logs live spare p.stamp p.stamp w f.before (omega arith) in
     let wide : AllWidth (length logs) p.gained =
     subst (λ n. AllWidth n p.gained) (sym w.width) f.hands.wide in

@@ -18,10 +18,10 @@ use Rattle.row_order.specs.Handing.{handed}
 use Rattle.row_order.specs.Rows.{AllWidth}
 use Rattle.table_meaning.specs.Handing.{IsHandOver, Pairs}
 use Rattle.row_order.specs.Indexes.{later_ids}
-use Rattle.table_meaning.specs.Change.{PreparedChange, IsPlan}
+use Rattle.table_meaning.specs.Change.{PreparedChange, IsPrepared}
 use Rattle.table_meaning.specs.Restoring.{store_with, AreCellsOf, AreEntriesOf}
-use Rattle.table_meaning.proofs.Plans.{rows_same, pairs_in}
-use Rattle.table_meaning.proofs.Installing.{plan_kept, ids_then}
+use Rattle.table_meaning.proofs.CarriedOut.{rows_same, pairs_in}
+use Rattle.table_meaning.proofs.Installing.{prepared_kept, ids_then}
 use Rattle.table_meaning.proofs.Keeping.{all_apart}
 
 -- ---- rows
@@ -45,10 +45,10 @@ of_rows columns (id ∷ lost) next (row ∷ gained) f = (
   of_rows columns lost next gained (λ q r p. f q r (inr p)),
 )
 
--- what a plan gains are rows of the columns, since the relation after it has them
+-- what a prepared change gains are rows of the columns, since the relation after it has them
 module _ {indexed : List ℕ} (columns : List Column) (keys : List Span) (logs : List (List Write))
     (live : List ℕ) (spare : ℕ) (k : IsKept columns keys logs live) (p : PreparedChange)
-    (f : IsPlan (store_of columns keys logs spare indexed) p) where
+    (f : IsPrepared (store_of columns keys logs spare indexed) p) where
   hands : IsHandOver keys (length columns) p.lost p.gained (later_ids p.after live)
   hands = subst (λ ids. IsHandOver keys (length columns) p.lost p.gained ids)
       (ids_then columns keys logs live spare k p f) f.hands
@@ -61,7 +61,7 @@ module _ {indexed : List ℕ} (columns : List Column) (keys : List Span) (logs :
       (rows_same q r (handed p.lost (length keys) p.gained) p.gained p.stamp logs
       (all_apart columns keys logs live spare k p f)
       (subst (λ n. AllWidth n p.gained) (sym k.width) hands.wide) h)
-      ((plan_kept columns keys logs live spare k p f).fitting q i)
+      ((prepared_kept columns keys logs live spare k p f).fitting q i)
 
   pub gained_typed : AreRowsOf (types_of columns) p.gained
   gained_typed = of_rows columns p.lost (length keys) p.gained gained_fits

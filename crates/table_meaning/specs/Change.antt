@@ -83,8 +83,8 @@ rows_after s p = rows_along (ids_after s p) p.stamp (cells_after s p)
 abbrev pub changed : List (List Value) → List (List Value) → List (List Value) → List (List Value)
 changed rows lost gained = set_of row_cmp (only_in rows lost ++ gained)
 
--- the plan was made from the store's keys and entries
-pub record IsPlan (s : Store) (p : PreparedChange) : Type 0 where
+-- the change was prepared from the store's keys and entries
+pub record IsPrepared (s : Store) (p : PreparedChange) : Type 0 where
   pub before : AllBefore s p.stamp
   pub valid : p.stamp < forever
   pub placed : IsPlaced p.after (ids_at s p.stamp)

@@ -33,7 +33,7 @@ AllNext keys columns lost gained (id ∷ ids) [] = ⊥
 AllNext keys columns lost gained (id ∷ ids) (row ∷ rows) = HasNext keys columns lost gained id row
     × AllNext keys columns lost gained ids rows
 
--- the plan fits the keys
+-- the lost and the gained rows, and the ids after them, fit the keys
 pub record IsHandOver (keys : List Span) (width : ℕ) (lost : List ℕ) (gained : List (List Value))
     (after : List ℕ) : Type 0 where
   pub lost_open : (id : ℕ) → In id lost → IsOpen keys id

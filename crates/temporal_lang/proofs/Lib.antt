@@ -1,7 +1,7 @@
 pub mod ItemLaws
 pub mod PlaceLaws
 pub mod CrossingLaws
-pub mod SizeLaws
+pub mod CountLaws
 pub mod FewLaws
 pub mod TypingLaws
 pub mod BranchTypeLaws

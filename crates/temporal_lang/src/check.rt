@@ -5,10 +5,10 @@ ghost use Rattle.prima_base.specs.declared.fault.CallFault.TheVariants.{NoMemory
 ghost use Rattle.query_types.specs.Queries.{query_of, IsLasting};
 ghost use Rattle.query_meaning.specs.Checking.{query_fault, IsQueryChecked};
 
+use crate::count::check_query_counts;
 use crate::name::check_names;
 use crate::period::check_periods;
 use crate::resolution::resolve_branches;
-use crate::size::check_query_counts;
 use crate::type_check::check_typing;
 use crate::{Query, QueryFault};
 use prima_base::Refusal;

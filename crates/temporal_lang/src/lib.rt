@@ -6,6 +6,7 @@
 mod arity;
 mod atom;
 mod check;
+mod count;
 mod fault;
 mod item;
 mod list;
@@ -13,11 +14,11 @@ mod name;
 mod period;
 mod reference;
 mod resolution;
-mod size;
 mod to_atom;
 mod type_check;
 
 pub use check::check_query;
+pub use count::check_query_counts;
 pub use fault::QueryFault;
 pub use prima_base::Keep;
 pub use query_grammar::{crossings_tell_what_is_too_much, queries_are_correct, queries_are_one};
@@ -27,4 +28,3 @@ pub use query_meaning::{
 };
 pub use query_parse::{ask, parse_query};
 pub use query_types::{Branch, Query, When, slice};
-pub use size::check_query_counts;

@@ -1,3 +1,5 @@
+//! The periods that a query names: each has a moment.
+
 ghost use Rattle.std.specs.Prelude.{◌≡◌, map};
 ghost use Rattle.smo_meaning.specs.First.{first_refusal};
 ghost use Rattle.query_meaning.specs.Checking.{bounds_fault, when_fault, keep_fault, period_tests};

@@ -1,3 +1,5 @@
+//! References of branches, each made one to an atom of its branch.
+
 ghost use Rattle.std.specs.Prelude.{◌≡◌, ◌≤◌, IfOk, map, length};
 ghost use Rattle.cond_expr.specs.Trees.{fill, fill_test};
 ghost use Rattle.cond_expr.specs.Seen.{tree, test};
@@ -17,7 +19,8 @@ use std::alloc::Global;
 
 fn resolve_outputs(by: &ToAtoms<'_>, alloc: Global, outs: &[Expr]) -> Result<Vec<Expr>, NoMemory>
     ensures { IfOk result (λ v. map tree v.items
-        ≡ map (fill (to_atoms (sources_of by.now.schema.now by.now.from.now))) (map tree outs.now)) }
+        ≡ map (fill (to_atoms (sources_of by.now.schema.now by.now.from.now)))
+        (map tree outs.now)) }
 {
     let mut resolved = Vec::with_capacity(alloc, outs.len())?;
     for out in outs {

@@ -73,7 +73,8 @@ fn reference(
     qualified: bool,
 ) -> Result<Expr, Stop>
     requires { IsName first.now }
-    ensures { Reads tree (spec.ref_rest qualified first.now c.old.nodes (ahead c.old)) result c.new }
+    ensures { Reads tree (spec.ref_rest qualified first.now c.old.nodes (ahead c.old))
+        result c.new }
 {
     let first = name_of(alloc, first)?;
     if !qualified {

@@ -139,7 +139,8 @@ fn with_digit(number: u64, digit: u8) -> Option<u64>
 
 /// The number of these digits; none where it has more than 64 bits.
 pub fn magnitude(digits: &[u8]) -> Option<u64>
-    ensures { MatchOption result (2 ^ 64 ≤ spec.number digits.now) (λ n. n ≡ spec.number digits.now) }
+    ensures { MatchOption result (2 ^ 64 ≤ spec.number digits.now)
+        (λ n. n ≡ spec.number digits.now) }
 {
     let mut number = 0;
     for digit in digits {

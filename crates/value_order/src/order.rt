@@ -19,7 +19,8 @@ use std::cmp::Ordering;
 // Whether the other id's value is less than this one, or the same and the other id less than this.
 fn is_under(column: &Column, other: usize, value: &Val<'_>, id: usize) -> bool
     requires { other < column.now.ids }
-    ensures { result ≡ is_lt (mark_cmp (mark_of column.now.cells other) (shown value.now ∷ [], id)) }
+    ensures { result ≡ is_lt (mark_cmp (mark_of column.now.cells other)
+        (shown value.now ∷ [], id)) }
 {
     match column.newest(other).compare(value) {
         Ordering::Less => true,

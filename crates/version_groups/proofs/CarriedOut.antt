@@ -30,8 +30,8 @@ use Rattle.version_groups.proofs.Pairs.{Paired, paired}
 use Rattle.version_groups.proofs.SizesChanged.{sizes_follow, stamps_follow}
 use Rattle.version_groups.proofs.SizesEvolved.{sizes_begin, stamps_begin, comes_with}
 use Rattle.version_groups.proofs.Covered.{still_of_lifelines}
-use Rattle.version_groups.proofs.Installed.{made_name, plans_at, ended, shows_changed}
-use Rattle.version_groups.proofs.Installed.{shows_evolved}
+use Rattle.version_groups.proofs.Installed.{made_name, prepared_at, ended, represents_changed}
+use Rattle.version_groups.proofs.Installed.{represents_evolved}
 
 -- as many versions as the past has
 pub as_many : (kept : Kept) (past : Past) → Represents kept past
@@ -40,25 +40,26 @@ as_many kept past represents = sym (length-map kept.versions version_of)
     ∙ ap length represents.versions
 
 module _ (kept new : Kept) (past : Past) (represents : Represents kept past) where
-  pub changes_made : (plans : List (Option PreparedChange)) → HasChanges kept new plans
+  pub changes_made : (prepared : List (Option PreparedChange)) → HasChanges kept new prepared
       → (stamp : ℕ) (body : PlainBody) → stamp < forever
       → command_fault past (a_command stamp body) ≡ None
-      → BodyHolds body → IsStep kept past stamp body (changed plans)
+      → BodyHolds body → IsStep kept past stamp body (changed prepared)
       → Represents new (past_with past (a_command stamp body))
-  changes_made plans m stamp (evolving op inverse) valid accepted hold ready = absurd ready
-  changes_made plans m stamp (changing changes) valid accepted hold ready =
+  changes_made prepared m stamp (evolving op inverse) valid accepted hold ready = absurd ready
+  changes_made prepared m stamp (changing changes) valid accepted hold ready =
       let n = as_many kept past represents in
-      shows_changed kept past stamp changes represents valid accepted hold new plans
+      represents_changed kept past stamp changes represents valid accepted hold new prepared
       (ap (map version_of) m.versions) (λ k l. m.groups k (omega (arith, l, n)))
       (subst (λ j. length (group_of new j) ≡ length (group_of kept j)) n m.made.count)
-      (subst (λ j. AreChanges stamp (next_database (changing changes) past) (group_of kept j) plans)
+      (subst (λ j. AreChanges stamp (next_database (changing changes) past) (group_of kept j)
+      prepared)
       n ready)
       (subst (λ j. (k : ℕ) (d : MadeTable) → k < length (group_of kept j)
-      → IsMade (get_or (group_of kept j) k d) (get_or plans k None)
+      → IsMade (get_or (group_of kept j) k d) (get_or prepared k None)
       (get_or (group_of new j) k d)) n m.made.each)
-      (sizes_follow kept new past stamp changes represents valid accepted plans m ready)
+      (sizes_follow kept new past stamp changes represents valid accepted prepared m ready)
       (still_of_lifelines kept new m.versions m.places m.lines represents.lifelines)
-      (stamps_follow kept new past stamp changes represents valid accepted plans m ready)
+      (stamps_follow kept new past stamp changes represents valid accepted prepared m ready)
 
   pub version_made : (made : Version) (begun : List MadeTable) (places : List ℕ)
       → HasVersion kept new made begun places → (stamp : ℕ) (body : PlainBody) → stamp < forever
@@ -68,7 +69,7 @@ module _ (kept new : Kept) (past : Past) (represents : Represents kept past) whe
   version_made made begun places m stamp (changing changes) valid accepted hold ready = absurd ready
   version_made made begun places m stamp (evolving op inverse) valid accepted hold ready =
       let n = as_many kept past represents in
-      shows_evolved kept past stamp op inverse represents valid accepted hold new
+      represents_evolved kept past stamp op inverse represents valid accepted hold new
       (version_of made) begun
       places ready
       (ap (map version_of) m.versions ∙ map-append version_of kept.versions (made ∷ []))
@@ -79,25 +80,26 @@ module _ (kept new : Kept) (past : Past) (represents : Represents kept past) whe
       (stamps_begin kept new past stamp op inverse represents n accepted made begun places m ready)
 
   -- the tables of earlier versions stay at the moments at which these are in force
-  pub changes_leave : (plans : List (Option PreparedChange)) → HasChanges kept new plans
+  pub changes_leave : (prepared : List (Option PreparedChange)) → HasChanges kept new prepared
       → (stamp : ℕ) (body : PlainBody) → stamp < forever
       → command_fault past (a_command stamp body) ≡ None
-      → IsStep kept past stamp body (changed plans) → (k : ℕ) → k < length kept.versions
+      → IsStep kept past stamp body (changed prepared) → (k : ℕ) → k < length kept.versions
       → (name : List ℕ) → StaysEntry (versions_in new) k (table_in kept k name)
       (table_in new k name)
-  changes_leave plans m stamp (evolving op inverse) valid accepted ready k l name = absurd ready
-  changes_leave plans m stamp (changing changes) valid accepted ready k l name =
-      step (paired (IsMadeBy plans) (λ t u h. made_name t h.plan u h.made) name (group_of kept k)
+  changes_leave prepared m stamp (evolving op inverse) valid accepted ready k l name = absurd ready
+  changes_leave prepared m stamp (changing changes) valid accepted ready k l name =
+      step (paired (IsMadeBy prepared) (λ t u h. made_name t h.change u h.made) name
+      (group_of kept k)
       (group_of new k) (m.groups k l).count (m.groups k l).each)
     where
       n : length kept.versions ≡ length past.versions
       n = as_many kept past represents
 
-      at : (plan : PreparedChange) → In (Some plan) plans → plan.stamp ≡ stamp
-      at = plans_at stamp (next_database (changing changes) past)
-          (group_of kept (length past.versions)) plans
+      at : (change : PreparedChange) → In (Some change) prepared → change.stamp ≡ stamp
+      at = prepared_at stamp (next_database (changing changes) past)
+          (group_of kept (length past.versions)) prepared
           (subst (λ j. AreChanges stamp (next_database (changing changes) past) (group_of kept j)
-          plans) n ready)
+          prepared) n ready)
 
       own : (t : ℕ) → IsInForce (versions_in new) k t → t < stamp
       own t f =
@@ -110,7 +112,7 @@ module _ (kept new : Kept) (past : Past) (represents : Represents kept past) whe
                 (omega (arith, l, n)) t past_own b)
           ]
 
-      stays : (t u : MadeTable) (p : Option PreparedChange) → IsAmong p plans → IsMade t p u
+      stays : (t u : MadeTable) (p : Option PreparedChange) → IsAmong p prepared → IsMade t p u
           → Stays (versions_in new) k t.store u.store
       stays t u None among e =
           let is : u.store ≡ t.store = ap (λ (x : MadeTable). x.store) e in
@@ -127,7 +129,7 @@ module _ (kept new : Kept) (past : Past) (represents : Represents kept past) whe
                 e.becomes.before j (let b = own j f in omega (arith, b, same));
           }
 
-      step : Paired (IsMadeBy plans) name (group_of kept k) (group_of new k)
+      step : Paired (IsMadeBy prepared) name (group_of kept k) (group_of new k)
           → StaysEntry (versions_in new) k (stored_as name (group_of kept k))
           (stored_as name (group_of new k))
       step (inl none) =
@@ -138,7 +140,7 @@ module _ (kept new : Kept) (past : Past) (represents : Represents kept past) whe
           subst (λ (o : Option Store). StaysEntry (versions_in new) k o
           (stored_as name (group_of new k))) (sym f.was)
           (subst (λ (o : Option Store). StaysEntry (versions_in new) k (Some f.before.store) o)
-          (sym f.now) (stays f.before f.after f.related.plan f.related.among f.related.made))
+          (sym f.now) (stays f.before f.after f.related.change f.related.among f.related.made))
 
 -- tables that are what they were stay at each moment
 entry_stays : (versions : List PlainVersion) (k : ℕ) (s : Option Store) → StaysEntry versions k s s
@@ -154,17 +156,17 @@ table_stays versions k old new e = subst (StaysEntry versions k old) (sym e)
 has_room : (store : Store) (stamp : ℕ) (rows : Relation) (o : Option PreparedChange)
     → Leads store stamp rows o → HasRoom store o
 has_room store stamp rows None h = tt
-has_room store stamp rows (Some plan) h = (h.fits, h.room)
+has_room store stamp rows (Some change) h = (h.fits, h.room)
 
 pub have_room : (kept : Kept) (past : Past) (stamp : ℕ) (body : PlainBody)
-    (plans : List (Option PreparedChange)) → IsStep kept past stamp body (changed plans)
-    → HaveRoom (newest_group kept) plans
-have_room kept past stamp (evolving op inverse) plans h = absurd h
-have_room kept past stamp (changing changes) plans h = record {
+    (prepared : List (Option PreparedChange)) → IsStep kept past stamp body (changed prepared)
+    → HaveRoom (newest_group kept) prepared
+have_room kept past stamp (evolving op inverse) prepared h = absurd h
+have_room kept past stamp (changing changes) prepared h = record {
   count = h.count;
   each = λ k d l. has_room (get_or (newest_group kept) k d).store stamp
       (rows_under (get (next_database (changing changes) past)
-      (get_or (newest_group kept) k d).name)) (get_or plans k None) (h.each k d l);
+      (get_or (newest_group kept) k d).name)) (get_or prepared k None) (h.each k d l);
 }
 
 -- the room for a version that is ready, and the tables that come with it

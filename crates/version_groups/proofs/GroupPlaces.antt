@@ -143,13 +143,13 @@ names_same (t ∷ old) (u ∷ new) e h =
 keeps_name : (t : MadeTable) (p : Option PreparedChange) (u : MadeTable) → IsMade t p u
     → u.name ≡ t.name
 keeps_name t None u e = ap (λ (x : MadeTable). x.name) e
-keeps_name t (Some plan) u h = h.name
+keeps_name t (Some change) u h = h.name
 
-pub made_names : (plans : List (Option PreparedChange)) (old new : List MadeTable)
-    → AreMadeBy plans old new → (k : ℕ) (d : MadeTable) → k < length old
+pub made_names : (prepared : List (Option PreparedChange)) (old new : List MadeTable)
+    → AreMadeBy prepared old new → (k : ℕ) (d : MadeTable) → k < length old
     → (get_or new k d).name ≡ (get_or old k d).name
-made_names plans old new h k d l = (let m = h.each k d l in
-    keeps_name (get_or old k d) m.plan (get_or new k d) m.made)
+made_names prepared old new h k d l = (let m = h.each k d l in
+    keeps_name (get_or old k d) m.change (get_or new k d) m.made)
 
 -- tables each of which has the name that it had
 abbrev pub KeepNames : List MadeTable → List MadeTable → Type 0
@@ -206,13 +206,14 @@ lines_kept old new h = lines_same old new (record {
 made_line : (t : MadeTable) (p : Option PreparedChange) (u : MadeTable) → IsMade t p u
     → line_of u ≡ line_of t
 made_line t None u e = ap line_of e
-made_line t (Some plan) u h = line_same t u h.name h.first h.last h.becomes.columns
+made_line t (Some change) u h = line_same t u h.name h.first h.last h.becomes.columns
 
-pub lines_made : (plans : List (Option PreparedChange)) (old new : List MadeTable)
-    → AreMadeBy plans old new → map line_of new ≡ map line_of old
-lines_made plans old new h = lines_same old new (record {
+pub lines_made : (prepared : List (Option PreparedChange)) (old new : List MadeTable)
+    → AreMadeBy prepared old new → map line_of new ≡ map line_of old
+lines_made prepared old new h = lines_same old new (record {
   count = h.count;
-  each = λ k d l. let m = h.each k d l in made_line (get_or old k d) m.plan (get_or new k d) m.made;
+  each = λ k d l. let m = h.each k d l in made_line (get_or old k d) m.change (get_or new k d)
+      m.made;
 })
 
 -- ---- groups whose tables are others
@@ -261,30 +262,30 @@ module _ (a b : Inside) (versions : b.versions.list.items ≡ a.versions.list.it
             h.lifelines;
       }
 
-  pub has_changes : AreGroups a → (plans : List (Option PreparedChange))
-      → AreMade (at_places a.stored.items a.newest.items) plans
-      (at_places b.stored.items a.newest.items) → AreMadeBy plans a.stored.items b.stored.items
+  pub has_changes : AreGroups a → (prepared : List (Option PreparedChange))
+      → AreMade (at_places a.stored.items a.newest.items) prepared
+      (at_places b.stored.items a.newest.items) → AreMadeBy prepared a.stored.items b.stored.items
       → ((p : ℕ) (d : MadeTable) → (In p a.newest.items → ⊥)
       → get_or b.stored.items p d ≡ get_or a.stored.items p d)
-      → HasChanges (groups_view a) (groups_view b) plans
-  has_changes h plans made by others = record {
+      → HasChanges (groups_view a) (groups_view b) prepared
+  has_changes h prepared made by others = record {
     versions = versions;
     places = same_places;
     there = subst (λ ps. AreWithin ps (length a.stored.items)) (sym own_places) h.newest_there;
     ordered = subst (λ (g : List MadeTable). Ascends bytes_cmp (names_of g)) (sym (newest_is a h))
         h.newest;
     stored = by.count;
-    lines = lines_made plans a.stored.items b.stored.items by;
+    lines = lines_made prepared a.stored.items b.stored.items by;
     others = λ p d n. others p d (λ i. n (subst (In p) (sym own_places) i));
     groups = λ k l.
-        let own = alike_at (IsMadeBy plans) a.stored.items b.stored.items
+        let own = alike_at (IsMadeBy prepared) a.stored.items b.stored.items
         (record { count = by.count; each = by.each }) (get_or (groups_view a).places k []) in
-        subst (λ (ps : List (List ℕ)). AreMadeBy plans (group_of (groups_view a) k)
+        subst (λ (ps : List (List ℕ)). AreMadeBy prepared (group_of (groups_view a) k)
         (at_places b.stored.items (get_or ps k []))) (sym same_places)
         (record { count = own.count; each = own.each });
-    made = subst (λ (g : List MadeTable). AreMade g plans
+    made = subst (λ (g : List MadeTable). AreMade g prepared
         (group_of (groups_view b) (length a.versions.list.items))) (sym (newest_is a h))
-        (subst (AreMade (at_places a.stored.items a.newest.items) plans) (sym last) made);
+        (subst (AreMade (at_places a.stored.items a.newest.items) prepared) (sym last) made);
   }
     where
       own_places : newest_places (groups_view a) ≡ a.newest.items
@@ -302,9 +303,9 @@ module _ (a b : Inside) (versions : b.versions.list.items ≡ a.versions.list.it
 pub names_kept : (old new : List MadeTable) → AreSameTables old new → KeepNames old new
 names_kept old new h = record { count = h.count; each = λ k d l. (h.each k d l).name }
 
-pub names_made : (plans : List (Option PreparedChange)) (old new : List MadeTable)
-    → AreMadeBy plans old new → KeepNames old new
-names_made plans old new h = record { count = h.count; each = made_names plans old new h }
+pub names_made : (prepared : List (Option PreparedChange)) (old new : List MadeTable)
+    → AreMadeBy prepared old new → KeepNames old new
+names_made prepared old new h = record { count = h.count; each = made_names prepared old new h }
 
 -- ---- groups with one version more
 

@@ -142,24 +142,24 @@ made_name t None u e = ap (λ (x : MadeTable). x.name) e
 made_name t (Some p) u e = e.name
 
 -- each of the changes is made at the stamp
-found_plan : (plans : List (Option PreparedChange)) (p : Option PreparedChange) → In p plans
-    → (i : ℕ) × (i < length plans) × (get_or plans i None ≡ p)
-found_plan [] p m = absurd m
-found_plan (q ∷ plans) p (inl e) = (0, omega arith, e)
-found_plan (q ∷ plans) p (inr m) = (let h = found_plan plans p m in let l = h.1 in
+found_change : (prepared : List (Option PreparedChange)) (p : Option PreparedChange) → In p prepared
+    → (i : ℕ) × (i < length prepared) × (get_or prepared i None ≡ p)
+found_change [] p m = absurd m
+found_change (q ∷ prepared) p (inl e) = (0, omega arith, e)
+found_change (q ∷ prepared) p (inr m) = (let h = found_change prepared p m in let l = h.1 in
     (suc h.0, omega (arith, l), h.2))
 
-pub plans_at : (stamp : ℕ) (next : Database) (tables : List MadeTable)
-    (plans : List (Option PreparedChange)) → AreChanges stamp next tables plans
-    → (plan : PreparedChange) → In (Some plan) plans → plan.stamp ≡ stamp
-plans_at stamp next tables plans h plan m =
-    let f = found_plan plans (Some plan) m in
+pub prepared_at : (stamp : ℕ) (next : Database) (tables : List MadeTable)
+    (prepared : List (Option PreparedChange)) → AreChanges stamp next tables prepared
+    → (change : PreparedChange) → In (Some change) prepared → change.stamp ≡ stamp
+prepared_at stamp next tables prepared h change m =
+    let f = found_change prepared (Some change) m in
     let l = f.1 in
     let count = h.count in
     let within : f.0 < length tables = omega (arith, l, count) in
     let t = something_at tables f.0 within in
     let leads : Leads (get_or tables f.0 t).store stamp
-    (rows_under (get next (get_or tables f.0 t).name)) (Some plan) =
+    (rows_under (get next (get_or tables f.0 t).name)) (Some change) =
     subst (λ (o : Option PreparedChange). Leads (get_or tables f.0 t).store stamp
     (rows_under (get next (get_or tables f.0 t).name)) o) f.2 (h.each f.0 t within) in
     leads.at
@@ -183,12 +183,14 @@ module _ (kept : Kept) (past : Past) (stamp : ℕ) (changes : List PlainChange)
 
   -- a table of an earlier version, of which a change is made or none
   abbrev IsAtStamp : List (Option PreparedChange) → Type 0
-  IsAtStamp plans = (plan : PreparedChange) → In (Some plan) plans → plan.stamp ≡ stamp
+  IsAtStamp prepared = (change : PreparedChange) → In (Some change) prepared → change.stamp ≡ stamp
 
-  earlier_table : (plans : List (Option PreparedChange)) → IsAtStamp plans → (k : ℕ) (name : List ℕ)
-      → k < length past.versions → (t u : MadeTable) → IsMadeBy plans t u → (columns : List Column)
+  earlier_table : (prepared : List (Option PreparedChange)) → IsAtStamp prepared
+      → (k : ℕ) (name : List ℕ)
+      → k < length past.versions → (t u : MadeTable) → IsMadeBy prepared t u
+      → (columns : List Column)
       → RepresentsTable past k name columns t.store → RepresentsTable after k name columns u.store
-  earlier_table plans at k name l t u by columns h = step by.plan by.among by.made
+  earlier_table prepared at k name l t u by columns h = step by.change by.among by.made
     where
       before : (m : ℕ) → IsInForce past.versions k m
           → (m < stamp → relation_at u.store m ≡ relation_at t.store m)
@@ -199,7 +201,7 @@ module _ (kept : Kept) (past : Past) (stamp : ℕ) (changes : List PlainChange)
         | inr b ↦ absurd (ended k l m own b)
       ]
 
-      step : (p : Option PreparedChange) → IsAmong p plans → IsMade t p u
+      step : (p : Option PreparedChange) → IsAmong p prepared → IsMade t p u
           → RepresentsTable after k name columns u.store
       step None among e =
           let is : u.store ≡ t.store = ap (λ (x : MadeTable). x.store) e in
@@ -279,45 +281,47 @@ module _ (kept : Kept) (past : Past) (stamp : ℕ) (changes : List PlainChange)
           }
 
   -- the changes are made
-  pub shows_changed : BodyHolds (changing changes)
-      → (new : Kept) (plans : List (Option PreparedChange)) → versions_in new ≡ versions_in kept
-      → ((k : ℕ) → k < length past.versions → AreMadeBy plans (group_of kept k) (group_of new k))
+  pub represents_changed : BodyHolds (changing changes)
+      → (new : Kept) (prepared : List (Option PreparedChange)) → versions_in new ≡ versions_in kept
+      → ((k : ℕ) → k < length past.versions → AreMadeBy prepared (group_of kept k) (group_of new k))
       → length (group_of new (length past.versions)) ≡ length (group_of kept (length past.versions))
       → AreChanges stamp (next_database (changing changes) past)
-      (group_of kept (length past.versions)) plans
+      (group_of kept (length past.versions)) prepared
       → ((k : ℕ) (d : MadeTable) → k < length (group_of kept (length past.versions))
-      → IsMade (get_or (group_of kept (length past.versions)) k d) (get_or plans k None)
+      → IsMade (get_or (group_of kept (length past.versions)) k d) (get_or prepared k None)
       (get_or (group_of new (length past.versions)) k d))
       → HaveSizes after.sizes new.stored → AreOfLifelines new → AreUpTo after.last new.stored
       → Represents new after
-  shows_changed hold new plans versions groups count ready made sizes lifelines stamps = record {
-    valid = next_is_valid kept past stamp (changing changes) represents valid accepted;
-    values = next_holds kept past stamp (changing changes) represents valid accepted hold;
-    ends = valid;
-    versions = versions ∙ represents.versions;
-    tables = λ k name l. elim (newest_or_not k n l) [
-      | inl e ↦ subst (λ j. RepresentsEntry after j name (get (tables_of after j) name)
-          (table_in new j name)) (sym e) (newest name)
-      | inr e ↦ earlier k e name (paired (IsMadeBy plans) names name (group_of kept k)
-          (group_of new k) (groups k e).count (groups k e).each)
-          (represents.tables k name (omega (arith, e)))
-    ];
-    sizes = sizes;
-    lifelines = lifelines;
-    stamps = stamps;
-  }
+  represents_changed hold new prepared versions groups count ready made sizes lifelines stamps =
+      record {
+        valid = next_is_valid kept past stamp (changing changes) represents valid accepted;
+        values = next_holds kept past stamp (changing changes) represents valid accepted hold;
+        ends = valid;
+        versions = versions ∙ represents.versions;
+        tables = λ k name l. elim (newest_or_not k n l) [
+          | inl e ↦ subst (λ j. RepresentsEntry after j name (get (tables_of after j) name)
+              (table_in new j name)) (sym e) (newest name)
+          | inr e ↦ earlier k e name (paired (IsMadeBy prepared) names name (group_of kept k)
+              (group_of new k) (groups k e).count (groups k e).each)
+              (represents.tables k name (omega (arith, e)))
+        ];
+        sizes = sizes;
+        lifelines = lifelines;
+        stamps = stamps;
+      }
     where
       n : ℕ
       n = length past.versions
 
-      at : IsAtStamp plans
-      at = plans_at stamp (next_database (changing changes) past) (group_of kept n) plans ready
+      at : IsAtStamp prepared
+      at = prepared_at stamp (next_database (changing changes) past) (group_of kept n) prepared
+          ready
 
-      names : (t u : MadeTable) → IsMadeBy plans t u → u.name ≡ t.name
-      names t u h = made_name t h.plan u h.made
+      names : (t u : MadeTable) → IsMadeBy prepared t u → u.name ≡ t.name
+      names t u h = made_name t h.change u h.made
 
       earlier : (k : ℕ) → k < n → (name : List ℕ)
-          → Paired (IsMadeBy plans) name (group_of kept k) (group_of new k)
+          → Paired (IsMadeBy prepared) name (group_of kept k) (group_of new k)
           → RepresentsEntry past k name (get (tables_of past k) name)
           (stored_as name (group_of kept k))
           → RepresentsEntry after k name (get (tables_of past k) name)
@@ -332,13 +336,13 @@ module _ (kept : Kept) (past : Past) (stamp : ℕ) (changes : List PlainChange)
           subst (λ (s : Option Store). RepresentsEntry after k name (get (tables_of past k) name) s)
           (sym f.now)
           (entry_follows past after k name (get (tables_of past k) name) (Some f.before.store)
-          (Some f.after.store) (earlier_table plans at k name l f.before f.after f.related)
+          (Some f.after.store) (earlier_table prepared at k name l f.before f.after f.related)
           (subst (λ (s : Option Store). RepresentsEntry past k name (get (tables_of past k) name) s)
           f.was h))
 
       each : (k : ℕ) (d : MadeTable) → k < length (group_of kept n)
           → IsChanged (get_or (group_of kept n) k d) (get_or (group_of new n) k d)
-      each k d l = (get_or plans k None, ready.each k d l, made k d l)
+      each k d l = (get_or prepared k None, ready.each k d l, made k d l)
 
       entry : (name : List ℕ) → Paired IsChanged name (group_of kept n) (group_of new n)
           → RepresentsEntry past n name (get (tables_of past n) name)
@@ -444,7 +448,7 @@ module _ (kept : Kept) (past : Past) (stamp : ℕ) (op : Operator) (inverse : Li
           omega (arith, e, n, few)
 
   -- the version is there, with its tables
-  pub shows_evolved : BodyHolds (evolving op inverse)
+  pub represents_evolved : BodyHolds (evolving op inverse)
       → (new : Kept) (made : PlainVersion) (begun : List MadeTable) (places : List ℕ)
       → IsNextVersion kept (newest_tables past) version (next_database (evolving op inverse) past)
       made begun places
@@ -455,17 +459,18 @@ module _ (kept : Kept) (past : Past) (stamp : ℕ) (op : Operator) (inverse : Li
       ≡ stored_as name (at_places (kept.stored ++ begun) places))
       → HaveSizes evolved.sizes new.stored → AreOfLifelines new → AreUpTo evolved.last new.stored
       → Represents new evolved
-  shows_evolved hold new made begun places is versions tables own sizes lifelines stamps = record {
-    valid = is_past;
-    values = next_holds kept past stamp (evolving op inverse) represents valid accepted hold;
-    ends = valid;
-    versions = versions ∙ ap (λ (vs : List PlainVersion). vs ++ made ∷ []) represents.versions
-        ∙ ap (λ (v : PlainVersion). past.versions ++ v ∷ []) is.version;
-    tables = λ k name l. each k name (before_or_not n k) (subst (λ j. k ≤ j) one_more l);
-    sizes = sizes;
-    lifelines = lifelines;
-    stamps = stamps;
-  }
+  represents_evolved hold new made begun places is versions tables own sizes lifelines stamps =
+      record {
+        valid = is_past;
+        values = next_holds kept past stamp (evolving op inverse) represents valid accepted hold;
+        ends = valid;
+        versions = versions ∙ ap (λ (vs : List PlainVersion). vs ++ made ∷ []) represents.versions
+            ∙ ap (λ (v : PlainVersion). past.versions ++ v ∷ []) is.version;
+        tables = λ k name l. each k name (before_or_not n k) (subst (λ j. k ≤ j) one_more l);
+        sizes = sizes;
+        lifelines = lifelines;
+        stamps = stamps;
+      }
     where
       n : ℕ
       n = length past.versions

@@ -135,18 +135,19 @@ module _ (tables : Tables) (database : Database) (stamp : ℕ) (made : List Made
       (rows_now stamp t) (has_rows whole t.name t.store h)))
 
   pub are_changes : IsDatabase tables database
-      → (changes : List PlainChange) (new : List MadeTable) (plans : List (Option PreparedChange))
-      → AreReady stamp changes new plans → length new ≡ length made
+      → (changes : List PlainChange) (new : List MadeTable)
+      (prepared : List (Option PreparedChange))
+      → AreReady stamp changes new prepared → length new ≡ length made
       → ((k : ℕ) (d : MadeTable) → k < length made
       → ((get_or new k d).name ≡ (get_or made k d).name)
       × (rows_after stamp changes (get_or new k d)
       ≡ rows_after stamp changes (get_or made k d)))
-      → AreChanges stamp (after_each tables changes database) new plans
-  are_changes whole changes new plans ready long same = record {
+      → AreChanges stamp (after_each tables changes database) new prepared
+  are_changes whole changes new prepared ready long same = record {
     count = ready.count;
     each = λ k d l.
         let m : k < length made = omega (arith, l, long) in
-        subst (λ r. Leads (get_or new k d).store stamp r (get_or plans k None))
+        subst (λ r. Leads (get_or new k d).store stamp r (get_or prepared k None))
         ((same k d m).1 ∙ after_is whole changes (get_or made k d) (stands_at k d m)
         ∙ ap (λ n. rows_under (get (after_each tables changes database) n))
         (sym (same k d m).0))

@@ -70,9 +70,9 @@ none_stored zero name tables places e = ap (λ (ps : List (List ℕ)).
 none_stored (suc k) name tables places e = ap
     (λ (ps : List (List ℕ)). stored_as name (at_places tables (get_or ps (suc k) []))) e
 
-pub new_shows : (kept : Kept) → kept.versions ≡ [] → kept.places ≡ [] ∷ [] → kept.stored ≡ []
+pub new_represents : (kept : Kept) → kept.versions ≡ [] → kept.places ≡ [] ∷ [] → kept.stored ≡ []
     → Represents kept beginning
-new_shows kept versions places stored = record {
+new_represents kept versions places stored = record {
   valid = beginning_is_past;
   values = beginning_holds;
   ends = omega arith;
@@ -125,9 +125,9 @@ same_newest : (old new : Kept) → IsSame old new → newest_places new ≡ newe
 same_newest old new same = ap (λ (ps : List (List ℕ)). get_or ps (length new.versions) [])
     same.places ∙ ap (λ (vs : List Version). get_or old.places (length vs) []) same.versions
 
-pub shows_same : (old new : Kept) → IsSame old new → (past : Past) → Represents old past
+pub represents_same : (old new : Kept) → IsSame old new → (past : Past) → Represents old past
     → Represents new past
-shows_same old new same past represents = record {
+represents_same old new same past represents = record {
   valid = represents.valid;
   values = represents.values;
   ends = represents.ends;
@@ -219,12 +219,13 @@ module _ (kept : Kept) (past : Past) (stamp : ℕ) (changes : List PlainChange)
       (body_accepted past (a_command stamp (changing changes)) accepted))
 
   pub changes_ready : BodyHolds (changing changes) → (new : Kept) → IsSame kept new
-      → (plans : List (Option PreparedChange)) → AreReady stamp changes (newest_group new) plans
-      → (next : PreparedCommand) → next.stamp ≡ stamp → step_of next.step ≡ changed plans
+      → (prepared : List (Option PreparedChange))
+      → AreReady stamp changes (newest_group new) prepared
+      → (next : PreparedCommand) → next.stamp ≡ stamp → step_of next.step ≡ changed prepared
       → next.gained ≡ all_gained stamp changes (newest_group kept)
       → next.lost ≡ all_lost stamp changes (newest_group kept)
       → Prepares new past (a_command stamp (changing changes)) next
-  changes_ready hold new same plans ready next own_stamp is gains loses =
+  changes_ready hold new same prepared ready next own_stamp is gains loses =
       let n = length past.versions in
       let e : length new.versions ≡ length past.versions = ap length same.versions ∙ number in
       let stored = stands kept past stamp (changing changes) represents valid accepted in
@@ -239,10 +240,10 @@ module _ (kept : Kept) (past : Past) (stamp : ℕ) (changes : List PlainChange)
           constants = hold;
           step = subst (IsStep new past stamp (changing changes)) (sym is)
               (subst (λ j. AreChanges stamp (next_database (changing changes) past) (group_of new j)
-              plans) (sym e)
+              prepared) (sym e)
               (are_changes (newest_tables past) (newest_database past) stamp (group_of kept n)
-              in_order stored represents.valid.database changes (group_of new n) plans
-              (subst (λ j. AreReady stamp changes (group_of new j) plans) e ready) group.count
+              in_order stored represents.valid.database changes (group_of new n) prepared
+              (subst (λ j. AreReady stamp changes (group_of new j) prepared) e ready) group.count
               (λ k d l. (
                 (group.each k d l).name,
                 same_after stamp changes (get_or (group_of kept n) k d)

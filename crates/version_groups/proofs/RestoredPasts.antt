@@ -1,4 +1,4 @@
--- Restored groups show a past that is one of theirs.
+-- Restored groups represent a past that is one of theirs.
 use Rattle.std.proofs.Common.{◌≡◌, ◌<◌, get_or, ℕ, true, false, Bool, cond, List, [], ◌∷◌, length}
 use Rattle.std.proofs.Common.{refl, sym, ap, subst, ◌∙◌, arith}
 use Rattle.std.specs.Prelude.{Option, Some, None, slice_get}
@@ -53,12 +53,12 @@ module _ (kept : Kept) (past : Past) (restored : AreRestored kept) (is : IsPastO
       let one = stored_one kept.stored name store (places_of kept k) e in
       subst (λ (s : Store). AllBefore s m) one.3 (is.stamps one.0 one.1 m one.2 later)
 
-  entry_shows : (k : ℕ) (name : List ℕ) (o : Option (List Column)) (s : Option Store)
+  entry_represents : (k : ℕ) (name : List ℕ) (o : Option (List Column)) (s : Option Store)
       → table_in kept k name ≡ s → HasEntry (HasColumns name) o s → RepresentsEntry past k name o s
-  entry_shows k name None None e h = tt
-  entry_shows k name None (Some store) e h = absurd h
-  entry_shows k name (Some columns) None e h = absurd h
-  entry_shows k name (Some columns) (Some store) e h = record {
+  entry_represents k name None None e h = tt
+  entry_represents k name None (Some store) e h = absurd h
+  entry_represents k name (Some columns) None e h = absurd h
+  entry_represents k name (Some columns) (Some store) e h = record {
     columns = h;
     shown = λ m own. is.databases k name store m e own;
     stamps = λ m own later. stamps_of k name store e m later;
@@ -67,14 +67,14 @@ module _ (kept : Kept) (past : Past) (restored : AreRestored kept) (is : IsPastO
   many : length kept.versions ≡ length past.versions
   many = sym (length-map kept.versions version_of) ∙ ap length is.versions
 
-  pub shows_past_of : Represents kept past
-  shows_past_of = record {
+  pub represents_past_of : Represents kept past
+  represents_past_of = record {
     valid = is.valid;
     values = is.values;
     ends = is.ends;
     versions = is.versions;
     tables = λ k name l.
-        entry_shows k name (get (tables_of past k) name) (table_in kept k name) refl
+        entry_represents k name (get (tables_of past k) name) (table_in kept k name) refl
         (subst (λ (vs : List PlainVersion). HasEntry (HasColumns name)
         (get (tables_from no_tables vs k) name) (table_in kept k name)) is.versions
         (restored.tables k name (let n = many in omega (arith, l, n))));

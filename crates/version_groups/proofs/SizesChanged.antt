@@ -73,11 +73,11 @@ module _ (now next : Database) (size : Size) (old new : MadeTable) (h : HasSize 
       }))
 
   -- a change writes the rows in which they differ
-  pub grows : (plan : PreparedChange) → IsInstalled old plan new
+  pub grows : (change : PreparedChange) → IsInstalled old change new
       → IsRelation old.store.columns before → IsRelation old.store.columns after
-      → rows_along plan.lost plan.stamp old.store.cells ≡ gained_rows after before
-      → plan.gained ≡ gained_rows before after → HasSize (size_changed now next size) new
-  grows plan made was is lost gained =
+      → rows_along change.lost change.stamp old.store.cells ≡ gained_rows after before
+      → change.gained ≡ gained_rows before after → HasSize (size_changed now next size) new
+  grows change made was is lost gained =
       let columns : List Column = old.store.columns in
       let count : length size.columns ≡ length columns = sym h.columns.count ∙ made.wide in
       subst (λ (s : Size). HasSize s new) (sym living) (record {
@@ -86,7 +86,7 @@ module _ (now next : Database) (size : Size) (old new : MadeTable) (h : HasSize 
         last = made.last ∙ h.last;
         keys =
             let long = ap length lost in
-            let along = along_length plan.lost plan.stamp old.store.cells in
+            let along = along_length change.lost change.stamp old.store.cells in
             let more = ap length gained in
             let own = made.keys in
             let had = h.keys in
@@ -100,7 +100,7 @@ module _ (now next : Database) (size : Size) (old new : MadeTable) (h : HasSize 
             (made.count ∙ h.columns.count)
             (λ f k l. made.written f k (omega (arith, l, count))
             ∙ ap (λ (rows : Relation). weight f (get_or old.store.cells k []) + written f k rows
-            plan.gained) lost
+            change.gained) lost
             ∙ ap (λ (rows : Relation). weight f (get_or old.store.cells k []) + written f k
             (gained_rows after before) rows) gained);
       })
@@ -123,9 +123,9 @@ place_at (q ∷ places) p (inr m) = (let h = place_at places p m in let l = h.1 
 module _ (kept new : Kept) (past : Past) (stamp : ℕ) (changes : List PlainChange)
     (represents : Represents kept past) (valid : stamp < forever)
     (accepted : command_fault past (a_command stamp (changing changes)) ≡ None)
-    (plans : List (Option PreparedChange)) (m : HasChanges kept new plans)
+    (prepared : List (Option PreparedChange)) (m : HasChanges kept new prepared)
     (ready : AreChanges stamp (next_database (changing changes) past) (newest_group kept)
-    plans) where
+    prepared) where
   abbrev now : Database
   now = newest_database past
 
@@ -147,29 +147,29 @@ module _ (kept new : Kept) (past : Past) (stamp : ℕ) (changes : List PlainChan
       represents.valid.database (body_accepted past (a_command stamp (changing changes)) accepted)
 
   -- a table with its change
-  changed : (size : Size) (old u : MadeTable) (plan : Option PreparedChange) → HasSize size old
+  changed : (size : Size) (old u : MadeTable) (change : Option PreparedChange) → HasSize size old
       → old.last ≡ None → Stands (newest_tables past) now stamp (newest_group kept) m.ordered stored
       old.name old.store
-      → Leads old.store stamp (rows_under (get next old.name)) plan → IsMade old plan u
+      → Leads old.store stamp (rows_under (get next old.name)) change → IsMade old change u
       → HasSize (size_changed now next size) u
   changed size old u None h lives s leads made =
       stays now next size old u h lives (ap (λ n. rows_under (get now n)) (sym h.name) ∙ sym s.rows
       ∙ leads ∙ ap (λ n. rows_under (get next n)) h.name) made
-  changed size old u (Some plan) h lives s leads made =
+  changed size old u (Some change) h lives s leads made =
       let columns : get (newest_tables past) size.table ≡ Some old.store.columns =
       ap (get (newest_tables past)) (sym h.name) ∙ s.columns in
       let was : rows_under (get now size.table) ≡ relation_at old.store stamp =
       ap (λ n. rows_under (get now n)) (sym h.name) ∙ sym s.rows in
       let is : rows_under (get next old.name) ≡ rows_under (get next size.table) =
       ap (λ n. rows_under (get next n)) h.name in
-      grows now next size old u h lives plan made
+      grows now next size old u h lives change made
       (relation_there old.store.columns (get now size.table)
       (subst (λ (o : Option (List Column)). IsEntry o (get now size.table)) columns
       (represents.valid.database size.table)))
       (relation_there old.store.columns (get next size.table)
       (subst (λ (o : Option (List Column)). IsEntry o (get next size.table)) columns
       (next_is size.table)))
-      (ap (λ j. rows_along plan.lost j old.store.cells) leads.at ∙ leads.lost
+      (ap (λ j. rows_along change.lost j old.store.cells) leads.at ∙ leads.lost
       ∙ ap (λ (rows : Relation). gained_rows rows (relation_at old.store stamp)) is
       ∙ ap (gained_rows (rows_under (get next size.table))) (sym was))
       (leads.gained ∙ ap (gained_rows (relation_at old.store stamp)) is
@@ -177,10 +177,10 @@ module _ (kept new : Kept) (past : Past) (stamp : ℕ) (changes : List PlainChan
 
   -- the table at a place of the newest version, with its change
   pub record ChangedAt (p : ℕ) (t : MadeTable) : Type 0 where
-    pub plan : Option PreparedChange
-    pub made : IsMade (get_or kept.stored p t) plan (get_or new.stored p t)
+    pub change : Option PreparedChange
+    pub made : IsMade (get_or kept.stored p t) change (get_or new.stored p t)
     pub leads : Leads (get_or kept.stored p t).store stamp
-        (rows_under (get next (get_or kept.stored p t).name)) plan
+        (rows_under (get next (get_or kept.stored p t).name)) change
     pub stands : Stands (newest_tables past) now stamp (newest_group kept) m.ordered stored
         (get_or kept.stored p t).name (get_or kept.stored p t).store
 
@@ -202,13 +202,14 @@ module _ (kept new : Kept) (past : Past) (stamp : ℕ) (changes : List PlainChan
       ∙ at_get new.stored (newest_places kept) i.0 0 t there i.1
       ∙ ap (λ j. get_or new.stored j t) i.2 in
       record {
-        plan = get_or plans i.0 None;
-        made = subst (λ (x : MadeTable). IsMade x (get_or plans i.0 None) (get_or new.stored p t))
+        change = get_or prepared i.0 None;
+        made = subst (λ (x : MadeTable). IsMade x (get_or prepared i.0 None)
+            (get_or new.stored p t))
             old
             (subst (λ (x : MadeTable). IsMade (get_or (newest_group kept) i.0 t)
-            (get_or plans i.0 None) x) after (m.made.each i.0 t within));
+            (get_or prepared i.0 None) x) after (m.made.each i.0 t within));
         leads = subst (λ (x : MadeTable). Leads x.store stamp (rows_under (get next x.name))
-            (get_or plans i.0 None)) old (ready.each i.0 t within);
+            (get_or prepared i.0 None)) old (ready.each i.0 t within);
         stands = subst (λ (x : MadeTable). Stands (newest_tables past) now stamp (newest_group kept)
             m.ordered stored x.name x.store) old
             (stands_at (newest_tables past) now stamp (newest_group kept) m.ordered stored i.0 t
@@ -237,7 +238,7 @@ module _ (kept new : Kept) (past : Past) (stamp : ℕ) (changes : List PlainChan
           let c = changed_at k t
           (lives.among k t (let n = represents.sizes.count in omega (arith, l, n))
           e) in
-          changed (get_or past.sizes k s) (get_or kept.stored k t) (get_or new.stored k t) c.plan
+          changed (get_or past.sizes k s) (get_or kept.stored k t) (get_or new.stored k t) c.change
           (represents.sizes.each k s t l) e c.stands c.leads c.made
       by_last k s t l (Some j) e =
           let h = represents.sizes.each k s t l in
@@ -271,17 +272,17 @@ module _ (kept new : Kept) (past : Past) (stamp : ℕ) (changes : List PlainChan
           → AllBefore (get_or new.stored p t).store n
       stays e = subst (λ (x : MadeTable). AllBefore x.store n) (sym e) before
 
-      of_plan : (plan : Option PreparedChange)
+      of_change : (change : Option PreparedChange)
           → Leads (get_or kept.stored p t).store stamp
-          (rows_under (get next (get_or kept.stored p t).name)) plan
-          → IsMade (get_or kept.stored p t) plan (get_or new.stored p t)
+          (rows_under (get next (get_or kept.stored p t).name)) change
+          → IsMade (get_or kept.stored p t) change (get_or new.stored p t)
           → AllBefore (get_or new.stored p t).store n
-      of_plan None leads made = stays made
-      of_plan (Some plan) leads made = made.becomes.later n
+      of_change None leads made = stays made
+      of_change (Some change) leads made = made.becomes.later n
           (let e = leads.at in omega (arith, later, e))
 
       by_last : (last : Option ℕ) → (get_or kept.stored p t).last ≡ last
           → AllBefore (get_or new.stored p t).store n
       by_last None e = (let c = changed_at p t (lives.among p t within e) in
-          of_plan c.plan c.leads c.made)
+          of_change c.change c.leads c.made)
       by_last (Some k) e = stays (ended_stays p t k within e)

@@ -46,7 +46,7 @@ HasEarlier kept new = (k : ℕ) → k < length new.versions → (name : List ℕ
 
 -- the changes are made of the tables of the newest version, some of which earlier versions may have
 -- too, and of no other
-pub record HasChanges (kept new : Kept) (plans : List (Option PreparedChange)) : Type 0 where
+pub record HasChanges (kept new : Kept) (prepared : List (Option PreparedChange)) : Type 0 where
   pub versions : new.versions ≡ kept.versions
   pub places : new.places ≡ kept.places
   pub there : AreWithin (newest_places kept) (length kept.stored)
@@ -56,8 +56,8 @@ pub record HasChanges (kept new : Kept) (plans : List (Option PreparedChange)) :
   pub others : (p : ℕ) → (d : MadeTable) → (In p (newest_places kept) → ⊥)
       → slice_index_or new.stored p d ≡ slice_index_or kept.stored p d
   pub groups : (k : ℕ) → k < length kept.versions
-      → AreMadeBy plans (group_of kept k) (group_of new k)
-  pub made : AreMade (newest_group kept) plans (group_of new (length kept.versions))
+      → AreMadeBy prepared (group_of kept k) (group_of new k)
+  pub made : AreMade (newest_group kept) prepared (group_of new (length kept.versions))
 
 -- one version more, with tables that begin and the places of its own; the lifelines of the tables
 -- that its operator consumes, over any schema, end
@@ -85,6 +85,6 @@ pub record ComeWith (kept : Kept) (made : Version) (begun : List MadeTable) (pla
 
 -- what installing a step makes of the groups
 abbrev pub HasStep : Kept → Kept → Step → Type 0
-HasStep kept new (Changed plans) = HasChanges kept new plans.items
+HasStep kept new (Changed prepared) = HasChanges kept new prepared.items
 HasStep kept new (Evolved version begun places) =
     HasVersion kept new version begun.items places.items

@@ -35,11 +35,11 @@ pub data PlainStep : Type 0 where
   evolved : PlainVersion → List MadeTable → List ℕ → PlainStep
 
 abbrev pub step_of : Step → PlainStep
-step_of (Changed plans) = changed plans.items
+step_of (Changed prepared) = changed prepared.items
 step_of (Evolved version begun places) = evolved (version_of version) begun.items places.items
 
 abbrev pub makes_version : Step → Bool
-makes_version (Changed plans) = false
+makes_version (Changed prepared) = false
 makes_version (Evolved version begun places) = true
 
 -- from when on it is seen, how many rows are gained and lost, and what is to be done
@@ -51,11 +51,11 @@ pub record PreparedCommand : Type 0 where
 
 -- of each table, in turn, a change that leads to what the database has of it from the stamp on
 pub record AreChanges (stamp : ℕ) (next : Database) (tables : List MadeTable)
-    (plans : List (Option PreparedChange)) : Type 0 where
-  pub count : length plans ≡ length tables
+    (prepared : List (Option PreparedChange)) : Type 0 where
+  pub count : length prepared ≡ length tables
   pub each : (k : ℕ) → (d : MadeTable) → k < length tables
       → Leads (slice_index_or tables k d).store stamp
-      (rows_under (get next (slice_index_or tables k d).name)) (slice_index_or plans k None)
+      (rows_under (get next (slice_index_or tables k d).name)) (slice_index_or prepared k None)
 
 -- the next version, over the tables before it, with its tables in the order of their names, and the
 -- room for it
@@ -76,11 +76,11 @@ pub record IsNextVersion (kept : Kept) (before : Tables) (due : PlainVersion) (n
   pub fits : length kept.versions + 1 < 2 ^ 32
 
 abbrev pub IsStep : Kept → Past → ℕ → PlainBody → PlainStep → Type 0
-IsStep kept past stamp (changing changes) (changed plans) =
+IsStep kept past stamp (changing changes) (changed prepared) =
     AreChanges stamp (next_database (changing changes) past) (group_of kept (length kept.versions))
-    plans
+    prepared
 IsStep kept past stamp (changing changes) (evolved version begun places) = ⊥
-IsStep kept past stamp (evolving op inverse) (changed plans) = ⊥
+IsStep kept past stamp (evolving op inverse) (changed prepared) = ⊥
 IsStep kept past stamp (evolving op inverse) (evolved version begun places) =
     IsNextVersion kept (newest_tables past) (next_version stamp op inverse past)
     (next_database (evolving op inverse) past) version begun places

@@ -360,17 +360,17 @@ impl Groups {
         ensures step { HasStep self.old self.new step.entry }
     {
         match step {
-            Step::Changed(plans) => self.install_changes(plans),
+            Step::Changed(prepared) => self.install_changes(prepared),
             Step::Evolved(version, begun, places) => self.install_version(version, begun, places),
         }
     }
 
     // Makes the changes of the newest version's tables. It takes no memory.
-    fn install_changes(&mut self, plans: Vec<Option<Prepared<'_>>>)
-        requires { HaveRoom (newest_group self.old) plans.items }
-        ensures { HasChanges self.old self.new plans.entry.items }
+    fn install_changes(&mut self, prepared: Vec<Option<Prepared<'_>>>)
+        requires { HaveRoom (newest_group self.old) prepared.items }
+        ensures { HasChanges self.old self.new prepared.entry.items }
     {
-        install_tables(&mut self.stored, &self.newest, plans);
+        install_tables(&mut self.stored, &self.newest, prepared);
     }
 
     // Puts the version and the tables that begin with it after the others. The lifelines of the
@@ -425,13 +425,13 @@ impl Groups {
         let Changes {
             gained,
             lost,
-            plans,
+            prepared,
         } = made;
         Ok(Next {
             stamp,
             gained,
             lost,
-            step: Step::Changed(plans),
+            step: Step::Changed(prepared),
         })
     }
 

@@ -18,6 +18,6 @@ pub use groups::Groups;
 pub use judged::Judged;
 pub use lifeline_laws::{lifelines_are_few, lifelines_are_longest_runs};
 pub use next::Next;
-pub use restoration::restored_shows;
+pub use restoration::restored_groups_represent;
 pub use size::{SizeLine, sizes_are_of_lifelines};
 pub use version_tables::MadeTable;

@@ -21,7 +21,8 @@ pub fn lifelines_are_longest_runs()
         → IsLongest versions l }
     ensures tables { (versions : List PlainVersion) (k : ℕ) (name : List ℕ)
         → AreVersions None no_tables versions → k ≤ length versions
-        → is_some (place_in versions k name) ≡ is_some (get (tables_from no_tables versions k) name) }
+        → is_some (place_in versions k name)
+        ≡ is_some (get (tables_from no_tables versions k) name) }
 {}
 
 /// Each version begins at most two lifelines, since an operator makes at most two tables. So there

@@ -6,9 +6,9 @@ ghost use Rattle.version_groups.specs.Representation.{Represents};
 
 use crate::Groups;
 
-/// Restored groups show each past that is one of theirs: with their versions, and at each moment
-/// what is stored of it.
-pub fn restored_shows(groups: &Groups)
+/// Restored groups represent each past that is one of theirs: with their versions, and at each
+/// moment what is stored of it.
+pub fn restored_groups_represent(groups: &Groups)
     ensures { (past : Past) → AreRestored groups.now → IsPastOf groups.now past
         → Represents groups.now past }
 {}

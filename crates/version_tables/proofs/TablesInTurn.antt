@@ -65,15 +65,15 @@ same_after stamp changes t u h =
 
 -- the first tables are ready
 pub record ReadyTo (stamp : ℕ) (changes : List PlainChange) (old new : List MadeTable)
-    (plans : List (Option PreparedChange)) (gained lost i : ℕ) : Type 0 where
+    (prepared : List (Option PreparedChange)) (gained lost i : ℕ) : Type 0 where
   pub long : length new ≡ length old
-  pub count : length plans ≡ i
+  pub count : length prepared ≡ i
   pub same : (k : ℕ) (d : MadeTable) → k < length old
       → IsSameTable (get_or old k d) (get_or new k d)
   pub others : (k : ℕ) (d : MadeTable) → i ≤ k → get_or new k d ≡ get_or old k d
   pub ready : (k : ℕ) (d : MadeTable) → k < i
       → Leads (get_or new k d).store stamp (rows_after stamp changes (get_or old k d))
-      (get_or plans k None)
+      (get_or prepared k None)
   pub gains : all_gained stamp changes old ≡ gained + all_gained stamp changes (drop i old)
   pub loses : all_lost stamp changes old ≡ lost + all_lost stamp changes (drop i old)
 
@@ -93,8 +93,8 @@ none_ready stamp changes old = record {
 }
 
 module _ (stamp : ℕ) (changes : List PlainChange) (old new : List MadeTable)
-    (plans : List (Option PreparedChange)) (gained lost i : ℕ)
-    (h : ReadyTo stamp changes old new plans gained lost i) where
+    (prepared : List (Option PreparedChange)) (gained lost i : ℕ)
+    (h : ReadyTo stamp changes old new prepared gained lost i) where
   -- a table as it was before
   pub was : (t : MadeTable) → i < length new → t ≡ get_or new i t → (d : MadeTable)
       → get_or old i d ≡ t
@@ -125,7 +125,7 @@ module _ (stamp : ℕ) (changes : List PlainChange) (old new : List MadeTable)
       → t ≡ get_or new i t → IsSameTable t u → Leads u.store stamp (rows_after stamp changes t) p
       → g ≡ length (gained_rows (rows_now stamp t) (rows_after stamp changes t))
       → l ≡ length (gained_rows (rows_after stamp changes t) (rows_now stamp t))
-      → ReadyTo stamp changes old (set new i u) (plans ++ p ∷ []) (gained + g) (lost + l) (i + 1)
+      → ReadyTo stamp changes old (set new i u) (prepared ++ p ∷ []) (gained + g) (lost + l) (i + 1)
   one_ready t u p g l within is same leads gains loses =
       let long = h.long in
       let inside : i < length old = omega (arith, within, long) in
@@ -141,7 +141,7 @@ module _ (stamp : ℕ) (changes : List PlainChange) (old new : List MadeTable)
       let count = h.count in
       record {
         long = length-set new i u ∙ h.long;
-        count = length-append plans (p ∷ []) ∙ (omega (arith, count));
+        count = length-append prepared (p ∷ []) ∙ (omega (arith, count));
         same = (set_same t u within is same).each;
         others = λ k d q. get_or-set_other new i k u d (λ e. omega (arith, e, q))
             ∙ h.others k d (omega (arith, q));
@@ -158,27 +158,28 @@ module _ (stamp : ℕ) (changes : List PlainChange) (old new : List MadeTable)
       apart k d (inl q) = get_or-set_other new i k u d (λ e. omega (arith, e, q))
       apart k d (inr q) = get_or-set_other new i k u d (λ e. omega (arith, e, q))
 
-      plan_here : get_or (plans ++ p ∷ []) i None ≡ p
-      plan_here = subst (λ j. get_or (plans ++ p ∷ []) j None ≡ p) h.count
-          (get_or-append_seam plans p [] None)
+      change_here : get_or (prepared ++ p ∷ []) i None ≡ p
+      change_here = subst (λ j. get_or (prepared ++ p ∷ []) j None ≡ p) h.count
+          (get_or-append_seam prepared p [] None)
 
       ready_there : (k : ℕ) (d : MadeTable) → k < i + 1 → (k ≡ i) ⊎ ((k < i) ⊎ (i < k))
           → Leads (get_or (set new i u) k d).store stamp (rows_after stamp changes (get_or old k d))
-          (get_or (plans ++ p ∷ []) k None)
+          (get_or (prepared ++ p ∷ []) k None)
       ready_there k d q (inl e) =
           subst (λ j. Leads (get_or (set new i u) j d).store stamp
-          (rows_after stamp changes (get_or old j d)) (get_or (plans ++ p ∷ []) j None)) (sym e)
+          (rows_after stamp changes (get_or old j d)) (get_or (prepared ++ p ∷ []) j None)) (sym e)
           (subst (λ (x : MadeTable). Leads x.store stamp (rows_after stamp changes (get_or old i d))
-          (get_or (plans ++ p ∷ []) i None)) (sym (here d))
+          (get_or (prepared ++ p ∷ []) i None)) (sym (here d))
           (subst (λ (x : MadeTable). Leads u.store stamp (rows_after stamp changes x)
-          (get_or (plans ++ p ∷ []) i None)) (sym (was t within is d))
-          (subst (λ o. Leads u.store stamp (rows_after stamp changes t) o) (sym plan_here) leads)))
+          (get_or (prepared ++ p ∷ []) i None)) (sym (was t within is d))
+          (subst (λ o. Leads u.store stamp (rows_after stamp changes t) o) (sym change_here)
+          leads)))
       ready_there k d q (inr (inl m)) =
           subst (λ (x : MadeTable). Leads x.store stamp (rows_after stamp changes (get_or old k d))
-          (get_or (plans ++ p ∷ []) k None)) (sym (apart k d (inl m)))
+          (get_or (prepared ++ p ∷ []) k None)) (sym (apart k d (inl m)))
           (subst (λ o. Leads (get_or new k d).store stamp
           (rows_after stamp changes (get_or old k d)) o)
-          (sym (get_or_append_left plans (p ∷ []) None k
+          (sym (get_or_append_left prepared (p ∷ []) None k
           (let count = h.count in omega (arith, m, count)))) (h.ready k d m))
       ready_there k d q (inr (inr m)) = absurd (omega (arith, q, m))
 
@@ -197,14 +198,14 @@ module _ (stamp : ℕ) (changes : List PlainChange) (old new : List MadeTable)
     lost_is = (let l = h.loses in let none : all_lost stamp changes (drop i old) ≡ 0 =
         ap (all_lost stamp changes) none_left in omega (arith, l, none))
 
-    pub are_ready : i ≤ length new → AreReady stamp changes new plans
+    pub are_ready : i ≤ length new → AreReady stamp changes new prepared
     are_ready few =
         let long = h.long in
         let count = h.count in
         record {
           count = omega (arith, count, all, few, long);
           each = λ k d q.
-              subst (λ r. Leads (get_or new k d).store stamp r (get_or plans k None))
+              subst (λ r. Leads (get_or new k d).store stamp r (get_or prepared k None))
               (sym (same_after stamp changes (get_or old k d) (get_or new k d)
               (h.same k d (omega (arith, q, long)))))
               (h.ready k d (omega (arith, q, all, long)));
@@ -213,16 +214,16 @@ module _ (stamp : ℕ) (changes : List PlainChange) (old new : List MadeTable)
 -- ---- made
 
 -- the changes of the first tables are made
-pub record MadeTo (old new : List MadeTable) (plans : List (Option PreparedChange)) (i : ℕ) :
+pub record MadeTo (old new : List MadeTable) (prepared : List (Option PreparedChange)) (i : ℕ) :
     Type 0 where
   pub long : length new ≡ length old
-  pub made : (k : ℕ) (d : MadeTable) → k < i → IsMade (get_or old k d) (get_or plans k None)
+  pub made : (k : ℕ) (d : MadeTable) → k < i → IsMade (get_or old k d) (get_or prepared k None)
       (get_or new k d)
   pub others : (k : ℕ) (d : MadeTable) → i ≤ k → get_or new k d ≡ get_or old k d
 
-pub none_made : (old : List MadeTable) (plans : List (Option PreparedChange))
-    → MadeTo old old plans 0
-none_made old plans = record {
+pub none_made : (old : List MadeTable) (prepared : List (Option PreparedChange))
+    → MadeTo old old prepared 0
+none_made old prepared = record {
   long = refl;
   made = λ k d l. absurd (omega (arith, l));
   others =
@@ -258,19 +259,19 @@ no_more {A} [] i e = omega arith
 no_more {A} (x ∷ xs) zero e = absurd (cc)
 no_more {A} (x ∷ xs) (suc i) e = (let h = no_more xs i e in omega (arith, h))
 
-module _ (old new : List MadeTable) (plans : List (Option PreparedChange)) (i : ℕ)
-    (h : MadeTo old new plans i) where
+module _ (old new : List MadeTable) (prepared : List (Option PreparedChange)) (i : ℕ)
+    (h : MadeTo old new prepared i) where
   pub room_before : (P : MadeTable → Option PreparedChange → Type 0)
-      → ((k : ℕ) (d : MadeTable) → k < length old → P (get_or old k d) (get_or plans k None))
+      → ((k : ℕ) (d : MadeTable) → k < length old → P (get_or old k d) (get_or prepared k None))
       → (t : MadeTable) (p : Option PreparedChange) → i < length new
-      → t ≡ get_or new i t → get_or plans i None ≡ p → P t p
+      → t ≡ get_or new i t → get_or prepared i None ≡ p → P t p
   room_before P room t p l e q =
       let long = h.long in
       subst (λ (x : MadeTable). P x p) (sym (h.others i t (omega arith)) ∙ sym e)
       (subst (P (get_or old i t)) q (room i t (omega (arith, l, long))))
 
   pub one_made : (t u : MadeTable) (p : Option PreparedChange) → i < length new → t ≡ get_or new i t
-      → get_or plans i None ≡ p → IsMade t p u → MadeTo old (set new i u) plans (i + 1)
+      → get_or prepared i None ≡ p → IsMade t p u → MadeTo old (set new i u) prepared (i + 1)
   one_made t u p within is at made = record {
     long = length-set new i u ∙ h.long;
     made = λ k d q. there k d q (one_place k i);
@@ -282,15 +283,15 @@ module _ (old new : List MadeTable) (plans : List (Option PreparedChange)) (i : 
       before d = sym (h.others i d (omega arith)) ∙ sym (get_or_read new i t within is d)
 
       there : (k : ℕ) (d : MadeTable) → k < i + 1 → (k ≡ i) ⊎ ((k < i) ⊎ (i < k))
-          → IsMade (get_or old k d) (get_or plans k None) (get_or (set new i u) k d)
+          → IsMade (get_or old k d) (get_or prepared k None) (get_or (set new i u) k d)
       there k d q (inl e) =
-          subst (λ j. IsMade (get_or old j d) (get_or plans j None) (get_or (set new i u) j d))
+          subst (λ j. IsMade (get_or old j d) (get_or prepared j None) (get_or (set new i u) j d))
           (sym e)
-          (subst (λ (x : MadeTable). IsMade x (get_or plans i None) (get_or (set new i u) i d))
+          (subst (λ (x : MadeTable). IsMade x (get_or prepared i None) (get_or (set new i u) i d))
           (sym (before d))
           (subst (λ o. IsMade t o (get_or (set new i u) i d)) (sym at)
           (subst (λ (x : MadeTable). IsMade t p x) (sym (get_or-set_same new i u d within)) made)))
       there k d q (inr (inl m)) = subst (λ (x : MadeTable).
-          IsMade (get_or old k d) (get_or plans k None) x)
+          IsMade (get_or old k d) (get_or prepared k None) x)
           (sym (get_or-set_other new i k u d (λ e. omega (arith, e, m)))) (h.made k d m)
       there k d q (inr (inr m)) = absurd (omega (arith, q, m))

@@ -7,7 +7,7 @@ use Rattle.prima_base.specs.declared.value.Value.{Value}
 use Rattle.prima_base.specs.Columns.{Column}
 use Rattle.history_store.specs.Store.{Store, weight, relation_at, AllBefore}
 use Rattle.history_store.specs.Handing.{written}
-use Rattle.history_store.specs.Change.{PreparedChange, IsPlan, rows_along, rows_after}
+use Rattle.history_store.specs.Change.{PreparedChange, IsPrepared, rows_along, rows_after}
 use Rattle.smo_meaning.specs.OneRow.{Relation}
 use Rattle.table_changes.specs.Changing.{IsChange}
 use Rattle.version_tables.specs.declared.made_table.MadeTable.{MadeTable}
@@ -28,47 +28,48 @@ pub record Begins (its : List Column) (stamp : ℕ) (rows : Relation) (store : S
 -- a change that is ready and has its room, or none
 abbrev pub HasRoom : Store → Option PreparedChange → Type 0
 HasRoom store None = ⊤
-HasRoom store (Some plan) = IsPlan store plan × (length plan.gained ≤ store.spare)
+HasRoom store (Some change) = IsPrepared store change × (length change.gained ≤ store.spare)
 
 -- a change that leads to these rows; none where these are the table's rows
 abbrev pub Leads : Store → ℕ → Relation → Option PreparedChange → Type 0
 Leads store stamp rows None = relation_at store stamp ≡ rows
-Leads store stamp rows (Some plan) = IsChange store stamp rows plan
+Leads store stamp rows (Some change) = IsChange store stamp rows change
 
 -- the change is made of a table: it has its name and its lifeline, and each gained row without a
 -- partner is a key more, and writes its values; of a row with a partner those are written that
 -- differ
-pub record IsInstalled (old : MadeTable) (plan : PreparedChange) (new : MadeTable) : Type 0 where
+pub record IsInstalled (old : MadeTable) (change : PreparedChange) (new : MadeTable) : Type 0 where
   pub name : new.name ≡ old.name
   pub first : new.first ≡ old.first
   pub last : new.last ≡ old.last
-  pub becomes : Becomes old.store new.store plan.stamp (rows_after old.store plan)
-  pub keys : length new.store.keys ≡ length old.store.keys + (length plan.gained - length plan.lost)
+  pub becomes : Becomes old.store new.store change.stamp (rows_after old.store change)
+  pub keys : length new.store.keys
+      ≡ length old.store.keys + (length change.gained - length change.lost)
   pub wide : length old.store.cells ≡ length old.store.columns
   pub count : length new.store.cells ≡ length old.store.cells
   pub written : (f : Value → ℕ) → (k : ℕ) → k < length old.store.columns
       → weight f (slice_index_or new.store.cells k [])
       ≡ weight f (slice_index_or old.store.cells k []) + written f k
-      (rows_along plan.lost plan.stamp old.store.cells) plan.gained
+      (rows_along change.lost change.stamp old.store.cells) change.gained
 
 -- the change is made; where there is none the table is as it was
 abbrev pub IsMade : MadeTable → Option PreparedChange → MadeTable → Type 0
 IsMade old None new = new ≡ old
-IsMade old (Some plan) new = IsInstalled old plan new
+IsMade old (Some change) new = IsInstalled old change new
 
 -- one of these changes, or none
 abbrev pub IsAmong : Option PreparedChange → List (Option PreparedChange) → Type 0
-IsAmong None plans = ⊤
-IsAmong (Some plan) plans = In (Some plan) plans
+IsAmong None prepared = ⊤
+IsAmong (Some change) prepared = In (Some change) prepared
 
 -- one of the changes is made of it, or none
-pub record IsMadeBy (plans : List (Option PreparedChange)) (old new : MadeTable) : Type 0 where
-  pub plan : Option PreparedChange
-  pub among : IsAmong plan plans
-  pub made : IsMade old plan new
+pub record IsMadeBy (prepared : List (Option PreparedChange)) (old new : MadeTable) : Type 0 where
+  pub change : Option PreparedChange
+  pub among : IsAmong change prepared
+  pub made : IsMade old change new
 
-pub record AreMadeBy (plans : List (Option PreparedChange)) (old new : List MadeTable) :
+pub record AreMadeBy (prepared : List (Option PreparedChange)) (old new : List MadeTable) :
     Type 0 where
   pub count : length new ≡ length old
   pub each : (k : ℕ) → (d : MadeTable) → k < length old
-      → IsMadeBy plans (slice_index_or old k d) (slice_index_or new k d)
+      → IsMadeBy prepared (slice_index_or old k d) (slice_index_or new k d)

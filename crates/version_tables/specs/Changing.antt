@@ -42,24 +42,25 @@ AreOfSchema tables made = entries tables
 
 -- of each table, in turn, a change that leads to the rows after its changes
 pub record AreReady (stamp : ℕ) (changes : List PlainChange) (tables : List MadeTable)
-    (plans : List (Option PreparedChange)) : Type 0 where
-  pub count : length plans ≡ length tables
+    (prepared : List (Option PreparedChange)) : Type 0 where
+  pub count : length prepared ≡ length tables
   pub each : (k : ℕ) → (d : MadeTable) → k < length tables
       → Leads (slice_index_or tables k d).store stamp
-      (rows_after stamp changes (slice_index_or tables k d)) (slice_index_or plans k None)
+      (rows_after stamp changes (slice_index_or tables k d)) (slice_index_or prepared k None)
 
 -- each change is ready and has its room
-pub record HaveRoom (tables : List MadeTable) (plans : List (Option PreparedChange)) : Type 0 where
-  pub count : length plans ≡ length tables
+pub record HaveRoom (tables : List MadeTable) (prepared : List (Option PreparedChange)) :
+    Type 0 where
+  pub count : length prepared ≡ length tables
   pub each : (k : ℕ) → (d : MadeTable) → k < length tables
-      → HasRoom (slice_index_or tables k d).store (slice_index_or plans k None)
+      → HasRoom (slice_index_or tables k d).store (slice_index_or prepared k None)
 
 -- each table has its change
-pub record AreMade (old : List MadeTable) (plans : List (Option PreparedChange))
+pub record AreMade (old : List MadeTable) (prepared : List (Option PreparedChange))
     (new : List MadeTable) : Type 0 where
   pub count : length new ≡ length old
   pub each : (k : ℕ) → (d : MadeTable) → k < length old
-      → IsMade (slice_index_or old k d) (slice_index_or plans k None) (slice_index_or new k d)
+      → IsMade (slice_index_or old k d) (slice_index_or prepared k None) (slice_index_or new k d)
 
 -- the rows that the tables gain and lose
 abbrev pub all_gained : ℕ → List PlainChange → List MadeTable → ℕ
@@ -75,8 +76,8 @@ all_lost stamp changes (t ∷ tables) = length (gained_rows (rows_after stamp ch
 -- the rows that one change gains and loses; none where there is no change
 abbrev pub gained_by : Option PreparedChange → ℕ
 gained_by None = 0
-gained_by (Some plan) = length plan.gained
+gained_by (Some change) = length change.gained
 
 abbrev pub lost_by : Option PreparedChange → ℕ
 lost_by None = 0
-lost_by (Some plan) = length plan.lost
+lost_by (Some change) = length change.lost

@@ -33,7 +33,7 @@ use table_changes::prepare_table;
 pub struct Changes<'a> {
     pub gained: u64,
     pub lost: u64,
-    pub plans: Vec<Option<Prepared<'a>>>,
+    pub prepared: Vec<Option<Prepared<'a>>>,
 }
 
 // Makes the changes of one table with these columns ready, where there are any.
@@ -66,20 +66,20 @@ fn prepare_one<'a>(
 }
 
 // The rows that a change gains.
-fn gained_by(plan: &Option<Prepared<'_>>) -> u64
-    ensures { result ≡ gained_by plan.now }
+fn gained_by(change: &Option<Prepared<'_>>) -> u64
+    ensures { result ≡ gained_by change.now }
 {
-    match plan {
+    match change {
         None => 0,
         Some(prepared) => prepared.gained(),
     }
 }
 
 // The rows that a change loses.
-fn lost_by(plan: &Option<Prepared<'_>>) -> u64
-    ensures { result ≡ lost_by plan.now }
+fn lost_by(change: &Option<Prepared<'_>>) -> u64
+    ensures { result ≡ lost_by change.now }
 {
-    match plan {
+    match change {
         None => 0,
         Some(prepared) => prepared.lost(),
     }
@@ -121,36 +121,36 @@ pub fn prepare_tables<'a>(
     ensures room { vec_capacity tables.old - vec_len tables.old ≤ vec_capacity tables.new - vec_len
         tables.new }
     ensures ready { IfOk result (λ c. AreReady stamp (changes_of changes.now)
-        (at_places tables.new.items places.now) c.plans.items) }
+        (at_places tables.new.items places.now) c.prepared.items) }
     ensures gained { IfOk result (λ c. c.gained
         ≡ all_gained stamp (changes_of changes.now) (at_places tables.old.items places.now)) }
     ensures lost { IfOk result (λ c. c.lost ≡ all_lost stamp (changes_of changes.now)
         (at_places tables.old.items places.now)) }
 {
     let groups = changes_by_table(alloc, schema, changes, of_changes)?;
-    let mut plans = Vec::with_capacity(alloc, places.len())?;
+    let mut prepared = Vec::with_capacity(alloc, places.len())?;
     let mut gained = 0;
     let mut lost = 0;
     for i in 0..places.len() {
         let columns = schema.at(i).columns();
-        let plan = prepare_one(alloc, columns, &mut tables[places[i]], stamp, &groups[i])?;
-        gained = sum(gained, gained_by(&plan))?;
-        lost = sum(lost, lost_by(&plan))?;
-        plans.push(plan)?;
+        let change = prepare_one(alloc, columns, &mut tables[places[i]], stamp, &groups[i])?;
+        gained = sum(gained, gained_by(&change))?;
+        lost = sum(lost, lost_by(&change))?;
+        prepared.push(change)?;
     }
     Ok(Changes {
         gained,
         lost,
-        plans,
+        prepared,
     })
 }
 
 // Makes the change of one table. It takes no memory.
-fn install_one(table: &mut MadeTable, plan: Option<Prepared<'_>>)
-    requires { HasRoom table.old.store plan }
-    ensures { IsMade table.old plan.entry table.new }
+fn install_one(table: &mut MadeTable, change: Option<Prepared<'_>>)
+    requires { HasRoom table.old.store change }
+    ensures { IsMade table.old change.entry table.new }
 {
-    match plan {
+    match change {
         None => {}
         Some(prepared) => table.store.install(prepared),
     }
@@ -160,20 +160,20 @@ fn install_one(table: &mut MadeTable, plan: Option<Prepared<'_>>)
 pub fn install_tables(
     tables: &mut Vec<MadeTable>,
     places: &[usize],
-    plans: Vec<Option<Prepared<'_>>>,
+    prepared: Vec<Option<Prepared<'_>>>,
 )
     requires there { AreWithin places.now (length tables.old.items) }
     requires ordered { Ascends bytes_cmp (names_of (at_places tables.old.items places.now)) }
-    requires room { HaveRoom (at_places tables.old.items places.now) plans.items }
-    ensures made { AreMade (at_places tables.old.items places.now) plans.entry.items
+    requires room { HaveRoom (at_places tables.old.items places.now) prepared.items }
+    ensures made { AreMade (at_places tables.old.items places.now) prepared.entry.items
         (at_places tables.new.items places.now) }
-    ensures each { AreMadeBy plans.entry.items tables.old.items tables.new.items }
+    ensures each { AreMadeBy prepared.entry.items tables.old.items tables.new.items }
     ensures others { (p : ℕ) → (d : Stored) → (In p places.now → ⊥)
         → slice_index_or tables.new.items p d ≡ slice_index_or tables.old.items p d }
 {
     let mut i = 0;
-    for plan in plans {
-        install_one(&mut tables[places[i]], plan);
+    for change in prepared {
+        install_one(&mut tables[places[i]], change);
         i += 1;
     }
 }

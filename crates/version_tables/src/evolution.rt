@@ -151,7 +151,8 @@ fn next_place(
         (next_rows (made_rows names rows.now) stamp (at_places tables.now places.now) table.now.0) }
     requires others { is_name (option_copied names.first) table.now.0 ≡ false
         → is_name (option_copied names.second) table.now.0 ≡ false
-        → IsStoredBefore stamp table.now.1 (stored_as table.now.0 (at_places tables.now places.now)) }
+        → IsStoredBefore stamp table.now.1
+        (stored_as table.now.0 (at_places tables.now places.now)) }
     ensures next { IfOk result (λ p. IsNextTable tables.now begun.old.items begun.new.items p
         table.now.0
         (Begins table.now.1 stamp (next_rows (made_rows names.entry rows.now) stamp

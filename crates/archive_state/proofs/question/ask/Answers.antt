@@ -16,8 +16,8 @@ use Rattle.query_exec.specs.QueryPieces.{ArePieces}
 use Rattle.archive_state.specs.Asking.{IfAccepted, IsReady, query_asked}
 use Rattle.archive_state.proofs.question.ask.Goals as goal
 
-pub answer-requires-clause-shown : goal.answer-requires-clause-shown
-answer-requires-clause-shown g c =
+pub answer-requires-clause-answerable : goal.answer-requires-clause-answerable
+answer-requires-clause-answerable g c =
     let past = c.requires.represents.0 in
     let represents = c.requires.represents.1 in
     let h : IsReady past (query_of c.args.query.now) c.in_ok-atoms.atoms =

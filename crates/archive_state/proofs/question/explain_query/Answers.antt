@@ -10,8 +10,8 @@ use Rattle.query_exec.specs.QueryPieces.{ArePieces, living_pieces}
 use Rattle.archive_state.specs.Asking.{IsReady}
 use Rattle.archive_state.proofs.question.explain_query.Goals as goal
 
-pub explain-requires-clause-shown : goal.explain-requires-clause-shown
-explain-requires-clause-shown g c =
+pub explain-requires-clause-answerable : goal.explain-requires-clause-answerable
+explain-requires-clause-answerable g c =
     let past = c.requires.represents.0 in
     let represents = c.requires.represents.1 in
     let h : IsReady past (query_of c.args.query.now) c.in_ok-atoms.atoms =

@@ -29,7 +29,7 @@ answer_branches-requires-clause-schema g c =
 
 pub answer_branches-requires-clause-read : goal.answer_branches-requires-clause-read
 answer_branches-requires-clause-read g c =
-    let h = c.requires.shown in
+    let h = c.requires.answerable in
     subst (λ (bs : List Branch). MayBranches (versions_in c.args.groups.now) c.in_ok-route.route
     (branches_of bs)) (sym c.deref.ensures.value)
     (may_all c.args.groups.now h.past h.asked (query_of c.args.query.now) h.represents h.accepted

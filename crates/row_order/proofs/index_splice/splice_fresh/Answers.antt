@@ -2,8 +2,9 @@ use Rattle.row_order.specs.Logs.{cells_of}
 use Rattle.row_order.proofs.Splicing.{taken_none}
 use Rattle.row_order.proofs.index_splice.splice_fresh.Goals as goal
 
-pub returns-then-len-le-FEW_ROWS-clause-spliced : goal.returns-then-len-le-FEW_ROWS-clause-spliced
-returns-then-len-le-FEW_ROWS-clause-spliced c =
+pub returns-then-len-le-FEW_CHANGED_ROWS-clause-spliced :
+    goal.returns-then-len-le-FEW_CHANGED_ROWS-clause-spliced
+returns-then-len-le-FEW_CHANGED_ROWS-clause-spliced c =
     rw c.new.ensures.items (record {
       kept = c.args.live.now.ids;
       split =

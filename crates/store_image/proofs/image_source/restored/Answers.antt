@@ -38,6 +38,6 @@ returns-clause-represents c = λ n.
     let image = image_seen c.args.image in
     let same : image_in kept image.last ≡ image = returns-clause-image c in
     let restored = c.in_ok-groups.ensures.restored in
-    c.restored_shows.ensures (image_past n image) restored
+    c.restored_groups_represent.ensures (image_past n image) restored
     (subst (λ i. IsPastOf kept (image_past n i)) same
     (past_of kept image.last n (subst IsImage (sym same) c.requires.valid) restored.lifelines))

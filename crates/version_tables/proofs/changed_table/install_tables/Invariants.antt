@@ -7,13 +7,13 @@ use Rattle.version_tables.specs.Places.{at_places}
 use Rattle.version_tables.proofs.TablesInTurn.{MadeTo}
 use Rattle.version_tables.proofs.changed_table.install_tables.Given as goal
 
-abbrev pub invariant-loop-plan : goal.invariant-loop-plan
-invariant-loop-plan l = record {
-  left : into_iter_items l.plan-iterator ≡ drop l.i l.fn.plans.items;
-  within : l.i ≤ length l.fn.plans.items;
+abbrev pub invariant-loop-change : goal.invariant-loop-change
+invariant-loop-change l = record {
+  left : into_iter_items l.change-iterator ≡ drop l.i l.fn.prepared.items;
+  within : l.i ≤ length l.fn.prepared.items;
   made : MadeTo (at_places l.initial.tables.items l.places) (at_places l.tables.items l.places)
-      l.fn.plans.items l.i;
-  each : AreMadeBy l.fn.plans.items l.initial.tables.items l.tables.items;
+      l.fn.prepared.items l.i;
+  each : AreMadeBy l.fn.prepared.items l.initial.tables.items l.tables.items;
   others : (p : ℕ) → (d : MadeTable) → (In p l.places → ⊥)
       → get_or l.tables.items p d ≡ get_or l.initial.tables.items p d;
 }

@@ -58,7 +58,7 @@ prepare_one-requires-clause-own c =
     ∙ sym (at_get c.loop-i.tables.items places c.loop-i.i 0 t there c.loop-i-test.true) in
     let first : get_or (at_places old places) c.loop-i.i t ≡ t =
     was c.args.stamp (changes_of c.args.changes.now) (at_places old places) now
-    c.loop-i.plans.items c.loop-i.gained c.loop-i.lost c.loop-i.i c.loop-i.invariant.turn t
+    c.loop-i.prepared.items c.loop-i.gained c.loop-i.lost c.loop-i.i c.loop-i.invariant.turn t
     (omega (arith, n, under)) is t in
     let m = at_count old places c.requires.there in
     columns_at c.args.schema.now (at_places old places) c.requires.schema c.loop-i.i t
@@ -79,7 +79,7 @@ prepare_one-requires-clause-changeable c =
     let is : t ≡ get_or now c.loop-i.i t = c.index_mut.ensures.value
     ∙ sym (at_get c.loop-i.tables.items places c.loop-i.i 0 t there c.loop-i-test.true) in
     let first : get_or (at_places old places) c.loop-i.i t ≡ t =
-    was c.args.stamp its (at_places old places) now c.loop-i.plans.items c.loop-i.gained
+    was c.args.stamp its (at_places old places) now c.loop-i.prepared.items c.loop-i.gained
     c.loop-i.lost c.loop-i.i c.loop-i.invariant.turn t (omega (arith, n, under)) is t in
     let m = at_count old places c.requires.there in
     let within : c.loop-i.i < length (at_places old places) = omega (arith, m, under) in
@@ -96,9 +96,10 @@ pub loop-i-init : goal.loop-i-init
 loop-i-init c =
     let old = at_places c.args.tables.now.items c.args.places.now in
     record {
-      turn = subst (λ (plans : List (Option PreparedChange)).
-          ReadyTo c.args.stamp (changes_of c.args.changes.now) old old plans 0 0 0)
-          (sym c.in_ok-plans.ensures.items) (none_ready c.args.stamp (changes_of c.args.changes.now)
+      turn = subst (λ (prepared : List (Option PreparedChange)).
+          ReadyTo c.args.stamp (changes_of c.args.changes.now) old old prepared 0 0 0)
+          (sym c.in_ok-prepared.ensures.items)
+          (none_ready c.args.stamp (changes_of c.args.changes.now)
           old);
       same = none_same c.args.tables.now.items;
       room = omega arith;
@@ -125,33 +126,35 @@ loop-i-preserved c =
     let placed : at_places (set all q u) places ≡ set now i u =
     at_set all places i 0 u there (apart_by_names c.args.tables.now.items places
     c.requires.there c.requires.ordered) c.loop-i-test.true in
-    let first : get_or old i t ≡ t = was stamp changes old now c.loop-i.plans.items c.loop-i.gained
+    let first : get_or old i t ≡ t = was stamp changes old now c.loop-i.prepared.items
+    c.loop-i.gained
     c.loop-i.lost i c.loop-i.invariant.turn t (omega (arith, n, under)) is t in
     let m = at_count c.args.tables.now.items places c.requires.there in
     let own = own_changes old c.in_ok-groups.groups.items changes i t c.index.result.now
     c.deref.result.now (c.in_ok-groups.ensures ∙ ap (λ names. by_table names changes)
     (same_names c.args.schema.now old c.requires.schema)) (omega (arith, m, under)) first
     c.index.ensures c.deref.ensures.value in
-    let more = one_ready stamp changes old now c.loop-i.plans.items c.loop-i.gained c.loop-i.lost i
-    c.loop-i.invariant.turn t u c.in_ok-plan.plan c.gained_by.result c.lost_by.result
+    let more = one_ready stamp changes old now c.loop-i.prepared.items c.loop-i.gained c.loop-i.lost
+    i
+    c.loop-i.invariant.turn t u c.in_ok-change.change c.gained_by.result c.lost_by.result
     (omega (arith, n, under)) is c.prepare_one.ensures.same
     (subst (λ (cs : List PlainChange). Leads u.store stamp (rows_after_own stamp cs t)
-    c.in_ok-plan.plan) own c.in_ok-plan.ensures.leads)
-    (c.gained_by.ensures ∙ c.in_ok-plan.ensures.gained
+    c.in_ok-change.change) own c.in_ok-change.ensures.leads)
+    (c.gained_by.ensures ∙ c.in_ok-change.ensures.gained
     ∙ ap (λ cs. length (gained_rows (rows_now stamp t) (rows_after_own stamp cs t))) own)
-    (c.lost_by.ensures ∙ c.in_ok-plan.ensures.lost
+    (c.lost_by.ensures ∙ c.in_ok-change.ensures.lost
     ∙ ap (λ cs. length (gained_rows (rows_after_own stamp cs t) (rows_now stamp t))) own) in
     record {
       turn = subst (λ (ts : List MadeTable). ReadyTo stamp changes old ts c.push.new.self.items
           c.in_ok-gained.gained c.in_ok-lost.lost (i + 1)) (sym placed)
-          (subst (λ (plans : List (Option PreparedChange)).
-          ReadyTo stamp changes old (set now i u) plans c.in_ok-gained.gained c.in_ok-lost.lost
+          (subst (λ (prepared : List (Option PreparedChange)).
+          ReadyTo stamp changes old (set now i u) prepared c.in_ok-gained.gained c.in_ok-lost.lost
           (i + 1)) (sym c.in_ok-push.ensures.items)
           (subst (λ g. ReadyTo stamp changes old (set now i u)
-          (c.loop-i.plans.items ++ c.in_ok-plan.plan ∷ []) g c.in_ok-lost.lost (i + 1))
+          (c.loop-i.prepared.items ++ c.in_ok-change.change ∷ []) g c.in_ok-lost.lost (i + 1))
           (sym c.in_ok-gained.ensures)
           (subst (λ l. ReadyTo stamp changes old (set now i u)
-          (c.loop-i.plans.items ++ c.in_ok-plan.plan ∷ [])
+          (c.loop-i.prepared.items ++ c.in_ok-change.change ∷ [])
           (c.loop-i.gained + c.gained_by.result) l (i + 1)) (sym c.in_ok-lost.ensures) more)));
       same = set_again c.args.tables.now.items all q t u c.loop-i.invariant.same
           (place_within places (length all) i 0 there c.loop-i-test.true) c.index_mut.ensures.value
@@ -174,7 +177,7 @@ returns-clause-ready c =
     let past = c.loop-i-test.false in
     let few = c.loop-i.auto.i-end in
     are_ready c.args.stamp (changes_of c.args.changes.now)
-    (at_places c.args.tables.now.items places) (at_places all places) c.loop-i.plans.items
+    (at_places c.args.tables.now.items places) (at_places all places) c.loop-i.prepared.items
     c.loop-i.gained c.loop-i.lost c.loop-i.i c.loop-i.invariant.turn
     (omega (arith, m, past)) (omega (arith, n, few))
 
@@ -185,7 +188,7 @@ returns-clause-gained c =
     let past = c.loop-i-test.false in
     gained_is c.args.stamp (changes_of c.args.changes.now)
     (at_places c.args.tables.now.items places) (at_places c.loop-i.tables.items places)
-    c.loop-i.plans.items c.loop-i.gained c.loop-i.lost c.loop-i.i
+    c.loop-i.prepared.items c.loop-i.gained c.loop-i.lost c.loop-i.i
     c.loop-i.invariant.turn (omega (arith, m, past))
 
 pub returns-clause-lost : goal.returns-clause-lost
@@ -194,7 +197,7 @@ returns-clause-lost c =
     let m = at_count c.args.tables.now.items places c.requires.there in
     let past = c.loop-i-test.false in
     lost_is c.args.stamp (changes_of c.args.changes.now) (at_places c.args.tables.now.items places)
-    (at_places c.loop-i.tables.items places) c.loop-i.plans.items c.loop-i.gained c.loop-i.lost
+    (at_places c.loop-i.tables.items places) c.loop-i.prepared.items c.loop-i.gained c.loop-i.lost
     c.loop-i.i
     c.loop-i.invariant.turn (omega (arith, m, past))
 

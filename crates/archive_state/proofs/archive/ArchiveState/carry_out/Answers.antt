@@ -4,7 +4,7 @@ use Rattle.smo_meaning.specs.Past.{past_with}
 use Rattle.version_groups.specs.Steps.{Prepares}
 use Rattle.archive_state.specs.Committing.{version_made}
 use Rattle.archive_state.specs.ArchiveContents.{ArchiveContent, RepresentsPast}
-use Rattle.archive_state.proofs.CarriedOut.{shows_next, newest_next, version_is}
+use Rattle.archive_state.proofs.CarriedOut.{represents_next, newest_next, version_is}
 use Rattle.archive_state.proofs.archive.ArchiveState.carry_out.Goals as goal
 
 pub returns-clause-done : goal.returns-clause-done
@@ -29,7 +29,8 @@ returns-clause-done c past command represents prepares =
             prepared.ready.step
             ∙ ap (version_made command.body) newest;
       },
-      shows_next c.install.new.self past command (Some c.stamp-stamp.result) after (ap Some stamp),
+      represents_next c.install.new.self past command (Some c.stamp-stamp.result) after
+          (ap Some stamp),
     )
 
 pub returns-clause-represents : goal.returns-clause-represents
@@ -42,7 +43,7 @@ returns-clause-represents c =
     (sym c.self.view_is) c.requires.3 in
     let after = c.install.ensures.represents past command before.groups prepared.ready in (
       past_with past command,
-      shows_next c.install.new.self past command (Some c.stamp-stamp.result) after
+      represents_next c.install.new.self past command (Some c.stamp-stamp.result) after
           (ap Some (c.stamp-stamp.ensures ∙ prepared.stamp)),
     )
 
@@ -56,6 +57,6 @@ invariant_of-self c =
     (sym c.self.view_is) c.requires.3 in
     let after = c.install.ensures.represents past command before.groups prepared.ready in (
       past_with past command,
-      shows_next c.install.new.self past command (Some c.stamp-stamp.result) after
+      represents_next c.install.new.self past command (Some c.stamp-stamp.result) after
           (ap Some (c.stamp-stamp.ensures ∙ prepared.stamp)),
     )

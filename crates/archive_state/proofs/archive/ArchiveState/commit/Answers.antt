@@ -43,7 +43,8 @@ returns-in-Changes-clause-commits c past represents =
 
 pub returns-in-Evolve-clause-commits : goal.returns-in-Evolve-clause-commits
 returns-in-Evolve-clause-commits c past represents =
-    subst (λ (command : PlainCommand). Accepts past command c.args.self.now c.accept-in-Evolve.result
+    subst (λ (command : PlainCommand). Accepts past command c.args.self.now
+    c.accept-in-Evolve.result
     c.accept-in-Evolve.new.self)
     (ap accepted_command (sym c.in-Evolve.is) ∙ c.in_ok-accepted.ensures.same)
     (c.accept-in-Evolve.ensures.commits past represents

@@ -20,15 +20,16 @@ use Rattle.row_order.proofs.Cutting.{length-rows_of}
 use Rattle.row_order.proofs.Cells.{length-cells_of}
 use Rattle.table_meaning.proofs.Showing.{key_before}
 use Rattle.table_meaning.proofs.Valid.{is_store}
-use Rattle.table_meaning.proofs.Installing.{placed_then, relation_from, plan_kept, plan_cells}
-use Rattle.table_meaning.proofs.Installing.{plan_before, plan_from, plan_later}
+use Rattle.table_meaning.proofs.Installing.{placed_then, relation_from, prepared_kept}
+use Rattle.table_meaning.proofs.Installing.{prepared_cells}
+use Rattle.table_meaning.proofs.Installing.{prepared_before, prepared_from, prepared_later}
 use Rattle.table_meaning.proofs.CellCounts.{still_counted}
 use Rattle.table_meaning.proofs.ValueTypes.{gained_typed}
 use Rattle.row_writes.proofs.Others.{same_columns, least_room_below, least_room_each, ready_each}
 use Rattle.table_meaning.proofs.Keeping.{ids_are_handed, all_lost, all_ready, all_new, all_fresh}
 use Rattle.table_meaning.proofs.Keeping.{all_apart, all_indexed}
 use Rattle.table_meaning.proofs.Rule.{key_count}
-use Rattle.table_meaning.proofs.Totals.{plan_written}
+use Rattle.table_meaning.proofs.Totals.{prepared_written}
 use Rattle.history_store.proofs.table.StoredTable.install.Goals as goal
 
 -- the ids that are put into the indexes are those that are handed
@@ -125,7 +126,7 @@ invariant_of-self c =
         c.carry_out.ensures.cells,
         c.deref-3.ensures.value,
         c.change_index.ensures,
-      ) (plan_kept a.columns.items a.keys.items (cells_of a.logs.items)
+      ) (prepared_kept a.columns.items a.keys.items (cells_of a.logs.items)
           a.live.ids _ c.self.invariant.kept _ f);
       ids = λ k d b. c.carry_out.ensures.ids k d b ∙ search rules;
       kinds = c.carry_out.ensures.kinds ∙ c.self.invariant.kinds;
@@ -240,7 +241,7 @@ returns-clause-cells c =
       ← c.self.view_is,
       ← c.prepared.view_is,
     )
-    (plan_cells a.columns.items a.keys.items (cells_of a.logs.items) a.live.ids _
+    (prepared_cells a.columns.items a.keys.items (cells_of a.logs.items) a.live.ids _
     c.self.invariant.kept _ f)
 
 pub returns-clause-before : goal.returns-clause-before
@@ -253,7 +254,7 @@ returns-clause-before c m h =
       c.carry_out.ensures.cells,
       c.deref-3.ensures.value,
       ← c.self.view_is,
-    ) (plan_before a.columns.items a.keys.items (cells_of a.logs.items)
+    ) (prepared_before a.columns.items a.keys.items (cells_of a.logs.items)
     a.live.ids _ c.self.invariant.kept _ f _ _ m b)
 
 pub returns-clause-from : goal.returns-clause-from
@@ -268,7 +269,7 @@ returns-clause-from c m h l =
       ← c.self.view_is,
       ← c.prepared.view_is,
     )
-    (plan_from a.columns.items a.keys.items (cells_of a.logs.items) a.live.ids _
+    (prepared_from a.columns.items a.keys.items (cells_of a.logs.items) a.live.ids _
     c.self.invariant.kept _ f _ _ m b l)
 
 pub returns-clause-later : goal.returns-clause-later
@@ -277,7 +278,7 @@ returns-clause-later c m h =
     let f = rw (← c.self.view_is, ← c.prepared.view_is) at c.requires.fits in
     let b = rw (← c.prepared.view_is) at h in
     rw (c.carry_out.ensures.keys, c.carry_out.ensures.cells, c.deref-3.ensures.value)
-    (plan_later a.columns.items a.keys.items (cells_of a.logs.items) a.live.ids _
+    (prepared_later a.columns.items a.keys.items (cells_of a.logs.items) a.live.ids _
     c.self.invariant.kept _ f _ m b)
 
 pub returns-clause-key_count : goal.returns-clause-key_count
@@ -299,7 +300,7 @@ returns-clause-written c g k h =
       ← c.self.view_is,
       ← c.prepared.view_is,
     )
-    (plan_written a.columns.items a.keys.items (cells_of a.logs.items) a.live.ids _
+    (prepared_written a.columns.items a.keys.items (cells_of a.logs.items) a.live.ids _
     c.self.invariant.kept _ f g k b)
 
 pub returns-clause-valid : goal.returns-clause-valid
@@ -307,7 +308,7 @@ returns-clause-valid c =
     let a = c.self.inside in
     let f = rw (← c.self.view_is, ← c.prepared.view_is) at c.requires.fits in
     rw (c.carry_out.ensures.keys, c.carry_out.ensures.cells, c.deref-3.ensures.value)
-    (is_store a.columns.items _ _ _ _ (plan_kept a.columns.items a.keys.items
+    (is_store a.columns.items _ _ _ _ (prepared_kept a.columns.items a.keys.items
     (cells_of a.logs.items) a.live.ids _ c.self.invariant.kept _ f))
 
 pub returns-clause-indexed : goal.returns-clause-indexed

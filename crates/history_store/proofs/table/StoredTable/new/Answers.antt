@@ -5,16 +5,16 @@ use Rattle.history_store.specs.Store.{Store, AreColumns, weight, relation_at}
 use Rattle.table_meaning.specs.Kept.{store_of}
 use Rattle.row_order.specs.Handing.{only_in, handed}
 use Rattle.table_meaning.specs.Handing.{written}
-use Rattle.table_meaning.specs.Change.{IsPlan, keys_after, cells_after, rows_along, write_rows}
+use Rattle.table_meaning.specs.Change.{IsPrepared, keys_after, cells_after, rows_along, write_rows}
 use Rattle.table_meaning.specs.Change.{no_cells}
 use Rattle.row_writes.specs.ValueIndexes.{indexed_after}
 use Rattle.row_writes.proofs.Others.{none_after}
 use Rattle.row_order.proofs.Cells.{length-cells_of}
 use Rattle.table_meaning.proofs.CellCounts.{none_counted}
-use Rattle.table_meaning.proofs.Plans.{length-new_keys}
+use Rattle.table_meaning.proofs.CarriedOut.{length-new_keys}
 use Rattle.table_meaning.proofs.Beginning.{none_kept, none_before, none_now, all_gained, no_lost}
 use Rattle.table_meaning.proofs.Beginning.{first_keys, first_cells, none_weight, first_written}
-use Rattle.table_meaning.proofs.Beginning.{plan_is}
+use Rattle.table_meaning.proofs.Beginning.{prepared_is}
 use Rattle.history_store.proofs.table.StoredTable.new.Goals as goal
 
 pub invariant_of-table : goal.invariant_of-table
@@ -44,14 +44,14 @@ returns-clause-keys c =
     let p = c.in_ok-prepared.prepared in
     let e : c.prepare.new.self ≡ store_of columns [] logs n [] =
     rw (c.new.ensures.items, c.new-2.ensures.items) at c.in_ok-prepared.ensures.same in
-    let f : IsPlan (store_of columns [] logs n []) p =
-    subst (λ (t : Store). IsPlan t p) e c.in_ok-prepared.ensures.fits in
+    let f : IsPrepared (store_of columns [] logs n []) p =
+    subst (λ (t : Store). IsPrepared t p) e c.in_ok-prepared.ensures.fits in
     let q : p.gained ≡ only_in c.args.rows.now
     (relation_at (store_of columns [] logs _ []) c.args.stamp) =
     rw (c.new.ensures.items, c.new-2.ensures.items) at c.in_ok-prepared.ensures.gained in
     let g : p.gained ≡ c.args.rows.now = q ∙ ap (only_in c.args.rows.now)
     (none_now columns logs _ c.args.stamp) ∙ all_gained c.args.rows.now in
-    let i = plan_is p c.args.stamp c.args.rows.now c.in_ok-prepared.ensures.stamp
+    let i = prepared_is p c.args.stamp c.args.rows.now c.in_ok-prepared.ensures.stamp
     (no_lost columns logs n p f) g in
     c.install.ensures.keys ∙ ap (λ (t : Store). keys_after t p) e
     ∙ ap (keys_after (store_of columns [] logs n [])) i
@@ -65,14 +65,14 @@ returns-clause-cells c =
     let p = c.in_ok-prepared.prepared in
     let e : c.prepare.new.self ≡ store_of columns [] logs n [] =
     rw (c.new.ensures.items, c.new-2.ensures.items) at c.in_ok-prepared.ensures.same in
-    let f : IsPlan (store_of columns [] logs n []) p =
-    subst (λ (t : Store). IsPlan t p) e c.in_ok-prepared.ensures.fits in
+    let f : IsPrepared (store_of columns [] logs n []) p =
+    subst (λ (t : Store). IsPrepared t p) e c.in_ok-prepared.ensures.fits in
     let q : p.gained ≡ only_in c.args.rows.now
     (relation_at (store_of columns [] logs _ []) c.args.stamp) =
     rw (c.new.ensures.items, c.new-2.ensures.items) at c.in_ok-prepared.ensures.gained in
     let g : p.gained ≡ c.args.rows.now = q ∙ ap (only_in c.args.rows.now)
     (none_now columns logs _ c.args.stamp) ∙ all_gained c.args.rows.now in
-    let i = plan_is p c.args.stamp c.args.rows.now c.in_ok-prepared.ensures.stamp
+    let i = prepared_is p c.args.stamp c.args.rows.now c.in_ok-prepared.ensures.stamp
     (no_lost columns logs n p f) g in
     let w : length logs ≡ length columns = length-cells_of c.in_ok-empty_columns.field-0.items
     ∙ c.in_ok-empty_columns.ensures.width ∙ ap length (sym c.in_ok-copy_columns.ensures) in
@@ -94,8 +94,8 @@ returns-clause-written c f k h =
     let p = c.in_ok-prepared.prepared in
     let e : c.prepare.new.self ≡ store_of columns [] logs n [] =
     rw (c.new.ensures.items, c.new-2.ensures.items) at c.in_ok-prepared.ensures.same in
-    let i : IsPlan (store_of columns [] logs n []) p =
-    subst (λ (t : Store). IsPlan t p) e c.in_ok-prepared.ensures.fits in
+    let i : IsPrepared (store_of columns [] logs n []) p =
+    subst (λ (t : Store). IsPrepared t p) e c.in_ok-prepared.ensures.fits in
     let q : p.gained ≡ only_in c.args.rows.now
     (relation_at (store_of columns [] logs _ []) c.args.stamp) =
     rw (c.new.ensures.items, c.new-2.ensures.items) at c.in_ok-prepared.ensures.gained in

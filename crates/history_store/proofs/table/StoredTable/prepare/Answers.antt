@@ -38,13 +38,13 @@ returns-clause-fits c =
     c.make_ready.new.self.spare (columns_of a.others.items) =
     rw (← c.self.view_is) at c.in_ok-prepared.ensures.same in
     let room = rw gained at c.in_ok-prepared.ensures.room in
-    rw (c.in_ok-prepared.ensures.plan, e, lost, gained, after)
+    rw (c.in_ok-prepared.ensures.made, e, lost, gained, after)
     (made_fits a.columns.items a.keys.items (cells_of a.logs.items) a.live.ids _
     c.self.invariant.kept c.args.stamp b c.requires.valid c.args.rows.now r _ room)
 
 pub returns-clause-room : goal.returns-clause-room
 returns-clause-room c =
-    rw c.in_ok-prepared.ensures.plan (le_trans (least_rows_room c.in_ok-lost.field-0.gained.items)
+    rw c.in_ok-prepared.ensures.made (le_trans (least_rows_room c.in_ok-lost.field-0.gained.items)
     c.in_ok-prepared.ensures.room)
 
 pub returns-clause-leads : goal.returns-clause-leads
@@ -59,7 +59,7 @@ returns-clause-leads c =
     let e : c.make_ready.new.self ≡ store_of a.columns.items a.keys.items (cells_of a.logs.items)
     c.make_ready.new.self.spare (columns_of a.others.items) =
     rw (← c.self.view_is) at c.in_ok-prepared.ensures.same in
-    rw (c.in_ok-prepared.ensures.plan, e, lost, gained, after)
+    rw (c.in_ok-prepared.ensures.made, e, lost, gained, after)
     (made_leads a.columns.items a.keys.items (cells_of a.logs.items) a.live.ids _
     c.self.invariant.kept c.args.stamp b c.requires.valid c.args.rows.now r _ _)
 
@@ -69,7 +69,7 @@ returns-clause-lost c =
     let b = rw (← c.self.view_is) at c.requires.before in
     let r = rw (← c.self.view_is) at c.requires.relation in
     let lost = rw c.deref.ensures.value at c.in_ok-lost.ensures.lost in
-    rw (c.in_ok-prepared.ensures.plan, ← c.self.view_is, lost)
+    rw (c.in_ok-prepared.ensures.made, ← c.self.view_is, lost)
     (made_lost a.columns.items a.keys.items (cells_of a.logs.items) a.live.ids _
     c.self.invariant.kept c.args.stamp b c.requires.valid c.args.rows.now r)
 
@@ -79,6 +79,6 @@ returns-clause-gained c =
     let b = rw (← c.self.view_is) at c.requires.before in
     let r = rw (← c.self.view_is) at c.requires.relation in
     let gained = rw c.deref.ensures.value at c.in_ok-lost.ensures.gained in
-    rw (c.in_ok-prepared.ensures.plan, ← c.self.view_is, gained)
+    rw (c.in_ok-prepared.ensures.made, ← c.self.view_is, gained)
     (made_gained a.columns.items a.keys.items (cells_of a.logs.items) a.live.ids _
     c.self.invariant.kept c.args.stamp b c.requires.valid c.args.rows.now r)

@@ -70,14 +70,14 @@ returns-clause-fits c =
     let e : c.make_ready.new.self ≡ store_of a.columns.items a.keys.items (cells_of a.logs.items)
     c.make_ready.new.self.spare (columns_of a.others.items) =
     rw (← c.self.view_is) at c.in_ok-prepared.ensures.same in
-    rw (c.in_ok-prepared.ensures.plan, e) (change_fits a.columns.items a.keys.items
+    rw (c.in_ok-prepared.ensures.made, e) (change_fits a.columns.items a.keys.items
     (cells_of a.logs.items) a.live.ids _ c.self.invariant.kept c.args.stamp b c.requires.valid
     c.args.lost.now c.args.gained.items r g c.in_ok-found.found.items _ s p m _
     c.in_ok-prepared.ensures.room)
 
 pub returns-clause-room : goal.returns-clause-room
 returns-clause-room c =
-    rw c.in_ok-prepared.ensures.plan (le_trans (least_rows_room c.args.gained.items)
+    rw c.in_ok-prepared.ensures.made (le_trans (least_rows_room c.args.gained.items)
     c.in_ok-prepared.ensures.room)
 
 pub returns-clause-leads : goal.returns-clause-leads
@@ -94,7 +94,7 @@ returns-clause-leads c =
     let e : c.make_ready.new.self ≡ store_of a.columns.items a.keys.items (cells_of a.logs.items)
     c.make_ready.new.self.spare (columns_of a.others.items) =
     rw (← c.self.view_is) at c.in_ok-prepared.ensures.same in
-    rw (← c.self.view_is, c.in_ok-prepared.ensures.plan, e)
+    rw (← c.self.view_is, c.in_ok-prepared.ensures.made, e)
     (change_leads a.columns.items a.keys.items (cells_of a.logs.items) a.live.ids _
     c.self.invariant.kept c.args.stamp b c.requires.valid c.args.lost.now c.args.gained.items r
     g c.in_ok-found.found.items _ s p m _ _)
@@ -110,7 +110,7 @@ returns-clause-lost c =
     c.in_ok-found.ensures.spliced in
     let p = c.in_ok-found.ensures.placed in
     let m = rw c.deref-2.ensures.value at c.in_ok-found.ensures.more in
-    rw (← c.self.view_is, c.in_ok-prepared.ensures.plan)
+    rw (← c.self.view_is, c.in_ok-prepared.ensures.made)
     (change_lost a.columns.items a.keys.items (cells_of a.logs.items) a.live.ids _
     c.self.invariant.kept c.args.stamp b c.requires.valid c.args.lost.now c.args.gained.items r
     g c.in_ok-found.found.items _ s p m)

@@ -44,7 +44,7 @@ returns-clause-fits c =
     let e : c.make_ready.new.self ≡ store_of a.columns.items a.keys.items (cells_of a.logs.items)
     c.make_ready.new.self.spare (columns_of a.others.items) =
     rw (← c.self.view_is) at c.in_ok-prepared.ensures.same in
-    rw (c.in_ok-prepared.ensures.plan, e, c.new-lost.ensures.items)
+    rw (c.in_ok-prepared.ensures.made, e, c.new-lost.ensures.items)
     (change_fits a.columns.items a.keys.items (cells_of a.logs.items) a.live.ids _
     c.self.invariant.kept c.args.stamp b c.requires.valid [] c.in_ok-gained.gained.items
     (no_relation a.columns.items) g [] _ s c.in_ok-gained.ensures.placed
@@ -52,19 +52,19 @@ returns-clause-fits c =
 
 pub returns-clause-room : goal.returns-clause-room
 returns-clause-room c =
-    rw c.in_ok-prepared.ensures.plan (le_trans (least_rows_room c.in_ok-gained.gained.items)
+    rw c.in_ok-prepared.ensures.made (le_trans (least_rows_room c.in_ok-gained.gained.items)
     c.in_ok-prepared.ensures.room)
 
 pub returns-clause-lost : goal.returns-clause-lost
 returns-clause-lost c =
-    rw (c.in_ok-prepared.ensures.plan, c.new-lost.ensures.items) refl
+    rw (c.in_ok-prepared.ensures.made, c.new-lost.ensures.items) refl
 
 pub returns-clause-gained : goal.returns-clause-gained
 returns-clause-gained c =
     let a = c.self.inside in
     let b = rw (← c.self.view_is) at c.requires.before in
     let e = rw c.deref.ensures.value at c.in_ok-gained.ensures.gained in
-    rw (c.in_ok-prepared.ensures.plan, ← c.self.view_is)
+    rw (c.in_ok-prepared.ensures.made, ← c.self.view_is)
     (e ∙ ap (only_in c.args.rows.items) (sym
     (relation_from a.columns.items a.keys.items (cells_of a.logs.items) a.live.ids _
     c.args.stamp c.args.stamp c.self.invariant.kept b (omega arith) c.requires.valid)))
@@ -83,7 +83,7 @@ returns-clause-leads c =
     let e : c.make_ready.new.self ≡ store_of a.columns.items a.keys.items (cells_of a.logs.items)
     c.make_ready.new.self.spare (columns_of a.others.items) =
     rw (← c.self.view_is) at c.in_ok-prepared.ensures.same in
-    rw (← c.self.view_is, c.in_ok-prepared.ensures.plan, e, c.new-lost.ensures.items)
+    rw (← c.self.view_is, c.in_ok-prepared.ensures.made, e, c.new-lost.ensures.items)
     (change_leads a.columns.items a.keys.items (cells_of a.logs.items) a.live.ids _
     c.self.invariant.kept c.args.stamp b c.requires.valid [] c.in_ok-gained.gained.items
     (no_relation a.columns.items) g [] _ s c.in_ok-gained.ensures.placed

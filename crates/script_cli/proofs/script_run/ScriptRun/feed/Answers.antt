@@ -7,7 +7,7 @@ use Rattle.script_cli.proofs.script_run.ScriptRun.feed.Goals as goal
 pub turns-init : goal.turns-init
 turns-init g c = record {
   took = λ limit same now represents. took_none limit now c.args.self.now c.args.archive.now
-      c.args.piece.now _ (g.met.D.Disk.valid c.args.archive.now.journal.disk) represents;
+      c.args.chunk.now _ (g.met.D.Disk.valid c.args.archive.now.journal.disk) represents;
   ready = c.requires.ready;
   takes = c.requires.takes;
   kept = refl;

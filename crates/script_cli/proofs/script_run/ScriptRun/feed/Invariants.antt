@@ -13,7 +13,7 @@ invariant-turns g l = record {
       (λ r. (goal.Rule-dyn g (r.vtable, r.value)).handles r.value)
       (λ r. (goal.Rule-dyn g (r.vtable, r.value)).answers r.value) l.book.rules.items
       → (now : Recorded) → RepresentsAt l.initial.archive limit now
-      → Took limit now l.initial.self l.self l.initial.archive l.archive l.piece l.rest
+      → Took limit now l.initial.self l.self l.initial.archive l.archive l.chunk l.rest
       (g.K.Sink.written l.initial.sink) (g.K.Sink.written l.sink);
   ready : l.self.splitter.spent ≡ false;
   takes : TakesRecords l.archive;

@@ -30,27 +30,27 @@ install_tables-requires-clause-room c =
     let group : newest_group c.args.self.now ≡ at_places a.stored.items c.deref.result.now =
     ap newest_group (sym c.self.view_is) ∙ newest_is a c.self.invariant
     ∙ ap (at_places a.stored.items) (sym c.deref.ensures.value) in
-    subst (λ (ts : List MadeTable). HaveRoom ts c.args.plans.items) group c.requires
+    subst (λ (ts : List MadeTable). HaveRoom ts c.args.prepared.items) group c.requires
 
 pub invariant_of-self : goal.invariant_of-self
 invariant_of-self c =
     let a = c.self.inside in
     let b : Inside = record a { stored = c.install_tables.new.tables } in
     are_groups a b refl refl refl c.self.invariant refl
-    (names_made c.args.plans.items a.stored.items c.install_tables.new.tables.items
+    (names_made c.args.prepared.items a.stored.items c.install_tables.new.tables.items
     c.install_tables.ensures.each)
-    (lines_made c.args.plans.items a.stored.items c.install_tables.new.tables.items
+    (lines_made c.args.prepared.items a.stored.items c.install_tables.new.tables.items
     c.install_tables.ensures.each)
 
 pub returns : goal.returns
 returns c =
     let a = c.self.inside in
     let b : Inside = record a { stored = c.install_tables.new.tables } in
-    let made = subst (λ (ps : List ℕ). AreMade (at_places a.stored.items ps) c.args.plans.items
+    let made = subst (λ (ps : List ℕ). AreMade (at_places a.stored.items ps) c.args.prepared.items
     (at_places b.stored.items ps)) c.deref.ensures.value c.install_tables.ensures.made in
     let others = subst (λ (ps : List ℕ). (p : ℕ) (d : MadeTable) → (In p ps → ⊥)
     → get_or b.stored.items p d ≡ get_or a.stored.items p d) c.deref.ensures.value
     c.install_tables.ensures.others in
-    subst (λ (k : Kept). HasChanges k (groups_view b) c.args.plans.items) c.self.view_is
-    (has_changes a b refl refl refl c.self.invariant c.args.plans.items made
+    subst (λ (k : Kept). HasChanges k (groups_view b) c.args.prepared.items) c.self.view_is
+    (has_changes a b refl refl refl c.self.invariant c.args.prepared.items made
     c.install_tables.ensures.each others)

@@ -13,14 +13,17 @@ pub install_changes-requires : goal.install_changes-requires
 install_changes-requires c =
     let past = c.requires.0 in
     let command = c.requires.1 in
-    let is : step_of c.args.step ≡ changed c.in-Changed.plans.items = ap step_of c.in-Changed.is in
-    have_room c.args.self.now past command.stamp command.body c.in-Changed.plans.items
+    let is : step_of c.args.step ≡ changed c.in-Changed.prepared.items =
+    ap step_of c.in-Changed.is in
+    have_room c.args.self.now past command.stamp command.body c.in-Changed.prepared.items
     (subst (IsStep c.args.self.now past command.stamp command.body) is c.requires.6)
 
 pub returns-in-Changed-clause-represents : goal.returns-in-Changed-clause-represents
 returns-in-Changed-clause-represents c = λ past command represents accepted valid hold ready.
-    let is : step_of c.args.step ≡ changed c.in-Changed.plans.items = ap step_of c.in-Changed.is in
-    changes_made c.args.self.now c.install_changes.new.self past represents c.in-Changed.plans.items
+    let is : step_of c.args.step ≡ changed c.in-Changed.prepared.items =
+    ap step_of c.in-Changed.is in
+    changes_made c.args.self.now c.install_changes.new.self past represents
+    c.in-Changed.prepared.items
     c.install_changes.ensures command.stamp command.body valid accepted hold
     (subst (IsStep c.args.self.now past command.stamp command.body) is ready)
 
@@ -56,9 +59,10 @@ pub returns-in-Changed-clause-earlier : goal.returns-in-Changed-clause-earlier
 returns-in-Changed-clause-earlier c =
     let past = c.requires.0 in
     let command = c.requires.1 in
-    let is : step_of c.args.step ≡ changed c.in-Changed.plans.items = ap step_of c.in-Changed.is in
+    let is : step_of c.args.step ≡ changed c.in-Changed.prepared.items =
+    ap step_of c.in-Changed.is in
     λ k l name. changes_leave c.args.self.now c.install_changes.new.self past c.requires.2
-    c.in-Changed.plans.items c.install_changes.ensures command.stamp command.body c.requires.4
+    c.in-Changed.prepared.items c.install_changes.ensures command.stamp command.body c.requires.4
     c.requires.3
     (subst (IsStep c.args.self.now past command.stamp command.body) is c.requires.6) k
     (subst (λ (vs : List Version). k < length vs) c.install_changes.ensures.versions l) name

@@ -9,7 +9,7 @@ use Rattle.smo_ops.specs.TablePlaces.{StandAt}
 use Rattle.version_groups.specs.Judged.{judged_command, IsFound, IsAccepted}
 use Rattle.version_groups.specs.Steps.{Prepares}
 use Rattle.version_groups.specs.declared.judged.Judged.{Judged}
-use Rattle.version_groups.proofs.PreparedCommand.{shows_same}
+use Rattle.version_groups.proofs.PreparedCommand.{represents_same}
 use Rattle.version_groups.proofs.groups.Groups.prepare.Goals as goal
 
 pub prepare_changes-requires-clause-valid : goal.prepare_changes-requires-clause-valid
@@ -34,7 +34,7 @@ prepare_changes-requires-clause-accepted c = (
 
 pub returns-in-Changes-clause-represents : goal.returns-in-Changes-clause-represents
 returns-in-Changes-clause-represents c = λ past represents.
-    shows_same c.args.self.now c.prepare_changes.new.self c.prepare_changes.ensures.same past
+    represents_same c.args.self.now c.prepare_changes.new.self c.prepare_changes.ensures.same past
     represents
 
 pub returns-in-Changes-clause-next : goal.returns-in-Changes-clause-next
@@ -52,7 +52,7 @@ prepare_version-requires c =
 
 pub returns-in-Evolve-clause-represents : goal.returns-in-Evolve-clause-represents
 returns-in-Evolve-clause-represents c = λ past represents.
-    shows_same c.args.self.now c.prepare_version.new.self c.prepare_version.ensures.same past
+    represents_same c.args.self.now c.prepare_version.new.self c.prepare_version.ensures.same past
     represents
 
 pub returns-in-Evolve-clause-next : goal.returns-in-Evolve-clause-next

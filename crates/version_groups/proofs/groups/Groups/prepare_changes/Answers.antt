@@ -111,8 +111,8 @@ returns-clause-next c = λ past represents accepted.
     (lines_kept a.stored.items c.prepare_tables.new.tables.items c.prepare_tables.ensures.same))
     ∙ ap (at_places b.stored.items) (sym c.deref.ensures.value) in
     changes_ready c.args.self.now past c.args.stamp its represents c.requires.valid accepted ordered
-    c.requires.constants (groups_view b) same c.in_ok-made.made.plans.items
-    (subst (λ (ts : List MadeTable). AreReady c.args.stamp its ts c.in_ok-made.made.plans.items)
+    c.requires.constants (groups_view b) same c.in_ok-made.made.prepared.items
+    (subst (λ (ts : List MadeTable). AreReady c.args.stamp its ts c.in_ok-made.made.prepared.items)
     (sym now) c.in_ok-made.ensures.ready) _ refl refl
     (c.in_ok-made.ensures.gained ∙ ap (all_gained c.args.stamp its) (sym group))
     (c.in_ok-made.ensures.lost ∙ ap (all_lost c.args.stamp its) (sym group))

@@ -3,7 +3,7 @@ use Rattle.std.specs.List.{flat_map}
 use Rattle.smo_meaning.specs.First.{first_refusal}
 use Rattle.query_types.specs.Branches.{branches_of}
 use Rattle.query_meaning.specs.Checking.{branch_counts}
-use Rattle.temporal_lang.proofs.size.check_each_branch.Given as goal
+use Rattle.temporal_lang.proofs.count.check_each_branch.Given as goal
 
 abbrev pub invariant-loop-branch : goal.invariant-loop-branch
 invariant-loop-branch l = first_refusal (flat_map branch_counts (branches_of l.branches))

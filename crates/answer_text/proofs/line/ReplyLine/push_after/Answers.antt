@@ -1,6 +1,6 @@
 use Rattle.std.proofs.lemmas.Result.{on_ok_weaker, on_err_weaker}
 use Rattle.answer_text.proofs.Gathered.{on_err, put_too, less_longer, less_after}
-use Rattle.answer_text.proofs.line.Line.push_after.Goals as goal
+use Rattle.answer_text.proofs.line.ReplyLine.push_after.Goals as goal
 
 pub returns-in_err-flush-clause-part : goal.returns-in_err-flush-clause-part
 returns-in_err-flush-clause-part g c = on_err _ _ (less_longer _ _ _ _ c.in_err-flush.ensures.part)

@@ -1,4 +1,4 @@
--- The ids that are found for the rows of the next relation make a plan.
+-- The lost rows hand their ids over to those that are found for the rows of the next relation.
 use Rattle.std.proofs.Common.{◌≡◌, ℕ, Bool, true, false, List, [], ◌∷◌, length, refl, sym, ap, ◌∙◌}
 use Rattle.std.proofs.Common.{subst, if◌then◌else◌, inl, inr}
 use Rattle.std.specs.declared.cmp.Ordering.{Ordering}
@@ -22,7 +22,7 @@ use Rattle.value_order.specs.ByValue.{Distinct}
 use Rattle.row_order.proofs.Sides.{exact_rows, not_self}
 use Rattle.relations.proofs.SetLaws.{before_in, in_has, has_in}
 use Rattle.row_order.proofs.RowsOf.{rows_of_in}
-use Rattle.table_meaning.proofs.Plans.{next_is, next_rows}
+use Rattle.table_meaning.proofs.CarriedOut.{next_is, next_rows}
 
 is_equal : (o : Ordering) → is_eq o ≡ true → o ≡ Equal
 is_equal Less e = cc
@@ -213,7 +213,7 @@ module _ (columns : List (List Write)) (live : List ℕ) where
         again (λ q r x. p q r (inr x)),
       )
 
--- the plan that is found
+-- what is found
 module _ (keys : List Span) (columns : List (List Write)) (live : List ℕ) (last : ℕ)
     (rows : List (List Value)) (s : IsStored keys columns live last)
     (r : Ascends row_cmp rows) (w : AllWidth (length columns) rows) where
@@ -223,10 +223,10 @@ module _ (keys : List Span) (columns : List (List Write)) (live : List ℕ) (las
       (gained_rows columns live rows) (lost_ids columns live rows) (length keys) rows rows refl
       s.are_open (λ q i. i) (λ q r p. p)
 
-  pub is_plan : IsHandOver keys (length columns) (lost_ids columns live rows)
+  pub is_hand_over : IsHandOver keys (length columns) (lost_ids columns live rows)
       (gained_rows columns live rows) (after_ids columns live (lost_ids columns live rows)
       (length keys) rows)
-  is_plan = record {
+  is_hand_over = record {
     lost_open = λ id i. s.are_open id (lost_is columns rows live id i).0;
     distinct = distinct_lost columns rows live s.ordered;
     wide = wide_gained columns live (length columns) rows w;
@@ -240,10 +240,10 @@ module _ (keys : List Span) (columns : List (List Write)) (live : List ℕ) (las
     given = λ id i. after_given columns live id (lost_ids columns live rows) (length keys) rows i;
   }
 
-  pub plan_rows : (stamp : ℕ) → rows_of (after_ids columns live (lost_ids columns live rows)
+  pub found_rows : (stamp : ℕ) → rows_of (after_ids columns live (lost_ids columns live rows)
       (length keys) rows) (logs_handed keys columns (lost_ids columns live rows)
       (gained_rows columns live rows) stamp) ≡ rows
-  plan_rows stamp = next_rows keys (lost_ids columns live rows) (gained_rows columns live rows)
+  found_rows stamp = next_rows keys (lost_ids columns live rows) (gained_rows columns live rows)
       stamp columns (after_ids columns live (lost_ids columns live rows) (length keys) rows) rows
       (distinct_lost columns rows live s.ordered)
       (λ q i. (s.are_open q (lost_is columns rows live q i).0).0)

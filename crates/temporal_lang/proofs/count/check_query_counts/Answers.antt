@@ -6,8 +6,8 @@ use Rattle.smo_meaning.specs.Counts.{at_most}
 use Rattle.smo_meaning.proofs.Firsts.{first_after, first_before, first_alone}
 use Rattle.query_types.specs.Branches.{branches_of}
 use Rattle.query_meaning.specs.Checking.{branches_counts}
-use Rattle.temporal_lang.proofs.SizeLaws.{above_limit, within_limit}
-use Rattle.temporal_lang.proofs.size.check_query_counts.Goals as goal
+use Rattle.temporal_lang.proofs.CountLaws.{above_limit, within_limit}
+use Rattle.temporal_lang.proofs.count.check_query_counts.Goals as goal
 
 pub returns-in_err-check_branches : goal.returns-in_err-check_branches
 returns-in_err-check_branches c =

@@ -3,7 +3,7 @@ use Rattle.std.specs.List.{flat_map}
 use Rattle.cond_expr.specs.Seen.{tree}
 use Rattle.smo_meaning.specs.First.{first_refusal}
 use Rattle.smo_meaning.specs.Counts.{tree_counts}
-use Rattle.temporal_lang.proofs.size.check_outputs.Given as goal
+use Rattle.temporal_lang.proofs.count.check_outputs.Given as goal
 
 abbrev pub invariant-loop-out : goal.invariant-loop-out
 invariant-loop-out l = first_refusal (flat_map tree_counts (map tree l.outs))

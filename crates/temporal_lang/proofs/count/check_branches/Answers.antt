@@ -3,7 +3,7 @@ use Rattle.prima_base.specs.declared.refusal.What.TheVariants.{Branches}
 use Rattle.query_types.specs.Branches.{branch_of}
 use Rattle.query_meaning.specs.Checking.{branch_counts}
 use Rattle.smo_meaning.proofs.CountLaws.{limited_before, limited_above, limited_within}
-use Rattle.temporal_lang.proofs.size.check_branches.Goals as goal
+use Rattle.temporal_lang.proofs.count.check_branches.Goals as goal
 
 pub returns-in_err-check_each_branch : goal.returns-in_err-check_each_branch
 returns-in_err-check_each_branch c =

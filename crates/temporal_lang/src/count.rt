@@ -1,3 +1,5 @@
+//! The counts of a query, each within its limit.
+
 ghost use Rattle.std.specs.Prelude.{◌≡◌, map};
 ghost use Rattle.std.specs.List.{flat_map};
 ghost use Rattle.cond_expr.specs.Seen.{tree, test};
@@ -59,7 +61,8 @@ fn check_branch(branch: &Branch) -> Result<(), (What, u64)>
 }
 
 fn check_each_branch(branches: &[Branch]) -> Result<(), (What, u64)>
-    ensures { result_err result ≡ first_refusal (flat_map branch_counts (branches_of branches.now)) }
+    ensures { result_err result
+        ≡ first_refusal (flat_map branch_counts (branches_of branches.now)) }
 {
     for branch in branches {
         check_branch(branch)?;

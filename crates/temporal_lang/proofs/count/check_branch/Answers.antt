@@ -6,8 +6,8 @@ use Rattle.smo_meaning.specs.First.{first_refusal}
 use Rattle.smo_meaning.specs.Counts.{at_most, test_counts}
 use Rattle.smo_meaning.proofs.Firsts.{first_after, first_before, first_at, first_later}
 use Rattle.query_meaning.specs.Checking.{output_counts}
-use Rattle.temporal_lang.proofs.SizeLaws.{above_limit, within_limit}
-use Rattle.temporal_lang.proofs.size.check_branch.Goals as goal
+use Rattle.temporal_lang.proofs.CountLaws.{above_limit, within_limit}
+use Rattle.temporal_lang.proofs.count.check_branch.Goals as goal
 
 pub returns-in_err-check_some_outputs : goal.returns-in_err-check_some_outputs
 returns-in_err-check_some_outputs c =
