@@ -30,7 +30,7 @@ impl From<NoMemory> for CommitFault {
 }
 
 /// Why a file was not mounted.
-#[derive(Clone, Copy, Debug, PartialEq, Eq)]
+#[derive(Clone, Copy, PartialEq, Eq)]
 pub enum MountFault {
     /// The disk failed, and its count of faults rose.
     Disk,

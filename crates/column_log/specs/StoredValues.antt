@@ -1,9 +1,10 @@
 -- The values of a column, and the room that they take.
-use Rattle.std.specs.Prelude.{ℕ, ◌-◌, ◌/◌, List, [], length, map, vec_len, vec_capacity}
+use Rattle.std.specs.Prelude.{ℕ, ◌-◌, ◌/◌, List, length, map, vec_len, vec_capacity}
 use Rattle.prima_base.specs.declared.value.Value.{Value}
 use Rattle.prima_base.specs.declared.value.Value.TheVariants.{Int, Text}
 use Rattle.prima_base.specs.declared.value.ColType.{ColType}
 use Rattle.prima_base.specs.declared.value.ColType.TheVariants.{Int as IntType, Text as TextType}
+use Rattle.prima_base.specs.Order.{bytes_of}
 use Rattle.column_log.specs.declared.stored_value.StoredValues.{StoredValues}
 use Rattle.column_log.specs.declared.stored_value.StoredValues.TheVariants.{Numbers, Texts}
 use Rattle.column_log.specs.Texts.{room_unit}
@@ -22,11 +23,6 @@ abbrev pub spare_in : StoredValues → ℕ
 spare_in (Numbers numbers) = vec_capacity numbers - vec_len numbers
 spare_in (Texts texts) = texts.spare
 
--- what of the value goes into a buffer
-abbrev pub text_of : Value → List ℕ
-text_of (Int n) = []
-text_of (Text t) = t
-
 -- a unit of room for each 32 bytes of a text, beside the one of the write
 abbrev pub text_room : Value → ℕ
-text_room v = length (text_of v) / room_unit
+text_room v = length (bytes_of v) / room_unit

@@ -7,7 +7,7 @@ use prima_base::NoMemory;
 use std::alloc::{AllocError, AllocFailed};
 
 /// Why nothing was read.
-#[derive(Clone, Copy, Debug, PartialEq, Eq)]
+#[derive(Clone, Copy, PartialEq, Eq)]
 pub enum ReadStop {
     /// Memory ran out. Where the reader stands then is not said.
     NoMemory,
@@ -49,7 +49,7 @@ impl From<NoMemory> for ReadStop {
 }
 
 /// Which bytes may stand in a row.
-#[derive(Clone, Copy, Debug, PartialEq, Eq)]
+#[derive(Clone, Copy, PartialEq, Eq)]
 pub enum Alphabet {
     /// ASCII letters, digits and `_`.
     Named,

@@ -4,13 +4,14 @@ use Rattle.std.specs.Prelude.{if◌then◌else◌}
 use Rattle.std.proofs.Common.{refl, arith}
 use Rattle.std.proofs.lemmas.Int.{ints}
 use Rattle.prima_base.specs.Bytes.{first_control, is_control}
+use Rattle.prima_base.specs.Order.{bytes_of}
 use Rattle.prima_base.specs.Columns.{IsValid}
 use Rattle.prima_base.specs.declared.value.Value.{Value}
 use Rattle.prima_base.specs.declared.value.Value.TheVariants.{Int, Text}
 use Rattle.cond_expr.specs.declared.expr.Whose.{Whose}
 use Rattle.cond_expr.specs.Trees.{Tree, column, constant, length_of, joined, choose, Trees}
 use Rattle.cond_expr.specs.Trees.{no_trees, a_tree}
-use Rattle.cond_expr.specs.Values.{Cells, bytes_of, value, texts, truth}
+use Rattle.cond_expr.specs.Values.{Cells, value, texts, truth}
 use Rattle.cond_expr.specs.Constants.{HasValid, HaveValid}
 use Rattle.cond_expr.proofs.TextLaws.{none_in_both, none_in_prefix, none_in_value, prefix_is_short}
 

@@ -6,12 +6,13 @@ use Rattle.std.proofs.Common.{◌∙◌, arith, append_assoc}
 use Rattle.std.proofs.lemmas.List.{take_min, take_all, drop_all, length-take, append-nil}
 use Rattle.std.proofs.Math.Seq.{take-append-add}
 use Rattle.prima_base.specs.Bytes.{first_from, first_control, is_control, IsTxt}
+use Rattle.prima_base.specs.Order.{bytes_of}
 use Rattle.prima_base.specs.declared.value.Value.{Value}
 use Rattle.prima_base.specs.declared.value.Value.TheVariants.{Int, Text}
 use Rattle.cond_expr.specs.Rows.{IsValid}
 use Rattle.cond_expr.specs.declared.expr.Expr.{Expr}
 use Rattle.cond_expr.specs.Seen.{tree, trees_of}
-use Rattle.cond_expr.specs.Values.{Cells, bytes_of, value, texts}
+use Rattle.cond_expr.specs.Values.{Cells, value, texts}
 
 pub what_fits : (n : ℕ) (a b : List ℕ) → length a ≤ n
     → a ++ take (min (n - length a) (length b)) b ≡ take n (a ++ b)

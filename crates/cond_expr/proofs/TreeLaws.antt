@@ -9,7 +9,8 @@ use Rattle.cond_expr.specs.Trees.{no_trees, a_tree, Test, never, always, compare
 use Rattle.cond_expr.specs.Trees.{fails, Tests, no_tests, a_test, Filling, fill, fill_trees}
 use Rattle.cond_expr.specs.Trees.{fill_test, fill_tests, Within, TreesWithin, TestWithin}
 use Rattle.cond_expr.specs.Trees.{TestsWithin}
-use Rattle.cond_expr.specs.Values.{Cells, bytes_of, value, texts, truth, all_true, some_true}
+use Rattle.prima_base.specs.Order.{bytes_of}
+use Rattle.cond_expr.specs.Values.{Cells, value, texts, truth, all_true, some_true}
 
 -- the value after references are filled is the value where the fillings are computed
 mutual

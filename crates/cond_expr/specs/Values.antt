@@ -5,7 +5,7 @@ use Rattle.std.specs.declared.cmp.Ordering.{Ordering}
 use Rattle.std.specs.Ordering.{is_eq, is_lt, is_gt, is_le}
 use Rattle.prima_base.specs.declared.value.Value.{Value}
 use Rattle.prima_base.specs.declared.value.Value.TheVariants.{Int, Text}
-use Rattle.prima_base.specs.Order.{value_cmp}
+use Rattle.prima_base.specs.Order.{value_cmp, bytes_of}
 use Rattle.prima_base.specs.Limits.{max_text}
 use Rattle.cond_expr.specs.declared.expr.Whose.{Whose}
 use Rattle.cond_expr.specs.declared.expr.Whose.TheVariants.{Free, Alias, Atom}
@@ -24,10 +24,6 @@ abbrev pub over : (ℕ → List ℕ → Value) → Cells
 over at Free n = Int (pos 0)
 over at (Alias a) n = Int (pos 0)
 over at (Atom i) n = at i n
-
-abbrev pub bytes_of : Value → List ℕ
-bytes_of (Int n) = []
-bytes_of (Text t) = t
 
 abbrev pub agrees : CmpOp → Ordering → Bool
 agrees Eq r = is_eq r

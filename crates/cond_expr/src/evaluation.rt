@@ -1,8 +1,8 @@
 ghost use Rattle.std.specs.Prelude.{◌≡◌, ◌≤◌, ◌++◌, map, length, take, pos, IfOk, ℕ, List};
 ghost use Rattle.prima_base.specs.Bytes.{IsTxt};
-ghost use Rattle.prima_base.specs.Order.{shown, is_borrowed, IsBorrowed};
+ghost use Rattle.prima_base.specs.Order.{shown, bytes_of, is_borrowed, IsBorrowed};
 ghost use Rattle.cond_expr.specs.Trees.{column};
-ghost use Rattle.cond_expr.specs.Values.{value, texts, truth, all_true, some_true, bytes_of};
+ghost use Rattle.cond_expr.specs.Values.{value, texts, truth, all_true, some_true};
 ghost use Rattle.cond_expr.specs.Values.{agrees, chosen};
 ghost use Rattle.cond_expr.specs.Seen.{tree, test, trees_of, tests_of};
 ghost use Rattle.cond_expr.specs.Rows.{flat, IsValid, AreValid, lies_elsewhere};

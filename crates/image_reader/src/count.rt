@@ -16,7 +16,7 @@ pub(crate) fn number_64(reader: &mut Reader<'_>) -> Result<u64, ReadStop>
     reader.number_64()
 }
 
-/// A count of four bytes. Where it is cut off the reader stands at its first byte.
+/// A count of four bytes.
 #[tactic(auto, unfolding(image_spelling::specs::Reader::number_32), using(crate::proofs::ItemSteps::item_got, crate::proofs::ItemSteps::item_fails))]
 pub(crate) fn count_32(reader: &mut Reader<'_>) -> Result<u64, ReadStop>
     ensures { Reads (λ n. n) (item spec.number_32 reader.old.rest.now) result reader.new.rest.now }
@@ -31,7 +31,7 @@ pub(crate) fn count_32(reader: &mut Reader<'_>) -> Result<u64, ReadStop>
     }
 }
 
-/// A count of eight bytes. Where it is cut off the reader stands at its first byte.
+/// A count of eight bytes.
 #[tactic(auto, using(crate::proofs::ItemSteps::item_got, crate::proofs::ItemSteps::item_fails))]
 pub(crate) fn count_64(reader: &mut Reader<'_>) -> Result<u64, ReadStop>
     ensures { Reads (λ n. n) (item parts.number_64 reader.old.rest.now) result reader.new.rest.now }

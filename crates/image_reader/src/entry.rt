@@ -67,7 +67,7 @@ fn is_due(last: Option<u64>, kind: ColType, id: u64, left: Period, read: &Unjudg
     begins && has_type(kind, &read.value) && lasts
 }
 
-// The entry that is due. Where it is not as it must be the reader stands at its first byte.
+// The entry that is due.
 fn entry<'a>(
     reader: &mut Reader<'a>,
     last: Option<u64>,

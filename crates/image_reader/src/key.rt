@@ -33,7 +33,7 @@ pub(crate) fn is_period(last: Option<u64>, start: u64, end: u64) -> bool
     start < end && is_stamp(last, start) && is_end(last, end)
 }
 
-// A key. Where it is not as it must be the reader stands at its first byte.
+// A key.
 fn key(reader: &mut Reader<'_>, last: Option<u64>) -> Result<Period, ReadStop>
     ensures { Reads (λ p. p) (spec.key last reader.old.rest.now) result reader.new.rest.now }
 {

@@ -65,8 +65,7 @@ fn is_line(due: &DueLine<'_>, first: u64, last: u64, table: &Name) -> bool
     first == due.first as u64 && last == last_number(due.last) as u64 && same_name(table, due.table)
 }
 
-// The versions and the table of the lifeline that is due. Where they are not the reader stands at
-// their first byte.
+// The versions and the table of the lifeline that is due.
 fn head(alloc: Global, reader: &mut Reader<'_>, due: &DueLine<'_>) -> Result<(), ReadStop>
     ensures { Reads (λ u. head_of (line_seen due.now))
         (item (judged (is_line (line_seen due.now)) spec.line_head) reader.old.rest.now) result

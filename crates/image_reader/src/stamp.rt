@@ -51,7 +51,7 @@ fn stamp_or_none(reader: &mut Reader<'_>) -> Result<Option<u64>, ReadStop>
     }
 }
 
-/// The last stamp. Where it is not as it must be the reader stands at its first byte.
+/// The last stamp.
 #[tactic(auto, unfolding(image_spelling::specs::Reader::last_stamp), using(crate::proofs::ItemSteps::item_got, crate::proofs::ItemSteps::item_fails))]
 pub(crate) fn last_stamp(reader: &mut Reader<'_>) -> Result<Option<u64>, ReadStop>
     ensures { Reads (λ s. s) (spec.last_stamp reader.old.rest.now) result reader.new.rest.now }

@@ -122,7 +122,7 @@ fn accepted(
     }
 }
 
-// The next version after these. Where it is not as it must be the reader stands at its first byte.
+// The next version after these.
 fn version(
     alloc: Global,
     reader: &mut Reader<'_>,

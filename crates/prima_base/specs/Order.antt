@@ -1,4 +1,4 @@
--- The order of values, names and rows, and the value that a `Val` shows.
+-- The order of values, names and rows, the value that a `Val` shows, and the bytes of a value.
 use Rattle.std.specs.Prelude.{ℕ, Bool, true, false, List, [], ◌∷◌, ⊤}
 use Rattle.std.specs.declared.cmp.Ordering.{Ordering}
 use Rattle.std.specs.declared.cmp.Ordering.TheVariants.{Less, Greater}
@@ -33,6 +33,11 @@ abbrev pub shown : Val → Value
 shown (ValInt n) = Int n
 shown (Slice s) = Text s.now
 shown (Own t) = Text t
+
+-- those of a text; a number has none
+abbrev pub bytes_of : Value → List ℕ
+bytes_of (Int n) = []
+bytes_of (Text t) = t
 
 -- where it is a text, its bytes lie elsewhere
 abbrev pub IsBorrowed : Val → Type 0

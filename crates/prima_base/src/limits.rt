@@ -1,5 +1,7 @@
-//! The limits of the statement language and of what its statements make: each number stands here
-//! alone.
+//! The limits of the statement language and of what its statements make, for code: what tests one
+//! takes it from here. Definitions take theirs from `specs/Limits.antt`. A contract whose proof
+//! reckons with a limit has the number itself, and the proof of each call holds it to the test. The
+//! limits of a script, of a journal and of a sample stand in the crates that set them.
 
 /// The most bytes of a name.
 pub const MAX_NAME: usize = 63;

@@ -167,7 +167,8 @@ fn put_all_stored<L: Ledger>(
         ++ list_bytes 4 stored_bytes (map kept_line tables.now)) }
     ensures holds { OnOk result (All TableHolds tables.now) }
 {
-    // No machine has memory for so many tables that this is none.
+    // An archive has at most 1,024 lifelines (`lifelines_are_few` of version_groups); for a list
+    // with so many that their count does not fit no machine has memory.
     let Ok(count) = u32::try_from(tables.len()) else {
         return Err(NoMemory);
     };

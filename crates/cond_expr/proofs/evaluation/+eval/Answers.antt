@@ -1,6 +1,6 @@
 use Rattle.std.proofs.Common.{◌++◌, take, sym, ap, ◌∙◌}
 use Rattle.prima_base.specs.declared.value.Value.{Value}
-use Rattle.cond_expr.specs.Values.{bytes_of}
+use Rattle.prima_base.specs.Order.{bytes_of}
 use Rattle.cond_expr.specs.Rows.{flat}
 use Rattle.cond_expr.proofs.TextLaws.{joined_more, joined_whole}
 use Rattle.cond_expr.proofs.evaluation.+eval.Goals as goal

@@ -2,8 +2,7 @@ use Rattle.std.proofs.Common.{arith, sym, subst}
 use Rattle.std.proofs.lemmas.Grind.{common_steps}
 use Rattle.prima_base.specs.Bytes.{IsTxt}
 use Rattle.cond_expr.proofs.TextLaws.{what_fits, joined_is_text}
-use Rattle.cond_expr.specs.Values.{bytes_of}
-use Rattle.prima_base.specs.Order.{shown}
+use Rattle.prima_base.specs.Order.{bytes_of, shown}
 use Rattle.cond_expr.proofs.evaluation.append.Goals as goal
 
 pub returns-clause-bytes : goal.returns-clause-bytes
