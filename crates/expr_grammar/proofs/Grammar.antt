@@ -15,6 +15,7 @@ use Rattle.parser_combinators.specs.Grammar.{Grammar}
 use Rattle.parser_combinators.specs.Grammar.{Size, nothing_counted, both, one_node, one_open}
 use Rattle.parser_combinators.specs.Grammar.{so_wide, AreMore, no_end}
 use Rattle.parser_combinators.specs.Grammar as grammar
+use Rattle.parser_combinators.specs.Derivations.{Derivation, derivation, after_lexeme}
 use Rattle.expr_grammar.specs.Constants.{name_grammar}
 use Rattle.expr_grammar.specs.Grammar as g
 use Rattle.expr_grammar.specs.Grammar.{spelled, leaf, IsExpr, AreParts, IsFact, AreFacts, IsConj}
@@ -434,6 +435,17 @@ expr_not_none q e s h = let k = expr_some q e s [] h in let z = k.2 in cc
 
 abbrev pub op_grammar : (CmpOp → Grammar Test) → Grammar Test
 op_grammar K c s ts = (o : CmpOp) × grammar.lead (spelled o) (K o) c s ts
+
+-- the sign of a comparison, and what stands after it
+abbrev pub sign_of : {K : CmpOp → Grammar Test} → Derivation (op_grammar K) → CmpOp
+sign_of d = d.derives.0
+
+abbrev pub after_sign : {K : CmpOp → Grammar Test} (d : Derivation (op_grammar K))
+    → Derivation (K (sign_of d))
+after_sign {K} d =
+    let led : Derivation (grammar.lead (spelled (sign_of d)) (K (sign_of d))) =
+    derivation d.value d.size d.lexemes d.derives.1 in
+    after_lexeme led
 
 abbrev pub right_grammar : Bool → Tree → CmpOp → Grammar Test
 right_grammar q a o = grammar.map (λ b. compared o a b) (IsExpr q)

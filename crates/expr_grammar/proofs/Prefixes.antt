@@ -14,6 +14,9 @@ use Rattle.parser_combinators.specs.Grammar.{Grammar}
 use Rattle.parser_combinators.specs.Parsing.{Stops}
 use Rattle.parser_combinators.specs.Grammar.{Size, one_open, so_wide, AreMore, no_end}
 use Rattle.parser_combinators.specs.Grammar as grammar
+use Rattle.parser_combinators.specs.Derivations.{Derivation, derivation, after_lexeme, first_of}
+use Rattle.parser_combinators.specs.Derivations.{rest_of, source_of, in_node}
+use Rattle.parser_combinators.proofs.DerivationLaws.{given_value, made_value}
 use Rattle.expr_grammar.specs.Constants.{name_grammar}
 use Rattle.expr_grammar.specs.Grammar as g
 use Rattle.expr_grammar.specs.Grammar.{spelled, leaf, IsExpr, AreParts, IsFact, AreFacts, IsConj}
@@ -29,6 +32,7 @@ use Rattle.expr_grammar.proofs.Grammar.{case_grammar, expr_inv, length_down, con
 use Rattle.expr_grammar.proofs.Grammar.{atom_down, expr_not_none, expr_some, starts_expr}
 use Rattle.expr_grammar.proofs.Grammar.{length_no_name, concat_no_name, case_no_name, right_grammar}
 use Rattle.expr_grammar.proofs.Grammar.{cmp_grammar, bracket_grammar, not_grammar, fact_inv}
+use Rattle.expr_grammar.proofs.Grammar.{sign_of, after_sign}
 use Rattle.expr_grammar.proofs.Grammar.{not_down, bracket_down, true_down, false_down}
 use Rattle.expr_grammar.proofs.Grammar.{fact_not_none, conj_down, cond_down}
 use Rattle.std.proofs.lemmas.List.{append_cancel_right}
@@ -223,8 +227,11 @@ module _ (q : Bool) where
     where
       same_first : (c : Tree) (u : Size) (m : List Lexeme)
           → closed_grammar c (joined (a_tree e (trees_of l))) u m → c ≡ e
-      same_first c u m h = let r : joined (a_tree e (trees_of l))
-          ≡ joined (a_tree c (trees_of h.0)) = h.8.2.0 in cc
+      same_first c u m h =
+          let whole : Derivation (closed_grammar c) = derivation _ u m h in
+          let others : List Tree = (first_of whole).value in
+          let r : joined (a_tree e (trees_of l)) ≡ joined (a_tree c (trees_of others)) =
+          given_value (after_lexeme (rest_of whole)) in cc
 
       same_others : (m : List Tree) → joined (a_tree e (trees_of l))
           ≡ joined (a_tree e (trees_of m)) → m ≡ l
@@ -253,16 +260,28 @@ module _ (q : Bool) where
       (one_lead (grammar.seq (IsCond q) (λ x. grammar.lead (word THEN) (then_grammar x))) all inside
       (word WHEN)
       (one_then (IsCond q) (word THEN) then_grammar c all f at_else
-      (λ x u l h. same_case x h.0 h.8.2.0 h.8.2.8.2.0) oc
+      same_case oc
       (one_then (IsExpr q) (word ELSE) (else_grammar c) a all k at_end
-      (λ x u l h. same_then x h.0 h.8.2.0) oa
+      same_then oa
       (one_closed (IsExpr q) (word END) (λ x. chosen c a x) b m (λ x h. cc) ob))))))
     where
-      same_case : (d : Test) (x y : Tree) → chosen c a b ≡ chosen d x y → d ≡ c
-      same_case d x y e = cc
+      same_case : (d : Test) (u : Size) (l : List Lexeme)
+          → then_grammar d (chosen c a b) u l → d ≡ c
+      same_case d u l h =
+          let after_when : Derivation (then_grammar d) = derivation _ u l h in
+          let x : Tree = (first_of after_when).value in
+          let after_then : Derivation (else_grammar d x) = after_lexeme (rest_of after_when) in
+          let y : Tree = (first_of after_then).value in
+          let r : chosen c a b ≡ chosen d x y =
+          given_value (after_lexeme (rest_of after_then)) in cc
 
-      same_then : (x y : Tree) → chosen c a b ≡ chosen c x y → x ≡ a
-      same_then x y e = cc
+      same_then : (x : Tree) (u : Size) (l : List Lexeme)
+          → else_grammar c x (chosen c a b) u l → x ≡ a
+      same_then x u l h =
+          let after_then : Derivation (else_grammar c x) = derivation _ u l h in
+          let y : Tree = (first_of after_then).value in
+          let r : chosen c a b ≡ chosen c x y =
+          given_value (after_lexeme (rest_of after_then)) in cc
 
   -- a single lexeme that is no word of an expression
   one_int : (z : ℤ) → OnePrefix (IsExpr q) (constant (Int z)) (number z ∷ [])
@@ -327,7 +346,10 @@ module _ (q : Bool) where
   one_sign : (o : CmpOp) (a b : Tree) (k : List Lexeme) → OnePrefix (IsExpr q) b k
       → OnePrefix (sign_grammar q a) (compared o a b) (spelled o ∷ k)
   one_sign o a b k ob t m us vs h e =
-      let same : o ≡ h.0 = told h.0 h.1.2.2.0 h.1.2.2.1 in
+      let whole : Derivation (sign_grammar q a) = derivation _ t m h in
+      let side : Derivation (right_grammar q a (sign_of whole)) = in_node (after_sign whole) in
+      let same : o ≡ sign_of whole =
+      told (sign_of whole) (source_of side).value (made_value side) in
       let P : CmpOp → Type 0 = λ p. grammar.lead (spelled p) (grammar.node (right_grammar q a p))
       (compared o a b) t m in
       let right : OnePrefix (right_grammar q a o) (compared o a b) k =
@@ -342,10 +364,15 @@ module _ (q : Bool) where
   one_cmp : (o : CmpOp) (a b : Tree) (f k : List Lexeme) → OnePrefix (IsExpr q) a f
       → OnePrefix (IsExpr q) b k → OnePrefix (cmp_grammar q) (compared o a b) (f ++ spelled o ∷ k)
   one_cmp o a b f k oa ob = one_bind (IsExpr q) (sign_grammar q) a (compared o a b) f
-      (spelled o ∷ k) (λ x u l h. told x h.0 h.1.2.2.0 h.1.2.2.1) oa (one_sign o a b k ob)
+      (spelled o ∷ k) same_left oa (one_sign o a b k ob)
     where
-      told : (x : Tree) (p : CmpOp) (y : Tree) → compared o a b ≡ compared p x y → x ≡ a
-      told x p y r = cc
+      same_left : (x : Tree) (u : Size) (l : List Lexeme)
+          → sign_grammar q x (compared o a b) u l → x ≡ a
+      same_left x u l h =
+          let whole : Derivation (sign_grammar q x) = derivation _ u l h in
+          let side : Derivation (right_grammar q x (sign_of whole)) = in_node (after_sign whole) in
+          let r : compared o a b ≡ compared (sign_of whole) x (source_of side).value =
+          made_value side in cc
 
   by_cmp : (a : Tree) (s : Size) (f : List Lexeme) → IsExpr q a s f → (c : Test) (k : List Lexeme)
       → OnePrefix (cmp_grammar q) c (f ++ k) → OnePrefix (IsFact q) c (f ++ k)
@@ -390,10 +417,13 @@ module _ (w : List ℕ) (make : Test → Test → List Test → Test) (G : Test 
                 ∙ ap (λ l. l ++ vs) k.2,
           )
       by_tail (inr k) =
-          let two = k.2.2 in
+          let led : Derivation (grammar.lead (word w) (grammar.node (TwoGrammar h.0))) =
+          derivation _ h.2 h.4 k in
+          let both : Derivation (TwoGrammar h.0) = in_node (after_lexeme led) in
+          let others = rest_of both in
           let P : Test → Type 0 = λ x. G x s f in
-          absurd (apart h.0 two.0 two.8.0 s h.1 f h.3 us (h.4 ++ vs) (subst P two.8.1 here) h.7
-          split)
+          absurd (apart h.0 (first_of both).value (source_of others).value s h.1 f h.3 us
+          (h.4 ++ vs) (subst P (made_value others) here) h.7 split)
 
   one_joined : (c e : Test) (l : List Test) (s : Size) (f k m : List Lexeme) → G c s f
       → OnePrefix G c f → OnePrefix G e k → OnePrefix MoreGrammar l m
@@ -415,7 +445,12 @@ module _ (w : List ℕ) (make : Test → Test → List Test → Test) (G : Test 
           absurd (apart c e l h.1 s h.3 f (h.4 ++ vs) ((word w ∷ (k ++ m)) ++ us)
           (subst P (sym j.0) h.7) here (sym split))
       by_tail (inr j) =
-          let it : h.0 ≡ c = first_told c h.0 e j.2.2.0 l j.2.2.8.0 j.2.2.8.1 in
+          let led : Derivation (grammar.lead (word w) (grammar.node (TwoGrammar h.0))) =
+          derivation _ h.2 h.4 j in
+          let both : Derivation (TwoGrammar h.0) = in_node (after_lexeme led) in
+          let others = rest_of both in
+          let it : h.0 ≡ c = first_told c h.0 e (first_of both).value l (source_of others).value
+          (made_value others) in
           let P : Test → Type 0 = λ x. G x h.1 h.3 in
           let Q : Test → Type 0 = λ x. grammar.lead (word w) (grammar.node (TwoGrammar x))
           (make c e l) h.2 h.4 in

@@ -7,3 +7,4 @@ pub mod ReadSteps
 pub mod ManySteps
 pub mod Places
 pub mod AlongParts
+pub mod DerivationLaws

@@ -37,6 +37,15 @@ abbrev pub source_of : {A B : Type 0} {m : A → B} {G : Grammar A} → Derivati
     → Derivation G
 source_of d = derivation d.derives.0 d.size d.lexemes d.derives.2
 
+-- ---- of a node, and of an open construct
+
+abbrev pub in_node : {A : Type 0} {G : Grammar A} → Derivation (grammar.node G) → Derivation G
+in_node d = derivation d.value d.derives.0 d.lexemes d.derives.2
+
+abbrev pub in_opened : {A : Type 0} {G : Grammar A} → Derivation (grammar.opened G)
+    → Derivation G
+in_opened d = derivation d.value d.derives.0 d.lexemes d.derives.2
+
 -- ---- of what has counts of its own
 
 abbrev pub counted_anew : {A : Type 0} {G : Grammar A} → Derivation (grammar.fresh G)

@@ -32,6 +32,8 @@ use Rattle.smo_meaning.proofs.FewNames.{one_later}
 use Rattle.smo_meaning.proofs.ColumnLaws.{in_order_are_columns}
 use Rattle.smo_meaning.proofs.KeptColumns.{kept_are_columns}
 use Rattle.smo_meaning.proofs.NextSchemas.{ordered_columns, all_preconditions, is_table}
+use Rattle.smo_meaning.proofs.MetPreconditions.{create_met, merge_met, partition_met, join_met}
+use Rattle.smo_meaning.proofs.MetPreconditions.{add_met, new_name_met}
 use Rattle.smo_meaning.proofs.NextSchemas.{put_are_columns}
 use Rattle.smo_meaning.proofs.TouchedTables.{opposite, made_is_there, neither}
 use Rattle.smo_meaning.proofs.MadeRows.{from_with, from_in_order, each_is, column_named, not_this}
@@ -97,7 +99,8 @@ created_types tables r cs n e =
     (λ x. Rows []) e (inl refl))
     ∙ by_name (in_order cs) (type_in cs) n (in_order_are_columns cs)
     (λ d m. (once [] cs d (none_mapped (ColumnExists r) (first_again (names_of cs))
-    (all_preconditions tables (create_table r cs) e).1.1.0) (from_in_order cs d m)).1)
+    (create_met (all_preconditions tables (create_table r cs) e)).named_once)
+    (from_in_order cs d m)).1)
     (λ q. no_type cs n (not_among (among n (names_of cs)) (among n (names_of (in_order cs)))
     (λ h. among_in_order cs n (among_in n (names_of cs) h)) q))
 
@@ -173,15 +176,15 @@ module _ (tables : Tables) (schema : IsSchema tables) where
           → type_in (columns_of (schema_after tables (add_column c t r)) r) n
           ≡ (if same n c then kind_of (own_kinds cs) t else type_in cs n)
       added_types t n e =
-          let m = all_preconditions tables (add_column c t r) e in
+          let m = add_met t (all_preconditions tables (add_column c t r) e) in
           let k : ColType = type_of_value cs t in
           ap (λ (x : List Column). type_in x n)
           (made_columns tables (add_column c t r) r (with_column c k cs)
           (λ x. from_one (image (with_column c k cs) (added cs c t)) (get x r)) e (inl refl))
-          ∙ with_types k n (new_name c m.1.0)
+          ∙ with_types k n (new_name c m.name_new)
           ∙ ap (λ (o : Option ColType). if same n c then o else type_in cs n)
           (sym (value_has_type cs t (none_mapped WrongType
-          (first_of (untyped (own_kinds cs) 0 t)) m.1.1.1.0)))
+          (first_of (untyped (own_kinds cs) 0 t)) m.types_right)))
 
       pub dropped_types : (n : List ℕ) → op_fault tables (drop_column c r) ≡ None
           → type_in (columns_of (schema_after tables (drop_column c r)) r) n
@@ -262,7 +265,8 @@ module _ (tables : Tables) (schema : IsSchema tables) where
           (made_columns tables (rename_column b r c) r (renamed b c cs)
           (λ x. from_one (image (renamed b c cs) (moved cs b c)) (get x r)) e (inl refl))
           ∙ by_name (renamed b c cs) types n (in_order_are_columns (map change cs))
-          (λ d m. each_change (new_name c (all_preconditions tables (rename_column b r c) e).1.1.0)
+          (λ d m. each_change
+          (new_name c (new_name_met (all_preconditions tables (rename_column b r c) e)).name_new)
           d (from_map change d cs (from_in_order (map change cs) d m)))
           (λ q. none_else n q (same n c) (same n b) refl refl)
 
@@ -325,7 +329,7 @@ module _ (tables : Tables) (schema : IsSchema tables) where
         (λ x. from_two (join_rows first second c) (get x r) (get x s)) e (inl refl))
         ∙ by_name (joined_columns first second) of_both n (in_order_are_columns (first ++ second))
         (λ d m. of_each (met _ (ColumnsDiffer r s)
-        (all_preconditions tables (join_table r s t c) e).1.1.1.1.0) d
+        (join_met c (all_preconditions tables (join_table r s t c) e)).types_agree) d
         (in_append d first second (from_in_order (first ++ second) d m))
         (among d.0 (names_of first)) refl)
         (λ q. none_of_both_tables n q (among n (names_of first)) refl)
@@ -336,7 +340,8 @@ pub merged_columns : (tables : Tables) (r s t : List ℕ) → op_fault tables (m
 merged_columns tables r s t e =
     made_is_there tables (merge_table r s t) (a_table t (columns_of tables r)
     (λ x. from_two union (get x r) (get x s))) e (inl refl)
-    ∙ found (get tables r) (is_table tables r (all_preconditions tables (merge_table r s t) e).0)
+    ∙ found (get tables r) (is_table tables r
+    (merge_met (all_preconditions tables (merge_table r s t) e)).left_there)
 
 pub parted_columns : (tables : Tables) (r s t : List ℕ) (c : Test)
     → op_fault tables (partition_table r s c t) ≡ None
@@ -344,7 +349,7 @@ pub parted_columns : (tables : Tables) (r s t : List ℕ) (c : Test)
     × (get (schema_after tables (partition_table r s c t)) t ≡ get tables r)
 parted_columns tables r s t c e =
     let there = found (get tables r) (is_table tables r
-    (all_preconditions tables (partition_table r s c t) e).0) in
+    (partition_met c (all_preconditions tables (partition_table r s c t) e)).there) in
     let columns : List Column = columns_of tables r in (
       made_is_there tables (partition_table r s c t)
           (a_table s columns (λ x. from_one (filter (meets columns c)) (get x r))) e (inl refl)

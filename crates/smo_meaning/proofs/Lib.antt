@@ -17,6 +17,7 @@ pub mod ValidInverses
 pub mod ColumnLaws
 pub mod KeptColumns
 pub mod StepLaws
+pub mod MetPreconditions
 pub mod NextSchemas
 pub mod CreatedTables
 pub mod TouchedTables
