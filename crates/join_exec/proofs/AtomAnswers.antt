@@ -27,8 +27,8 @@ use Rattle.plain_answers.specs.Reading.{Read, read_of, read_rows, AsMany, AreEno
 use Rattle.plain_answers.specs.Reading.{read_columns as columns_left}
 use Rattle.plain_answers.proofs.NameLaws.{in_names_at}
 use Rattle.plain_answers.proofs.ReadLaws.{same_answers}
-use Rattle.joining.specs.declared.source.Atom.{Atom}
-use Rattle.joining.specs.Sources.{AtomsBorrow, atom_rows, IsNumbered, AreNumbered, HaveAtoms}
+use Rattle.joining.specs.declared.atom.Atom.{Atom}
+use Rattle.joining.specs.Atoms.{AtomsBorrow, atom_rows, IsNumbered, AreNumbered, HaveAtoms}
 use Rattle.timed_choices.specs.BorrowedOutputs.{AllBorrowed, BorrowedValues}
 use Rattle.timed_choices.proofs.BorrowedLaws.{rows_borrow}
 use Rattle.join_exec.specs.Pieces.{columns_stored, stored_columns, stored_rows}

@@ -10,7 +10,7 @@ use Rattle.history_store.specs.Store.{Store}
 use Rattle.cond_expr.specs.declared.expr.ColRef.{ColRef}
 use Rattle.plain_answers.specs.Naming.{names_at}
 use Rattle.version_groups.specs.Groups.{Kept, table_in}
-use Rattle.joining.specs.declared.source.Atom.{Atom}
+use Rattle.joining.specs.declared.atom.Atom.{Atom}
 use Rattle.join_exec.specs.Pieces.{reads_stored, atoms_read}
 use Rattle.join_exec.specs.Atoms.{IsReadOf, AreRead, IsReadable, AreReadable}
 

@@ -29,13 +29,13 @@ use Rattle.cond_expr.specs.AtomColumns.{columns_at}
 use Rattle.cond_expr.specs.Trees.{Tree, Test}
 use Rattle.plain_answers.specs.Choosing.{chosen_cell, chosen_cells, is_met, answered, answers_over}
 use Rattle.std.proofs.lemmas.List.{length-map}
-use Rattle.joining.specs.declared.source.Atom.{Atom as OneAtom}
+use Rattle.joining.specs.declared.atom.Atom.{Atom as OneAtom}
 use Rattle.timed_choices.specs.Keeping.{meets}
 use Rattle.timed_choices.specs.Answering.{outputs, one_row}
 use Rattle.timed_choices.specs.Blocks.{types_of, rows_of, answered_rows}
-use Rattle.joining.specs.Sources.{HaveAtoms}
+use Rattle.joining.specs.Atoms.{HaveAtoms}
 use Rattle.cond_expr.specs.AtomColumns.{atoms_from}
-use Rattle.joining.specs.Sources.{blocks_of}
+use Rattle.joining.specs.Atoms.{blocks_of}
 
 turned : (o : Ordering) → is_eq (ordering_reverse o) ≡ is_eq o
 turned Less = refl

@@ -11,14 +11,15 @@ use Rattle.prima_base.specs.Order.{row_cmp}
 use Rattle.prima_base.specs.OrderLaws.{row_exact}
 use Rattle.prima_base.specs.Timed.{entries_of, rows_at}
 use Rattle.cond_expr.specs.Trees.{Tree, Test}
-use Rattle.joining.specs.declared.source.Atom.{Atom}
-use Rattle.joining.specs.declared.source.Source.{Source}
+use Rattle.joining.specs.declared.atom.Atom.{Atom}
+use Rattle.join_levels.specs.declared.source.Source.{Source}
 use Rattle.timed_choices.specs.BorrowedOutputs.{BorrowedValues, RowsBorrow}
 use Rattle.timed_choices.specs.Blocks.{Block, answered, IsBlock, Apart, AreBlocks, types_of}
 use Rattle.timed_choices.specs.Blocks.{rows_of}
 use Rattle.timed_choices.proofs.Reordering.{moved}
-use Rattle.joining.specs.Sources.{AtomsBorrow, SourcesBorrow, atom_rows, block_of, blocks_of}
-use Rattle.joining.specs.Sources.{IsNumbered, AreNumbered, columns_of}
+use Rattle.join_levels.specs.Sources.{SourcesBorrow}
+use Rattle.joining.specs.Atoms.{AtomsBorrow, atom_rows, block_of, blocks_of}
+use Rattle.joining.specs.Atoms.{IsNumbered, AreNumbered, columns_of}
 
 pub is_block : (m : ℕ) (a : Atom) → IsBlock (block_of m a)
 is_block m a = record {
@@ -86,10 +87,6 @@ one_moved done left next more i a l e h n r outs c m =
     ∙ append_assoc (blocks_of m done) (block_of m a ∷ []) (blocks_of m prefix ++ blocks_of m back)
     ))
     )
-
-pub nothing_left : {X : Type 0} (xs : List X) → length xs ≡ 0 → xs ≡ []
-nothing_left [] e = refl
-nothing_left (x ∷ xs) e = absurd (omega arith)
 
 -- the columns and the rows of atoms, one more and all
 pub columns_more : (atoms : List Atom) (a : Atom) (types more : List Column)

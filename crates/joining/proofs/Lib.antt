@@ -1,13 +1,7 @@
-pub mod ChoiceLaws
-pub mod Answered
 pub mod AtomCells
 pub mod AtomOrder
-pub mod NearRows
 pub mod TurnLaws
-pub mod LevelLaws
-pub mod CoalescedRows
 pub mod PrunedRows
-pub mod RunLaws
 pub mod SingleAtoms
 pub mod OwnRows
 pub mod KeptRows

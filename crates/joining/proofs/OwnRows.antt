@@ -25,7 +25,7 @@ use Rattle.timed_choices.specs.BorrowedOutputs.{AllStayBorrowed}
 use Rattle.timed_choices.proofs.BorrowedLaws.{columns_stay}
 use Rattle.timed_choices.proofs.Groups.{shown_kept}
 use Rattle.joining.specs.InSlice.{in_slice, all_in_slice}
-use Rattle.joining.proofs.CoalescedRows.{each_by_values}
+use Rattle.join_levels.proofs.CoalescedRows.{each_by_values}
 
 -- ---- the values are those of rows that were there
 

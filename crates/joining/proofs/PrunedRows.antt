@@ -16,7 +16,7 @@ use Rattle.prima_base.specs.Timed.{entry_of, entries_of, rows_at}
 use Rattle.cond_expr.specs.declared.expr.Column.{Column}
 use Rattle.cond_expr.specs.declared.expr.Cond.{Cond}
 use Rattle.cond_expr.specs.Trees.{Tree, Test}
-use Rattle.joining.specs.declared.source.Atom.{Atom}
+use Rattle.joining.specs.declared.atom.Atom.{Atom}
 use Rattle.timed_choices.specs.Keeping.{meets_all, borrowed_tests, AreOwnParts}
 use Rattle.cond_expr.specs.Parts.{parts}
 use Rattle.prima_base.specs.declared.value.Val.{Val}
@@ -27,7 +27,7 @@ use Rattle.timed_choices.proofs.Groups.{shown_kept}
 use Rattle.timed_choices.proofs.BorrowedLaws.{each_kept}
 use Rattle.timed_choices.proofs.PrunedAtoms.{one_pruned}
 use Rattle.joining.proofs.AtomOrder.{is_block, are_blocks, apart_of, atoms_borrow, both_atoms}
-use Rattle.joining.specs.Sources.{AtomsBorrow, block_of, blocks_of, IsNumbered, AreNumbered}
+use Rattle.joining.specs.Atoms.{AtomsBorrow, block_of, blocks_of, IsNumbered, AreNumbered}
 
 -- the rows that meet some conditions
 module _ (columns : List Column) (own : List Test) (rows kept : List TimedRow)

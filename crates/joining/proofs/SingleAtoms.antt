@@ -28,7 +28,7 @@ use Rattle.timed_choices.specs.Keeping.{meets, value_at}
 use Rattle.timed_choices.proofs.HeldPairs.{held_pairs}
 use Rattle.timed_choices.proofs.JoinLaws.{start_held}
 use Rattle.joining.specs.InSlice.{in_slice, all_in_slice}
-use Rattle.joining.proofs.LevelLaws.{told_at, nothing_told, nothing_at}
+use Rattle.join_levels.proofs.LevelLaws.{told_at, nothing_told, nothing_at}
 
 -- ---- outputs that are the columns
 

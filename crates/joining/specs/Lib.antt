@@ -1,4 +1,2 @@
-pub mod Sources
-pub mod Grouping
-pub mod Levels
+pub mod Atoms
 pub mod InSlice

@@ -8,12 +8,12 @@ ghost use Rattle.cond_expr.specs.Seen.{tree, test};
 ghost use Rattle.plain_answers.specs.Choosing.{answers_over};
 ghost use Rattle.timed_choices.specs.BorrowedOutputs.{BorrowedValues, AllStayBorrowed};
 ghost use Rattle.timed_choices.specs.Blocks.{answered};
-ghost use Rattle.joining.specs.Sources.{AtomsBorrow, atom_rows, blocks_of, AreNumbered};
-ghost use Rattle.joining.specs.Sources.{HaveAtoms};
+ghost use Rattle.joining.specs.Atoms.{AtomsBorrow, atom_rows, blocks_of, AreNumbered};
+ghost use Rattle.joining.specs.Atoms.{HaveAtoms};
 
+use crate::atom::Atom;
 use crate::order::join_in_order;
 use crate::single_atom::answer_atom;
-use crate::source::Atom;
 use cond_expr::{Cond, Expr};
 use prima_base::{NoMemory, Period, TimedRow};
 use std::alloc::Global;

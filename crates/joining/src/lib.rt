@@ -2,20 +2,11 @@
 //! condition.
 #![tactic(auto)]
 
-mod answer;
+mod atom;
 mod engine;
-mod group;
-mod join;
-mod key;
-mod level;
 mod order;
 mod own_part;
-mod part;
-mod place;
-mod plan;
 mod single_atom;
-mod source;
-mod step;
 
+pub use atom::Atom;
 pub use engine::answer_choices;
-pub use source::{Atom, Source};

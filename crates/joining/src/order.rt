@@ -4,24 +4,21 @@
 ghost use Rattle.std.specs.Prelude.{◌≡◌, ◌<◌, ◌+◌, ◌++◌, ◌∷◌, ℕ, true, false, List, [], map};
 ghost use Rattle.std.specs.Prelude.{length, IfOk, IfSome, OnOk};
 ghost use Rattle.std.specs.List.{sum_by};
-ghost use Rattle.std.specs.List.Sorted.{IsPermutation};
-ghost use Rattle.joining.specs.declared.source.Source.{Source as OneSource};
+ghost use Rattle.join_levels.specs.declared.source.Source.{Source as OneSource};
 ghost use Rattle.relations.specs.Spans.{covers};
 ghost use Rattle.prima_base.specs.Timed.{rows_at};
 ghost use Rattle.timed_choices.specs.BorrowedOutputs.{BorrowedValues, RowsBorrow, AllStayBorrowed};
 ghost use Rattle.cond_expr.specs.Trees.{Tree, Test};
 ghost use Rattle.cond_expr.specs.Seen.{tree, test};
 ghost use Rattle.timed_choices.specs.Blocks.{answered, rows_of};
-ghost use Rattle.joining.specs.Sources.{SourcesBorrow, AtomsBorrow, relations_of, blocks_of};
-ghost use Rattle.joining.specs.Sources.{columns_of, AreNumbered};
+ghost use Rattle.join_levels.specs.Sources.{SourcesBorrow, relations_of};
+ghost use Rattle.joining.specs.Atoms.{AtomsBorrow, blocks_of};
+ghost use Rattle.joining.specs.Atoms.{columns_of, AreNumbered};
 
-use crate::group::magnitude;
-use crate::join::join_rows;
+use crate::atom::Atom;
 use crate::own_part::pruned_atoms;
-use crate::part::gather_parts;
-use crate::place::place_of;
-use crate::source::{Atom, Source};
 use cond_expr::{CmpOp, ColRef, Column, Cond, Expr};
+use join_levels::{Source, gather_parts, in_turn, join_rows, place_of};
 use prima_base::{NoMemory, Period, TimedRow};
 use std::alloc::Global;
 use std::collections::VecDeque;
@@ -112,14 +109,6 @@ fn in_order<'a>(
         done.push(atom)?;
     }
     Ok(done)
-}
-
-// The rows by the magnitudes of their periods, and those of one in the order of their starts.
-fn in_turn(mut rows: Vec<TimedRow<'_>>) -> Vec<TimedRow<'_>>
-    ensures { IsPermutation rows.entry.items result.items }
-{
-    rows.sort_unstable_by_key(|row| (magnitude(row.period), row.period.start()));
-    rows
 }
 
 // Puts the atom's columns and its rows, in the order of their starts, after those of the others.

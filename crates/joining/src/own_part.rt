@@ -9,12 +9,11 @@ ghost use Rattle.timed_choices.specs.Keeping.{meets_all, borrowed_tests, AllVali
 ghost use Rattle.timed_choices.specs.BorrowedOutputs.{BorrowedValues, RowsBorrow};
 ghost use Rattle.cond_expr.specs.Parts.{parts as parts_of};
 ghost use Rattle.timed_choices.specs.Blocks.{answered, IsPruned};
-ghost use Rattle.joining.specs.Sources.{AtomsBorrow, block_of, blocks_of, AreNumbered};
+ghost use Rattle.joining.specs.Atoms.{AtomsBorrow, block_of, blocks_of, AreNumbered};
 
-use crate::place::is_settled;
-use crate::source::Atom;
-use crate::step::all_met;
+use crate::atom::Atom;
 use cond_expr::{Column, Cond};
+use join_levels::{all_met, is_settled};
 use prima_base::{NoMemory, TimedRow};
 use std::alloc::Global;
 

@@ -22,14 +22,13 @@ ghost use Rattle.timed_choices.specs.Keeping.{value_at, meets, IsValidRow, AllVa
 ghost use Rattle.timed_choices.specs.BorrowedOutputs.{BorrowedValues, RowBorrows, RowsBorrow};
 ghost use Rattle.timed_choices.specs.BorrowedOutputs.{AllStayBorrowed};
 ghost use Rattle.joining.specs.InSlice.{in_slice, all_in_slice};
-ghost use Rattle.joining.specs.Sources.{block_of};
+ghost use Rattle.joining.specs.Atoms.{block_of};
 
-use crate::answer::put_answer;
+use crate::atom::Atom;
 use crate::own_part::passing;
-use crate::place::column_place;
-use crate::source::Atom;
 use coalesce::cut_to_slice;
 use cond_expr::{Column, Cond, Expr};
+use join_levels::{column_place, put_answer};
 use prima_base::{NoMemory, Period, TimedRow, meet};
 use std::alloc::Global;
 

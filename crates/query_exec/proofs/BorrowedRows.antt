@@ -28,8 +28,8 @@ use Rattle.timed_choices.specs.BorrowedOutputs.{EachRow, BorrowedValues, all_val
 use Rattle.timed_choices.specs.BorrowedOutputs.{RowsBorrow, is_plain}
 use Rattle.timed_choices.specs.BorrowedOutputs.{StaysBorrowed, AllStayBorrowed}
 use Rattle.timed_choices.proofs.BorrowedLaws.{each_both, each_member, all_members}
-use Rattle.joining.specs.declared.source.Atom.{Atom}
-use Rattle.joining.specs.Sources.{AtomsBorrow}
+use Rattle.joining.specs.declared.atom.Atom.{Atom}
+use Rattle.joining.specs.Atoms.{AtomsBorrow}
 use Rattle.version_ways.specs.Migration.{migrated}
 use Rattle.version_groups.specs.Groups.{Kept, versions_in}
 use Rattle.plain_answers.specs.Branches.{Item, PlainBranch, branch_answers}

@@ -35,8 +35,8 @@ use Rattle.piece_texts.specs.ExplainedPieces.{PlainExplained}
 use Rattle.timed_choices.specs.Fitting.{Fit, AreOwn}
 use Rattle.join_exec.proofs.LeftNames.{names_left}
 use Rattle.rewrite_chains.specs.Beginnings.{IsQuestion}
-use Rattle.joining.specs.declared.source.Atom.{Atom}
-use Rattle.joining.specs.Sources.{atom_rows, IsNumbered, AreNumbered, HaveAtoms}
+use Rattle.joining.specs.declared.atom.Atom.{Atom}
+use Rattle.joining.specs.Atoms.{atom_rows, IsNumbered, AreNumbered, HaveAtoms}
 use Rattle.period_split.specs.Splitting.{Part}
 use Rattle.query_exec.specs.declared.route.Route.{Route}
 use Rattle.query_exec.specs.Accepted.{IsRead, AreRead, MayItems}

@@ -18,7 +18,7 @@ use Rattle.query_meaning.specs.Atoms.{with_atoms}
 use Rattle.query_meaning.specs.Accepted.{fault_of_query}
 use Rattle.version_groups.specs.Groups.{Kept}
 use Rattle.version_groups.specs.Representation.{Represents}
-use Rattle.joining.specs.declared.source.Atom.{Atom}
+use Rattle.joining.specs.declared.atom.Atom.{Atom}
 use Rattle.query_exec.specs.declared.route.Route.{Route}
 use Rattle.query_exec.specs.Questions.{own_read, table_read}
 use Rattle.query_exec.specs.Routes.{MayBeRead}

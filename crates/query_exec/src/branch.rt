@@ -21,7 +21,7 @@ ghost use Rattle.piece_texts.specs.ExplainedPieces.{PlainExplained};
 ghost use Rattle.query_exec.specs.QueryPieces.{items_pieces, branch_pieces, branches_pieces};
 ghost use Rattle.query_exec.specs.QueryPieces.{AreAlive, IsAlive};
 ghost use Rattle.timed_choices.specs.BorrowedOutputs.{EachRow, AllStayBorrowed};
-ghost use Rattle.joining.specs.Sources.{AtomsBorrow};
+ghost use Rattle.joining.specs.Atoms.{AtomsBorrow};
 ghost use Rattle.query_exec.specs.Borrowed.{BorrowedByBranch, IsAnswered, IsBorrowedBy, AllSpare};
 ghost use Rattle.query_exec.specs.Reads.{explained_read, reads_of};
 

@@ -10,7 +10,7 @@ use Rattle.query_types.specs.Queries.{PlainQuery, query_of, slice_of}
 use Rattle.version_groups.specs.Groups.{versions_in}
 use Rattle.piece_meaning.specs.Books.{book_of}
 use Rattle.query_exec.specs.Accepted.{IsAccepted}
-use Rattle.joining.proofs.CoalescedRows.{each_by_values}
+use Rattle.join_levels.proofs.CoalescedRows.{each_by_values}
 use Rattle.query_exec.specs.Borrowed.{IsAnswered, IsBorrowedBy, AreBorrowedBy}
 use Rattle.query_exec.specs.QueryPieces.{ArePieces}
 use Rattle.archive_state.specs.Asking.{IfAccepted, IsReady, query_asked}

@@ -1,5 +1,5 @@
 use Rattle.std.proofs.Common.{[], ◌∷◌, subst}
-use Rattle.joining.specs.Sources.{AtomsBorrow}
+use Rattle.joining.specs.Atoms.{AtomsBorrow}
 use Rattle.joining.proofs.AtomOrder.{atoms_borrow}
 use Rattle.joining.proofs.engine.answer_atoms.Goals as goal
 

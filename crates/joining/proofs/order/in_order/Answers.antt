@@ -1,11 +1,12 @@
 use Rattle.std.proofs.Common.{◌≡◌, ◌++◌, [], List, sym, ap, ◌∙◌, subst, arith, length, ◌<◌}
 use Rattle.std.proofs.lemmas.List.{append-nil}
 use Rattle.std.proofs.lemmas.Bool.Decides.{nat_tests}
-use Rattle.joining.specs.declared.source.Atom.{Atom}
+use Rattle.joining.specs.declared.atom.Atom.{Atom}
 use Rattle.timed_choices.specs.Blocks.{answered}
-use Rattle.joining.proofs.AtomOrder.{one_borrows, one_moved, numbered_left, nothing_left}
+use Rattle.join_levels.proofs.LevelLaws.{nothing_left}
+use Rattle.joining.proofs.AtomOrder.{one_borrows, one_moved, numbered_left}
 use Rattle.joining.proofs.order.in_order.Goals as goal
-use Rattle.joining.specs.Sources.{blocks_of}
+use Rattle.joining.specs.Atoms.{blocks_of}
 
 pub atoms-preserved : goal.atoms-preserved
 atoms-preserved c =

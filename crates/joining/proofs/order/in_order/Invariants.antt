@@ -4,7 +4,7 @@ use Rattle.std.specs.Prelude.{List}
 use Rattle.timed_choices.specs.Blocks.{answered}
 use Rattle.timed_choices.specs.BorrowedOutputs.{BorrowedValues}
 use Rattle.joining.proofs.order.in_order.Given as goal
-use Rattle.joining.specs.Sources.{AtomsBorrow, blocks_of, AreNumbered}
+use Rattle.joining.specs.Atoms.{AtomsBorrow, blocks_of, AreNumbered}
 
 abbrev pub invariant-atoms : goal.invariant-atoms
 invariant-atoms l = record {

@@ -15,7 +15,8 @@ use Rattle.timed_choices.specs.Answering.{outputs, one_row}
 use Rattle.timed_choices.specs.Blocks.{types_of}
 use Rattle.joining.proofs.AtomOrder.{types_is}
 use Rattle.joining.proofs.order.join_in_order.Goals as goal
-use Rattle.joining.specs.Sources.{SourcesBorrow, relations_of, blocks_of}
+use Rattle.join_levels.specs.Sources.{SourcesBorrow, relations_of}
+use Rattle.joining.specs.Atoms.{blocks_of}
 
 pub returns-clause-borrowed : goal.returns-clause-borrowed
 returns-clause-borrowed c = λ which h. c.join_rows.ensures.borrowed which

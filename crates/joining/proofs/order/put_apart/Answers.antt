@@ -2,11 +2,11 @@ use Rattle.std.proofs.Common.{sym, ◌≡◌, ◌++◌, [], ◌∷◌, List, len
 use Rattle.prima_base.specs.declared.value.Value.{Value}
 use Rattle.prima_base.specs.Timed.{entries_of, rows_at}
 use Rattle.std.proofs.lemmas.List.{map-append}
-use Rattle.joining.specs.declared.source.Source.{Source}
+use Rattle.join_levels.specs.declared.source.Source.{Source}
 use Rattle.timed_choices.specs.Fitting.{Fit}
 use Rattle.cond_expr.specs.declared.expr.Column.{Column}
 use Rattle.timed_choices.specs.BorrowedOutputs.{RowBorrows}
-use Rattle.joining.specs.Sources.{SourcesBorrow, relations_of}
+use Rattle.join_levels.specs.Sources.{SourcesBorrow, relations_of}
 use Rattle.joining.proofs.AtomOrder.{sources_with}
 use Rattle.joining.proofs.TurnLaws.{fit_moved, at_moved, each_moved}
 use Rattle.joining.proofs.order.put_apart.Goals as goal

@@ -1,7 +1,7 @@
 use Rattle.std.proofs.Common.{[], ◌∷◌, ap, arith, length, length-append}
 use Rattle.joining.proofs.AtomOrder.{atoms_borrow, columns_more, rows_more}
 use Rattle.joining.proofs.order.taken_apart.Goals as goal
-use Rattle.joining.specs.Sources.{relations_of}
+use Rattle.join_levels.specs.Sources.{relations_of}
 
 pub loop-atom-preserved : goal.loop-atom-preserved
 loop-atom-preserved c = record {

@@ -1,10 +1,11 @@
 use Rattle.std.proofs.Common.{◌≡◌, ℕ, length}
 use Rattle.std.specs.List.{sum_by}
-use Rattle.joining.specs.declared.source.Source.{Source}
+use Rattle.join_levels.specs.declared.source.Source.{Source}
 use Rattle.timed_choices.specs.Blocks.{rows_of}
 use Rattle.timed_choices.specs.BorrowedOutputs.{BorrowedValues}
 use Rattle.joining.proofs.order.taken_apart.Given as goal
-use Rattle.joining.specs.Sources.{AtomsBorrow, SourcesBorrow, relations_of, columns_of, blocks_of}
+use Rattle.join_levels.specs.Sources.{SourcesBorrow, relations_of}
+use Rattle.joining.specs.Atoms.{AtomsBorrow, columns_of, blocks_of}
 
 abbrev pub invariant-loop-atom : goal.invariant-loop-atom
 invariant-loop-atom l = record {

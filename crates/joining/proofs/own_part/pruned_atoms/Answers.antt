@@ -4,9 +4,9 @@ use Rattle.std.specs.Vec.Iter.{into_iter_items}
 use Rattle.std.proofs.lemmas.List.{append-nil}
 use Rattle.cond_expr.specs.Trees.{Test}
 use Rattle.timed_choices.specs.Blocks.{IsPruned}
-use Rattle.joining.specs.declared.source.Atom.{Atom}
-use Rattle.joining.specs.Sources.{AtomsBorrow, block_of}
-use Rattle.joining.proofs.AtomOrder.{nothing_left}
+use Rattle.joining.specs.declared.atom.Atom.{Atom}
+use Rattle.joining.specs.Atoms.{AtomsBorrow, block_of}
+use Rattle.join_levels.proofs.LevelLaws.{nothing_left}
 use Rattle.joining.proofs.PrunedRows.{numbered_more, borrows_more, same_more, numbered_all}
 use Rattle.joining.proofs.PrunedRows.{same_all}
 use Rattle.joining.proofs.own_part.pruned_atoms.Goals as goal

@@ -5,8 +5,8 @@ use Rattle.timed_choices.specs.Keeping.{borrowed_tests}
 use Rattle.cond_expr.specs.Parts.{parts}
 use Rattle.timed_choices.specs.Blocks.{answered}
 use Rattle.timed_choices.specs.BorrowedOutputs.{BorrowedValues}
-use Rattle.joining.specs.declared.source.Atom.{Atom}
-use Rattle.joining.specs.Sources.{AtomsBorrow, blocks_of, AreNumbered}
+use Rattle.joining.specs.declared.atom.Atom.{Atom}
+use Rattle.joining.specs.Atoms.{AtomsBorrow, blocks_of, AreNumbered}
 use Rattle.joining.proofs.own_part.pruned_atoms.Given as goal
 
 abbrev pub invariant-loop-atom : goal.invariant-loop-atom

@@ -16,7 +16,7 @@ use Rattle.plain_answers.specs.Naming.{all_references}
 use Rattle.plain_answers.specs.Pushing.{pushed_reads}
 use Rattle.plain_answers.specs.Reading.{read_columns}
 use Rattle.piece_meaning.specs.Books.{book_of}
-use Rattle.joining.specs.Sources.{atom_rows}
+use Rattle.joining.specs.Atoms.{atom_rows}
 use Rattle.join_exec.proofs.AtomSteps.{if_known}
 use Rattle.query_types.specs.Branches.{branch_of}
 use Rattle.timed_choices.specs.BorrowedOutputs.{AllStayBorrowed}

@@ -9,11 +9,11 @@ use Rattle.cond_expr.specs.Trees.{Test}
 use Rattle.version_groups.specs.Groups.{versions_in}
 use Rattle.plain_answers.specs.Branches.{Item}
 use Rattle.piece_meaning.specs.Books.{book_of}
-use Rattle.joining.specs.declared.source.Atom.{Atom}
+use Rattle.joining.specs.declared.atom.Atom.{Atom}
 use Rattle.query_exec.specs.Accepted.{IsRead, AreRead}
 use Rattle.query_exec.specs.Questions.{own_read}
 use Rattle.query_exec.specs.QueryPieces.{table_pieces, items_pieces, AreAlive, IsAlive}
-use Rattle.joining.specs.Sources.{AtomsBorrow}
+use Rattle.joining.specs.Atoms.{AtomsBorrow}
 use Rattle.query_exec.specs.Borrowed.{AllSpare}
 use Rattle.query_exec.specs.Reads.{reads_of}
 use Rattle.query_exec.specs.Routes.{MayBeRead}

@@ -8,7 +8,7 @@ use Rattle.piece_meaning.specs.Books.{book_of}
 use Rattle.piece_texts.specs.ExplainedPieces.{PlainExplained}
 use Rattle.query_exec.specs.Accepted.{MayItems, AreRead}
 use Rattle.query_exec.specs.QueryPieces.{items_pieces, AreAlive, IsAlive}
-use Rattle.joining.specs.Sources.{AtomsBorrow}
+use Rattle.joining.specs.Atoms.{AtomsBorrow}
 use Rattle.query_exec.specs.Borrowed.{BorrowedByBranch, AllSpare}
 use Rattle.query_exec.specs.Reads.{reads_of}
 use Rattle.query_exec.proofs.AliveLaws.{Owes, IsLeftOrRead}

@@ -13,7 +13,7 @@ use Rattle.query_types.specs.Branches.{branches_of}
 use Rattle.query_types.specs.declared.branch.Branch.{Branch}
 use Rattle.query_types.specs.Queries.{query_of, slice_of}
 use Rattle.query_exec.specs.Accepted.{MayBranches}
-use Rattle.joining.proofs.CoalescedRows.{each_by_values}
+use Rattle.join_levels.proofs.CoalescedRows.{each_by_values}
 use Rattle.timed_choices.specs.BorrowedOutputs.{EachRow}
 use Rattle.query_exec.specs.Borrowed.{IsAnswered, IsBorrowedBy, AllSpare}
 use Rattle.query_exec.specs.QueryPieces.{branches_pieces, AreAlive}

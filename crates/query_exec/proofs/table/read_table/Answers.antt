@@ -12,7 +12,7 @@ use Rattle.query_pieces.specs.Gathering.{IsGathered}
 use Rattle.query_exec.specs.Asked.{read_asked}
 use Rattle.query_exec.specs.declared.part_piece.PartPieces.{PartPieces}
 use Rattle.timed_choices.specs.BorrowedOutputs.{RowBorrows}
-use Rattle.joining.proofs.CoalescedRows.{each_by_values}
+use Rattle.join_levels.proofs.CoalescedRows.{each_by_values}
 use Rattle.query_exec.specs.Borrowed.{AllPlainIn}
 use Rattle.query_exec.specs.Planned.{planned_spans}
 use Rattle.query_exec.specs.Questions.{table_read}
