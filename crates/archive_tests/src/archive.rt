@@ -1,11 +1,13 @@
 //! An archive through its own calls: a query reads by the counter that it is given, the texts of
 //! plain columns are borrowed from what the archive keeps, on each version and over joins, and
-//! those that are computed are not.
+//! those that are computed are not. Its versions are asked in `version.rt`.
 ghost use Rattle.std.specs.Prelude.{◌≡◌, ◌<◌};
 ghost use Rattle.rewrite.specs.Books.{EachOf};
 
+use crate::version::{tables_over_versions, versions_in_force};
 use answer_text::Listing;
 use archive_state::{ArchiveState, AskFault};
+use lexer::tokens;
 use prima_base::{FOREVER, Period, Steps, TimedRow, Val};
 use rewrite_rules::{Rule, RuleBook, push_every_rule};
 use script_parse::{Statement, next_statement};
@@ -13,7 +15,7 @@ use std::alloc::Global;
 use std::marker::Brand;
 use std::sync::ledger::{Blank, Ledger};
 use std::test::Fail;
-use temporal_lang::Query;
+use temporal_lang::{Query, parse_query};
 
 // The statement of this text.
 fn statement(alloc: Global, text: &str) -> Result<Statement, Fail> {
@@ -37,10 +39,25 @@ fn commit(alloc: Global, archive: &mut ArchiveState, text: &str) -> Result<(), F
     }
 }
 
+// The query of this text, which is all that stands after its first word.
 fn query_of(alloc: Global, text: &str) -> Result<Query, Fail> {
-    match statement(alloc, text)? {
-        Statement::Ask(query) => Ok(query),
-        _ => Err(Fail::new("the text is a query")),
+    if text.len() > 1000 {
+        return Err(Fail::new("a short text"));
+    }
+    let Ok(list) = tokens(alloc, text.as_bytes()) else {
+        return Err(Fail::new("the text has tokens"));
+    };
+    if list.is_empty() {
+        return Err(Fail::new("the text has a token"));
+    }
+    match parse_query(alloc, &list, 1) {
+        Ok((query, end)) => {
+            if end == list.len() {
+                return Ok(query);
+            }
+            Err(Fail::new("the query is read to its end"))
+        }
+        Err(_) => Err(Fail::new("the text is a query")),
     }
 }
 
@@ -289,7 +306,7 @@ fn chosen_texts_are_borrowed(
 }
 
 #[test]
-fn texts_of_plain_columns_are_borrowed(rt: HostRuntime) -> Result<(), Fail> {
+fn an_archive_answers(rt: HostRuntime) -> Result<(), Fail> {
     let alloc = rt.alloc();
     let mut rules: Vec<Box<dyn Rule>> = Vec::new(alloc);
     push_every_rule!(alloc, rules);
@@ -298,6 +315,8 @@ fn texts_of_plain_columns_are_borrowed(rt: HostRuntime) -> Result<(), Fail> {
     };
     let mut archive = ArchiveState::new(alloc);
     fill(alloc, &mut archive)?;
+    versions_in_force(&archive)?;
+    tables_over_versions(alloc, &archive, &book)?;
     keys_are_counted(alloc, &archive, &book)?;
     texts_are_borrowed(alloc, &archive, &book)?;
     computed_text_is_made(alloc, &archive, &book)?;

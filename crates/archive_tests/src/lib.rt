@@ -1,5 +1,5 @@
 //! What no script can say of an archive, and only running shows: how often a query reads and which
-//! of its texts are borrowed, the boxed rules and their book, and pieces with ample memory.
+//! of its texts are borrowed, which version is in force, and the pieces that stand for a table.
 //!
 //! Every other case is a script with its replies, in the crates whose names end in `_cases`.
 #![tactic(auto)]
@@ -7,6 +7,4 @@
 #[cfg(test)]
 mod archive;
 #[cfg(test)]
-mod piece;
-#[cfg(test)]
-mod rule;
+mod version;

@@ -3,9 +3,10 @@
 use crate::change_case::{MadeChange, Numbers, made_change, made_row};
 use crate::comparison::Difference;
 use crate::line::{Line, read_line};
-use crate::pair::{Pair, add_copies};
+use crate::pair::Pair;
 use crate::word::{read_row, with_number};
 use case_text::{LinePlayer, first_word, play_lines, read_number, write_number};
+use compared_tables::add_copies;
 use prima_base::{ColType, Name, NameFault, NoMemory, Row};
 use std::alloc::{AllocError, Global};
 

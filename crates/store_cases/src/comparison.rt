@@ -1,9 +1,8 @@
 //! A stored table and a plain one side by side: what each call shows, compared.
 
-use crate::moment::rows_shown;
-use crate::plain_table::{PlainCell, PlainRow, PlainTable, are_of};
-use crate::row_comparison::NOW;
-use crate::tested_table::{Scanned, between, scan};
+use compared_tables::{
+    NOW, PlainCell, PlainRow, PlainTable, Scanned, are_of, between, rows_shown, scan,
+};
 use history_store::{BorrowedRows, Cell, Cut, GivenRow, StoredTable};
 use prima_base::{ColType, Name, NoMemory, Period, Row, Val, Value};
 use std::alloc::Global;

@@ -27,11 +27,7 @@ mod case;
 mod change_case;
 mod comparison;
 mod line;
-mod moment;
 mod pair;
-mod plain_table;
-mod row_comparison;
-mod tested_table;
 mod word;
 
 use crate::case::play;

@@ -1,8 +1,7 @@
 //! The two tables of a case, in which the same changes are made.
 
 use crate::comparison::{Difference, Sides};
-use crate::plain_table::PlainTable;
-use crate::tested_table::TestedTable;
+use compared_tables::{PlainTable, TestedTable, add_copies};
 use history_store::StoredTable;
 use prima_base::{ColType, Name, NoMemory, Row};
 use std::alloc::Global;
@@ -17,14 +16,6 @@ pub(crate) struct Pair {
     plain: PlainTable,
     last: u64,
     moments: Vec<u64>,
-}
-
-/// Puts a copy of each of the rows after the list.
-pub(crate) fn add_copies(list: &mut Vec<Row>, rows: &[Row]) -> Result<(), NoMemory> {
-    for row in rows {
-        list.push(row.copy()?)?;
-    }
-    Ok(())
 }
 
 impl Pair {
