@@ -10,3 +10,4 @@ pub mod Entering
 pub mod Showing
 pub mod Filling
 pub mod Weights
+pub mod Room

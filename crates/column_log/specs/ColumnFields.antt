@@ -4,18 +4,23 @@ use Rattle.std.specs.Prelude.{slice_index_or, vec_len, vec_capacity}
 use Rattle.column_log.specs.Log.{Log, Write, newest}
 use Rattle.column_log.specs.declared.column.Column.TheInside.{Inside}
 use Rattle.column_log.specs.Chains.{IsLinked}
-use Rattle.column_log.specs.StoredValues.{kind_of, values_in, spare_in}
+use Rattle.column_log.specs.StoredValues.{kind_of, values_in, places_in, bytes_in, spare_in}
 use Rattle.column_log.specs.StoredWrites.{writes_in, nexts_of}
 
--- there is room for no more writes than numbers of 32 bits can name
+-- for how many writes more there is a place beside their values: for no more than numbers of 32
+-- bits can name
+abbrev pub links_left : Inside → ℕ
+links_left a = min (2 ^ 32 - 1 - vec_len a.writes) (min (vec_capacity a.writes - vec_len a.writes)
+    (min (vec_capacity a.first - vec_len a.first) (vec_capacity a.last - vec_len a.last)))
+
 abbrev pub column_log : Inside → Log
 column_log a = record {
   kind = kind_of a.values;
   ids = vec_len a.last;
   cells = writes_in (values_in a.values) a.writes.items;
-  spare = min (min (spare_in a.values) (2 ^ 32 - 1 - vec_len a.writes))
-      (min (vec_capacity a.writes - vec_len a.writes)
-      (min (vec_capacity a.first - vec_len a.first) (vec_capacity a.last - vec_len a.last)));
+  places = min (places_in a.values) (links_left a);
+  bytes = bytes_in a.values;
+  spare = min (spare_in a.values) (links_left a);
 }
 
 -- each id's newest cell stands where `last` says

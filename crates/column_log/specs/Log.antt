@@ -9,12 +9,14 @@ pub record Write : Type 0 where
   pub value : Value
   pub start : ℕ
 
--- what is seen of a column: its type, its ids, which count up from 0, its writes, and for how many
--- more there is room
+-- what is seen of a column: its type, its ids, which count up from 0, its writes, for how many more
+-- there is a place, for how many bytes of their texts there is room, and both together in units
 pub record Log : Type 0 where
   pub kind : ColType
   pub ids : ℕ
   pub cells : List Write
+  pub places : ℕ
+  pub bytes : ℕ
   pub spare : ℕ
 
 -- the first list, or the second where the first is empty

@@ -1,5 +1,5 @@
 -- The values of a column, and the room that they take.
-use Rattle.std.specs.Prelude.{ℕ, ◌-◌, ◌/◌, List, length, map, vec_len, vec_capacity}
+use Rattle.std.specs.Prelude.{ℕ, ◌-◌, ◌/◌, min, List, length, map, vec_len, vec_capacity}
 use Rattle.prima_base.specs.declared.value.Value.{Value}
 use Rattle.prima_base.specs.declared.value.Value.TheVariants.{Int, Text}
 use Rattle.prima_base.specs.declared.value.ColType.{ColType}
@@ -18,10 +18,20 @@ abbrev pub values_in : StoredValues → List Value
 values_in (Numbers numbers) = map Int numbers.items
 values_in (Texts texts) = map Text texts.items
 
--- how many values more there is room for
+-- for how many values more there is a place
+abbrev pub places_in : StoredValues → ℕ
+places_in (Numbers numbers) = vec_capacity numbers - vec_len numbers
+places_in (Texts texts) = texts.places
+
+-- for how many bytes of their texts there is room
+abbrev pub bytes_in : StoredValues → ℕ
+bytes_in (Numbers numbers) = 0
+bytes_in (Texts texts) = texts.bytes
+
+-- how many values more there is room for, counted in units where they are texts
 abbrev pub spare_in : StoredValues → ℕ
 spare_in (Numbers numbers) = vec_capacity numbers - vec_len numbers
-spare_in (Texts texts) = texts.spare
+spare_in (Texts texts) = min (texts.bytes / room_unit) texts.places
 
 -- a unit of room for each 32 bytes of a text, beside the one of the write
 abbrev pub text_room : Value → ℕ

@@ -1,8 +1,8 @@
 -- The fields of a buffer of texts.
-use Rattle.std.specs.Prelude.{◌≡◌, ℕ, ◌-◌, ◌/◌, ◌≤◌, min, List, [], ◌∷◌, length, take, drop}
+use Rattle.std.specs.Prelude.{◌≡◌, ℕ, ◌-◌, ◌≤◌, List, [], ◌∷◌, length, take, drop}
 use Rattle.std.specs.Prelude.{vec_len, vec_capacity}
 use Rattle.prima_base.specs.Bytes.{IsTxt}
-use Rattle.column_log.specs.Texts.{Texts, room_unit}
+use Rattle.column_log.specs.Texts.{Texts}
 use Rattle.column_log.specs.declared.text_buffer.TextBuffer.TheInside.{Inside}
 
 -- the parts of the bytes that end at these places, the first from the start on
@@ -13,8 +13,8 @@ parts start (end ∷ ends) bytes = take (end - start) (drop start bytes) ∷ par
 abbrev pub texts_of : Inside → Texts
 texts_of a = record {
   items = parts 0 a.ends.items a.bytes.items;
-  spare = min ((vec_capacity a.bytes - vec_len a.bytes) / room_unit)
-      (vec_capacity a.ends - vec_len a.ends);
+  places = vec_capacity a.ends - vec_len a.ends;
+  bytes = vec_capacity a.bytes - vec_len a.bytes;
 }
 
 -- the places go up from the start to the end of all bytes

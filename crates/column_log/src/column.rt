@@ -1,5 +1,5 @@
 use crate::scan::CellScan;
-use crate::stored_value::{StoredValues, text_room};
+use crate::stored_value::StoredValues;
 use prima_base::{ColType, NoMemory, Period, Val};
 use std::alloc::Global;
 use std::cmp::Ordering;
@@ -42,7 +42,7 @@ impl Model for Column {
 
 impl Column {
     ghost use Rattle.std.specs.Prelude.{◌≡◌, ◌+◌, ◌<◌, ◌≤◌, true, [], ◌∷◌, ◌++◌, OnOk, length};
-    ghost use Rattle.prima_base.specs.Order.{shown, IsBorrowed};
+    ghost use Rattle.prima_base.specs.Order.{bytes_of, shown, IsBorrowed};
     ghost use Rattle.prima_base.specs.Columns.{has_type, IsValid};
     ghost use Rattle.column_log.specs.Log.{newest};
     ghost use Rattle.column_log.specs.StoredValues.{text_room};
@@ -80,11 +80,41 @@ impl Column {
         self.values.reserve(more)
     }
 
+    // Room for one write of this value: one place, and the bytes of its text.
+    fn reserve_write(&mut self, value: &Val<'_>) -> Result<(), NoMemory>
+        requires typed { has_type self.old.kind (shown value.now) ≡ true }
+        ensures kind { self.new.kind ≡ self.old.kind }
+        ensures ids { self.new.ids ≡ self.old.ids }
+        ensures cells { self.new.cells ≡ self.old.cells }
+        ensures place { OnOk result (1 ≤ self.new.places) }
+        ensures room { OnOk result (length (bytes_of (shown value.now)) ≤ self.new.bytes) }
+    {
+        if self.writes.len() >= MOST_WRITES {
+            return Err(NoMemory);
+        }
+        self.writes.reserve(1)?;
+        self.first.reserve(1)?;
+        self.last.reserve(1)?;
+        self.values.reserve_value(value)
+    }
+
+    // Where there is room for the value in units, there are a place for it and room for its text.
+    // So nothing is done here.
+    fn has_room(&self, value: &Val<'_>)
+        requires typed { has_type self.now.kind (shown value.now) ≡ true }
+        requires room { text_room (shown value.now) < self.now.spare }
+        ensures place { 1 ≤ self.now.places }
+        ensures room { length (bytes_of (shown value.now)) ≤ self.now.bytes }
+    {
+        let _writes = self.writes.len();
+    }
+
     // The next id, with its first value. It takes no memory.
     fn grow(&mut self, value: &Val<'_>, start: u64)
         requires valid { IsValid (shown value.now) }
         requires typed { has_type self.old.kind (shown value.now) ≡ true }
-        requires room { text_room (shown value.now) < self.old.spare }
+        requires place { 1 ≤ self.old.places }
+        requires room { length (bytes_of (shown value.now)) ≤ self.old.bytes }
         ensures kind { self.new.kind ≡ self.old.kind }
         ensures ids { self.new.ids ≡ self.old.ids + 1 }
         ensures cells { self.new.cells ≡ self.old.cells
@@ -106,7 +136,8 @@ impl Column {
         requires known { id < self.old.ids }
         requires valid { IsValid (shown value.now) }
         requires typed { has_type self.old.kind (shown value.now) ≡ true }
-        requires room { text_room (shown value.now) < self.old.spare }
+        requires place { 1 ≤ self.old.places }
+        requires room { length (bytes_of (shown value.now)) ≤ self.old.bytes }
         ensures kind { self.new.kind ≡ self.old.kind }
         ensures ids { self.new.ids ≡ self.old.ids }
         ensures cells { self.new.cells ≡ self.old.cells
@@ -177,7 +208,7 @@ impl Column {
         ensures cells { OnOk result (self.new.cells ≡ self.old.cells
             ++ record { id = id; value = shown value.now; start = moment } ∷ []) }
     {
-        self.reserve(text_room(value) + 1)?;
+        self.reserve_write(value)?;
         if id == self.ids() {
             self.grow(value, moment);
         } else {
@@ -197,6 +228,7 @@ impl Column {
         ensures cells { self.new.cells ≡ put id (shown value.now) start self.old.cells }
         ensures spare { self.old.spare ≤ self.new.spare + text_room (shown value.now) + 1 }
     {
+        self.has_room(value);
         if id == self.ids() {
             self.grow(value, start);
         } else if self.newest(id).compare(value) != Ordering::Equal {

@@ -1,7 +1,7 @@
 //! The values of one column.
 
-ghost use Rattle.std.specs.Prelude.{◌≡◌, ◌≤◌};
-ghost use Rattle.prima_base.specs.Order.{shown};
+ghost use Rattle.std.specs.Prelude.{◌≡◌, ◌≤◌, length};
+ghost use Rattle.prima_base.specs.Order.{bytes_of, shown};
 ghost use Rattle.prima_base.specs.Columns.{IsValid};
 ghost use Rattle.column_log.specs.StoredValues.{text_room};
 
@@ -15,10 +15,17 @@ pub fn text_room(value: &Val<'_>) -> usize
     ensures room { result ≡ text_room (shown value.now) }
     ensures small { result ≤ 128 }
 {
+    text_bytes(value) / ROOM_UNIT
+}
+
+// How many bytes the value's text has.
+fn text_bytes(value: &Val<'_>) -> usize
+    ensures { result ≡ length (bytes_of (shown value.now)) }
+{
     match value {
         Val::Int(_) => 0,
-        Val::Slice(bytes) => bytes.len() / ROOM_UNIT,
-        Val::Own(text) => text.bytes().len() / ROOM_UNIT,
+        Val::Slice(bytes) => bytes.len(),
+        Val::Own(text) => text.bytes().len(),
     }
 }
 
@@ -33,10 +40,11 @@ pub(crate) enum StoredValues {
 impl StoredValues {
     ghost use Rattle.std.specs.Prelude.{◌≡◌, ◌+◌, ◌<◌, ◌≤◌, [], ◌∷◌, ◌++◌, true, OnOk, length};
     ghost use Rattle.std.specs.Prelude.{slice_index_or};
-    ghost use Rattle.prima_base.specs.Order.{shown, IsBorrowed};
+    ghost use Rattle.prima_base.specs.Order.{bytes_of, shown, IsBorrowed};
     ghost use Rattle.prima_base.specs.Columns.{has_type, IsValid};
     ghost use Rattle.prima_base.specs.declared.value.Value.{Value as OneValue};
-    ghost use Rattle.column_log.specs.StoredValues.{kind_of, values_in, spare_in, text_room};
+    ghost use Rattle.column_log.specs.StoredValues.{kind_of, values_in, text_room};
+    ghost use Rattle.column_log.specs.StoredValues.{places_in, bytes_in, spare_in};
 
     /// No values, for a column of this type.
     pub(crate) fn new(alloc: Global, kind: ColType) -> StoredValues
@@ -61,7 +69,29 @@ impl StoredValues {
                 numbers.reserve(more)?;
                 Ok(())
             }
-            StoredValues::Texts(texts) => texts.reserve(more),
+            StoredValues::Texts(texts) => {
+                let Some(bytes) = more.checked_mul(ROOM_UNIT) else {
+                    return Err(NoMemory);
+                };
+                texts.reserve(more, bytes)
+            }
+        }
+    }
+
+    /// Room for this value: one place, and the bytes of its text.
+    pub(crate) fn reserve_value(&mut self, value: &Val<'_>) -> Result<(), NoMemory>
+        requires typed { has_type (kind_of self.old) (shown value.now) ≡ true }
+        ensures kind { kind_of self.new ≡ kind_of self.old }
+        ensures values { values_in self.new ≡ values_in self.old }
+        ensures place { OnOk result (1 ≤ places_in self.new) }
+        ensures room { OnOk result (length (bytes_of (shown value.now)) ≤ bytes_in self.new) }
+    {
+        match self {
+            StoredValues::Numbers(numbers) => {
+                numbers.reserve(1)?;
+                Ok(())
+            }
+            StoredValues::Texts(texts) => texts.reserve(1, text_bytes(value)),
         }
     }
 
@@ -70,7 +100,8 @@ impl StoredValues {
     pub(crate) fn push(&mut self, value: &Val<'_>)
         requires valid { IsValid (shown value.now) }
         requires typed { has_type (kind_of self.old) (shown value.now) ≡ true }
-        requires room { text_room (shown value.now) < spare_in self.old }
+        requires place { 1 ≤ places_in self.old }
+        requires room { length (bytes_of (shown value.now)) ≤ bytes_in self.old }
         ensures kind { kind_of self.new ≡ kind_of self.old }
         ensures values { values_in self.new ≡ values_in self.old ++ shown value.now ∷ [] }
         ensures spare { spare_in self.old ≤ spare_in self.new + text_room (shown value.now) + 1 }

@@ -62,10 +62,9 @@ fn part(bytes: &[u8], start: usize, end: usize) -> &[u8]
 }
 
 impl TextBuffer {
-    ghost use Rattle.std.specs.Prelude.{◌≡◌, ◌+◌, ◌/◌, ◌<◌, ◌≤◌, [], ◌∷◌, ◌++◌, OnOk, length};
+    ghost use Rattle.std.specs.Prelude.{◌≡◌, ◌+◌, ◌<◌, ◌≤◌, [], ◌∷◌, ◌++◌, OnOk, length};
     ghost use Rattle.std.specs.Prelude.{slice_index_or};
     ghost use Rattle.prima_base.specs.Bytes.{IsTxt};
-    ghost use Rattle.column_log.specs.Texts.{room_unit};
 
     /// No texts.
     pub(crate) fn new(alloc: Global) -> TextBuffer
@@ -77,26 +76,27 @@ impl TextBuffer {
         }
     }
 
-    /// Room for this many texts more, with as many units.
-    pub(crate) fn reserve(&mut self, more: usize) -> Result<(), NoMemory>
+    /// Room for this many texts more, and for this many bytes of them.
+    pub(crate) fn reserve(&mut self, texts: usize, bytes: usize) -> Result<(), NoMemory>
         ensures items { self.new.items ≡ self.old.items }
-        ensures spare { self.old.spare ≤ self.new.spare }
-        ensures room { OnOk result (more ≤ self.new.spare) }
+        ensures places { self.old.places ≤ self.new.places }
+        ensures bytes { self.old.bytes ≤ self.new.bytes }
+        ensures place { OnOk result (texts ≤ self.new.places) }
+        ensures room { OnOk result (bytes ≤ self.new.bytes) }
     {
-        let Some(bytes) = more.checked_mul(ROOM_UNIT) else {
-            return Err(NoMemory);
-        };
         self.bytes.reserve(bytes)?;
-        self.ends.reserve(more)?;
+        self.ends.reserve(texts)?;
         Ok(())
     }
 
     /// One text more, whose bytes are copied once. It takes no memory.
     pub(crate) fn push(&mut self, text: &[u8])
         requires valid { IsTxt text.now }
-        requires room { length text.now / room_unit < self.old.spare }
+        requires place { 1 ≤ self.old.places }
+        requires room { length text.now ≤ self.old.bytes }
         ensures items { self.new.items ≡ self.old.items ++ text.now ∷ [] }
-        ensures spare { self.old.spare ≤ self.new.spare + length text.now / room_unit + 1 }
+        ensures places { self.old.places ≤ self.new.places + 1 }
+        ensures bytes { self.old.bytes ≤ self.new.bytes + length text.now }
     {
         append(&mut self.bytes, text);
         self.ends.push_reserved(self.bytes.len());
