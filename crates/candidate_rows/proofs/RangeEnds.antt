@@ -5,6 +5,7 @@ use Rattle.std.specs.Prelude.{Option, Some, None, not, ◌&&◌, if◌then◌els
 use Rattle.std.proofs.lemmas.List.{drop_more}
 use Rattle.std.specs.declared.cmp.Ordering.{Ordering}
 use Rattle.std.specs.declared.cmp.Ordering.TheVariants.{Less, Equal, Greater}
+use Rattle.std.specs.Option.{option_or}
 use Rattle.std.specs.Ordering.{is_lt, is_le, ordering_then}
 use Rattle.prima_base.specs.declared.value.Value.{Value}
 use Rattle.prima_base.specs.Order.{value_cmp}
@@ -18,7 +19,7 @@ use Rattle.cond_expr.specs.Trees.{Test, never, always, compared, all_of, some_of
 use Rattle.cond_expr.specs.Trees.{no_tests, a_test}
 use Rattle.cond_expr.specs.Values.{Cells, truth, all_true, agrees}
 use Rattle.cond_expr.specs.Parts.{parts, all_parts}
-use Rattle.cond_expr.specs.PinnedParts.{first_some, pinned_by}
+use Rattle.cond_expr.specs.PinnedParts.{pinned_by}
 use Rattle.cond_expr.proofs.PinnedLaws.{pinned_holds}
 use Rattle.history_store.specs.Cuts.{is_before}
 use Rattle.candidate_rows.specs.declared.end.Side.{Side}
@@ -111,7 +112,7 @@ module _ (v : Value) (row : List Value) where
     compares o never x h e = absurd (cc)
     compares o always x h e = absurd (cc)
     compares o (compared p a b) x h e = subst (λ y. agrees o (value_cmp y x) ≡ true) is
-        (pinned_holds at o c (compared p a b) x h (ap (λ y. first_some y None) e))
+        (pinned_holds at o c (compared p a b) x h (ap (λ y. option_or y None) e))
     compares o (all_of cs) x h e = absurd (cc)
     compares o (some_of cs) x h e = absurd (cc)
     compares o (fails d) x h e = absurd (cc)
