@@ -6,8 +6,8 @@ use std::alloc::{AllocError, Global};
 use std::process::Abort;
 use std::test::Fail;
 
-const FIRST: &[u8] =
-    b"AT 1 EVOLVE CREATE TABLE t (a INT); AT 5 INSERT INTO t (a) VALUES (1); QUERY VERSION 1 SELECT a FROM t;";
+const FIRST: &[u8] = b"AT 1 EVOLVE CREATE TABLE t (a INT); AT 5 INSERT INTO t (a) VALUES (1); \
+        QUERY VERSION 1 SELECT a FROM t;";
 
 const FIRST_REPLIES: &[u8] = b"ok 1 version 1\nok 5 +1 -0\nrow 5 now 1\nend 1\n";
 

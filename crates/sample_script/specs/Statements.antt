@@ -53,8 +53,8 @@ state_added size = stamped (evolved_at size) (codes
 
 abbrev pub pages_split : ℕ → List ℕ
 pages_split size = stamped (evolved_at size + 1)
-    (codes
-    "EVOLVE PARTITION TABLE page INTO hot WITH kind = 0, cold INVERSE MERGE TABLE hot, cold INTO page")
+    (codes "EVOLVE PARTITION TABLE page INTO hot WITH kind = 0, cold "
+    ++ codes "INVERSE MERGE TABLE hot, cold INTO page")
 
 abbrev pub title_renamed : ℕ → List ℕ
 title_renamed size = stamped (evolved_at size + 2)
@@ -62,7 +62,8 @@ title_renamed size = stamped (evolved_at size + 2)
 
 abbrev pub cold_split : ℕ → List ℕ
 cold_split size = stamped (evolved_at size + 3)
-    (codes "EVOLVE DECOMPOSE TABLE cold INTO cold_id (id, kind, state), cold_title (id, title) INVERSE JOIN TABLE cold_id, cold_title INTO cold WHERE TRUE")
+    (codes "EVOLVE DECOMPOSE TABLE cold INTO cold_id (id, kind, state), cold_title (id, title) "
+    ++ codes "INVERSE JOIN TABLE cold_id, cold_title INTO cold WHERE TRUE")
 
 -- ---- the rows of kind 0 are updated, each by its number
 

@@ -87,7 +87,8 @@ pub(crate) fn pages_split(alloc: Global, size: u32) -> Result<Vec<u8>, NoMemory>
     stamped(
         alloc,
         evolved_at(size) + 1,
-        b"EVOLVE PARTITION TABLE page INTO hot WITH kind = 0, cold INVERSE MERGE TABLE hot, cold INTO page",
+        b"EVOLVE PARTITION TABLE page INTO hot WITH kind = 0, cold \
+            INVERSE MERGE TABLE hot, cold INTO page",
     )
 }
 
@@ -109,7 +110,8 @@ pub(crate) fn cold_split(alloc: Global, size: u32) -> Result<Vec<u8>, NoMemory>
     stamped(
         alloc,
         evolved_at(size) + 3,
-        b"EVOLVE DECOMPOSE TABLE cold INTO cold_id (id, kind, state), cold_title (id, title) INVERSE JOIN TABLE cold_id, cold_title INTO cold WHERE TRUE",
+        b"EVOLVE DECOMPOSE TABLE cold INTO cold_id (id, kind, state), cold_title (id, title) \
+            INVERSE JOIN TABLE cold_id, cold_title INTO cold WHERE TRUE",
     )
 }
 
