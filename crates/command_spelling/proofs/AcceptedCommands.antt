@@ -38,7 +38,6 @@ use Rattle.smo_types.specs.Changes.{PlainChange, insertion, deletion, update, ta
 use Rattle.smo_types.specs.Commands.{PlainBody, changing, evolving, PlainCommand}
 use Rattle.smo_meaning.specs.Effects.{columns_of}
 use Rattle.smo_meaning.specs.Making.{joined_columns}
-use Rattle.smo_meaning.specs.OperatorTable.{line}
 use Rattle.smo_meaning.specs.Preconditions.{among, again_after, first_again, first_not_among}
 use Rattle.smo_meaning.specs.Preconditions.{test_known_in}
 use Rattle.smo_meaning.specs.After.{op_fault, schema_after, IsValid}
@@ -58,8 +57,9 @@ use Rattle.smo_meaning.proofs.Firsts.{first_later}
 use Rattle.smo_meaning.proofs.FewNames.{few_names}
 use Rattle.smo_meaning.proofs.SmallTrees.{fits}
 use Rattle.smo_meaning.proofs.CountedOperators.{counted_length}
-use Rattle.smo_meaning.proofs.StepLaws.{each_met}
-use Rattle.smo_meaning.proofs.NextSchemas.{next_is_valid}
+use Rattle.smo_meaning.proofs.NextSchemas.{all_preconditions, next_is_valid}
+use Rattle.smo_meaning.proofs.MetPreconditions.{create_met, partition_met, decompose_met}
+use Rattle.smo_meaning.proofs.MetPreconditions.{join_met, add_met}
 use Rattle.command_spelling.specs.Spelling.{number_of}
 use Rattle.command_spelling.specs.Valid.{TreeFits, TreesFit, TestFits, TestsFit, IsWritableTree}
 use Rattle.command_spelling.specs.Valid.{IsWritableTest, IsWritableOperator, IsWritableChange}
@@ -270,38 +270,39 @@ module _ (tables : Tables) (valid : IsValid tables) where
       → first_refusal (operator_counts op) ≡ None → IsWritableOperator op
   operator_writable nop e k = tt
   operator_writable (create_table r cs) e k =
-      let m = each_met (line tables (create_table r cs)).preconditions e in
+      let m = create_met (all_preconditions tables (create_table r cs) e) in
       let h = leb-true (length cs) 32 (met (nat_le (length cs) 32) (op_refusal.TooMany COLUMNS 32)
-      m.1.1.1.0) in
+      m.columns_few) in
       omega (arith, h)
   operator_writable (drop_table r) e k = tt
   operator_writable (rename_table r t) e k = tt
   operator_writable (copy_table r t) e k = tt
   operator_writable (merge_table r s t) e k = tt
   operator_writable (partition_table r s c t) e k =
-      let m = each_met (line tables (partition_table r s c t)).preconditions e in
-      test_known r (columns_of tables r) c k m.1.1.1.1.0
+      let m = partition_met c (all_preconditions tables (partition_table r s c t) e) in
+      test_known r (columns_of tables r) c k m.columns_known
   operator_writable (decompose_table r s xs t ys) e k =
-      let m = each_met (line tables (decompose_table r s xs t ys)).preconditions e in
+      let m = decompose_met (all_preconditions tables (decompose_table r s xs t ys) e) in
       let columns : List Column = columns_of tables r in
       let l = valid_columns r in
       let known = known_first (names_of columns) xs ys
       (none_mapped (op_refusal.NoColumn r) (first_not_among (names_of columns) (xs ++ ys))
-      m.1.1.1.1.0) in
-      let once = none_mapped (op_refusal.ColumnExists s) (first_again xs) m.1.1.1.1.1.0 in
-      let again = none_mapped (op_refusal.ColumnExists t) (first_again ys) m.1.1.1.1.1.1.0 in
+      m.columns_known) in
+      let once = none_mapped (op_refusal.ColumnExists s) (first_again xs) m.first_once in
+      let again = none_mapped (op_refusal.ColumnExists t) (first_again ys) m.second_once in
       let a = no_more columns xs l.0 once known.0 in
       let b = no_more columns ys l.0 again known.1 in
       let n = l.1 in
       (omega (arith, a, n), omega (arith, b, n))
   operator_writable (join_table r s t c) e k =
-      let m = each_met (line tables (join_table r s t c)).preconditions e in
-      test_known t (joined_columns (columns_of tables r) (columns_of tables s)) c k m.1.1.1.1.1.1.0
+      let m = join_met c (all_preconditions tables (join_table r s t c) e) in
+      test_known t (joined_columns (columns_of tables r) (columns_of tables s)) c k
+      m.columns_known
   operator_writable (add_column c t r) e k =
-      let m = each_met (line tables (add_column c t r)).preconditions e in
+      let m = add_met t (all_preconditions tables (add_column c t r) e) in
       writable_tree t k (own_references (columns_of tables r) (references t)
       (none_mapped (op_refusal.NoColumn r)
-      (first_unknown (own_kinds (columns_of tables r)) (references t)) m.1.1.0))
+      (first_unknown (own_kinds (columns_of tables r)) (references t)) m.columns_known))
   operator_writable (drop_column c r) e k = tt
   operator_writable (rename_column b r c) e k = tt
 

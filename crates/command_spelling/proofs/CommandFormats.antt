@@ -150,7 +150,8 @@ partition_parts = pair_correct (pair two_names outermost.cond) (λ x. Two x.0 ×
     cond_correct_outermost) name_correct
 
 a_partition : MadeOf 6 Partition partition_bytes partitioned
-a_partition x h = ((h.0.1.0, (h.0.0.0, h.0.0.1, h.0.1.1, h.1)), refl)
+a_partition (((r, s), c), t) (((r_is, s_is), (writable, named)), t_is) =
+    ((writable, (r_is, s_is, named, t_is)), refl)
 
 abbrev Decompose : (((List ℕ × List ℕ) × List (List ℕ)) × List ℕ) × List (List ℕ) → Type 0
 Decompose x = ((Two x.0.0.0 × Names x.0.0.1) × IsName x.0.1) × Names x.1
@@ -172,13 +173,14 @@ decompose_parts =
     (list_bytes 1 name_bytes) second names_correct
 
 a_decompose : MadeOf 7 Decompose decompose_bytes decomposed
-a_decompose x h = (
-  (
-    ((let a = h.0.0.1.0 in omega (arith, a)), (let b = h.1.0 in omega (arith, b))),
-    (h.0.0.0.0, h.0.0.0.1, h.0.0.1.1, h.0.1, h.1.1),
-  ),
-  refl,
-)
+a_decompose ((((r, s), xs), t), ys)
+    ((((r_is, s_is), (few_xs, xs_named)), t_is), (few_ys, ys_named)) = (
+      (
+        (omega (arith, few_xs), omega (arith, few_ys)),
+        (r_is, s_is, xs_named, t_is, ys_named),
+      ),
+      refl,
+    )
 
 abbrev Join : ((List ℕ × List ℕ) × List ℕ) × Test → Type 0
 Join x = Three x.0 × IsTest x.1
@@ -191,7 +193,8 @@ join_parts = pair_correct three_names Three three_bytes outermost.cond IsTest te
     three_correct cond_correct_outermost
 
 a_join : MadeOf 8 Join join_bytes joined_tables
-a_join x h = ((h.1.0, (h.0.0.0, h.0.0.1, h.0.1, h.1.1)), refl)
+a_join (((r, s), t), c) (((r_is, s_is), t_is), (writable, named)) =
+    ((writable, (r_is, s_is, t_is, named)), refl)
 
 abbrev Add : (List ℕ × List ℕ) × Tree → Type 0
 Add x = Two x.0 × IsTree x.1
@@ -369,9 +372,10 @@ a_delete : ChangeOf 1 Delete delete_bytes deleted
 a_delete x h = ((h.1.0, (h.0, h.1.1)), refl)
 
 an_update : ChangeOf 2 Update update_bytes updated
-an_update x h = let r = each_of_both (λ s. IsWritableTree s.1) (λ s. IsName s.0 × TreeNamed s.1)
-    x.0.1 h.0.1.1 in (
-      (((let a = h.0.1.0 in omega (arith, a)), r.0, h.1.0), (h.0.0, r.1, h.1.1)),
+an_update ((r, sets), c) ((r_is, (few, each)), (writable, named)) =
+    let both = each_of_both (λ s. IsWritableTree s.1) (λ s. IsName s.0 × TreeNamed s.1) sets
+    each in (
+      ((omega (arith, few), both.0, writable), (r_is, both.1, named)),
       refl,
     )
 

@@ -80,8 +80,8 @@ trees_spelled (t ∷ l) = ap (λ x. tree_bytes t ++ x) (trees_spelled l)
 all_trees : (d : ℕ) (l : List Tree) → AllByRecursion (TreeWithin d) l
     → (TreesFit (trees_of l) × (trees_depth (trees_of l) ≤ d)) × TreesNamed (trees_of l)
 all_trees d [] h = ((tt, omega arith), tt)
-all_trees d (t ∷ l) h = let r = all_trees d l h.1 in
-    (((h.0.0.0, r.0.0), (let a = h.0.0.1 in let b = r.0.1 in omega (arith, a, b))), (h.0.1, r.1))
+all_trees d (t ∷ l) (((fits, low), named), later) = let r = all_trees d l later in
+    (((fits, r.0.0), (let b = r.0.1 in omega (arith, low, b))), (named, r.1))
 
 of_trees : (d : ℕ) (l : List Tree) → TreesFit (trees_of l) → trees_depth (trees_of l) ≤ d
     → TreesNamed (trees_of l) → AllByRecursion (TreeWithin d) l
@@ -110,8 +110,8 @@ tests_spelled (c ∷ l) = ap (λ x. test_bytes c ++ x) (tests_spelled l)
 all_tests : (d : ℕ) (l : List Test) → AllByRecursion (TestWithin d) l
     → (TestsFit (tests_of l) × (tests_depth (tests_of l) ≤ d)) × TestsNamed (tests_of l)
 all_tests d [] h = ((tt, omega arith), tt)
-all_tests d (c ∷ l) h = let r = all_tests d l h.1 in
-    (((h.0.0.0, r.0.0), (let a = h.0.0.1 in let b = r.0.1 in omega (arith, a, b))), (h.0.1, r.1))
+all_tests d (c ∷ l) (((fits, low), named), later) = let r = all_tests d l later in
+    (((fits, r.0.0), (let b = r.0.1 in omega (arith, low, b))), (named, r.1))
 
 of_tests : (d : ℕ) (l : List Test) → TestsFit (tests_of l) → tests_depth (tests_of l) ≤ d
     → TestsNamed (tests_of l) → AllByRecursion (TestWithin d) l
@@ -280,16 +280,14 @@ module _ (deeper : Bool) (e : ℕ) (inside : Level) (deep : deeper ≡ true → 
 
   a_case : (x : (Test × Tree) × Tree) → Cases x → TreeWithin D (choose x.0.0 x.0.1 x.1)
       × (tree_bytes (choose x.0.0 x.0.1 x.1) ≡ 4 ∷ cases_bytes x)
-  a_case x h = (
-    (
-      (
-        (h.0.0.0.0, h.0.1.0.0, h.1.0.0),
-        (let a = h.0.0.0.1 in let b = h.0.1.0.1 in let c = h.1.0.1 in omega (arith, a, b, c)),
-      ),
-      (h.0.0.1, h.0.1.1, h.1.1),
-    ),
-    refl,
-  )
+  a_case ((c, a), b)
+      ((((c_fits, c_low), c_named), ((a_fits, a_low), a_named)), ((b_fits, b_low), b_named)) = (
+        (
+          ((c_fits, a_fits, b_fits), omega (arith, c_low, a_low, b_low)),
+          (c_named, a_named, b_named),
+        ),
+        refl,
+      )
 
   abbrev tree_at : (x : ℕ) → Parser Tree → Type 0
   tree_at x p = ArmCorrect (TreeWithin D) tree_bytes x p
@@ -315,10 +313,10 @@ module _ (deeper : Bool) (e : ℕ) (inside : Level) (deep : deeper ≡ true → 
 
   concat_again : (l : List Tree) (rest : List ℕ) → TreeWithin D (joined (trees_of l))
       → read_expr (tree_bytes (joined (trees_of l)) ++ rest) ≡ Parsed (joined (trees_of l)) rest
-  concat_again l rest k =
+  concat_again l rest (((count, fits), low), named) =
       let n = trees_count l in
-      let few : length l ≤ 255 = (let a = k.0.0.0 in omega (arith, a, n)) in
-      let all = of_trees e l k.0.0.1 (let a = k.0.1 in omega (arith, a)) k.1 in
+      let few : length l ≤ 255 = omega (arith, count, n) in
+      let all = of_trees e l fits (omega (arith, low)) named in
       ap (λ x. read_expr (x ++ rest)) (a_concat l (few, all)).1
       ∙ tag_read (is_expr_tag deeper) (expr_arm deeper inside) 3 (list_bytes 1 tree_bytes l ++ rest)
       (always_expr deeper).2
@@ -349,17 +347,17 @@ module _ (deeper : Bool) (e : ℕ) (inside : Level) (deep : deeper ≡ true → 
   expr_again (joined ts) h rest = let P : Trees → Type 0 = λ x. TreeWithin D (joined x)
       → read_expr (tree_bytes (joined x) ++ rest) ≡ Parsed (joined x) rest in
       subst P (listed_again ts) (concat_again (list_of ts) rest) h
-  expr_again (choose c a b) h rest =
-      let dc : test_depth c ≤ e = omega (arith, h.0.1) in
-      let da : depth_of a ≤ e = omega (arith, h.0.1) in
-      let db : depth_of b ≤ e = omega (arith, h.0.1) in
+  expr_again (choose c a b) (((c_fits, a_fits, b_fits), low), (c_named, a_named, b_named)) rest =
+      let dc : test_depth c ≤ e = omega (arith, low) in
+      let da : depth_of a ≤ e = omega (arith, low) in
+      let db : depth_of b ≤ e = omega (arith, low) in
       let deeper_is = above_tree a da in
       tag_read (is_expr_tag deeper) (expr_arm deeper inside) 4 (cases_bytes ((c, a), b) ++ rest)
       (deeper_expr deeper deeper_is).1
       ∙ parts_read (pair (pair inside.cond inside.expr) inside.expr) Cases cases_bytes
       (cases_correct (deep deeper_is)) chosen (TreeWithin D) tree_bytes 4
       a_case ((c, a), b)
-      ((((h.0.0.0, dc), h.1.0), ((h.0.0.1, da), h.1.1)), ((h.0.0.2, db), h.1.2)) rest
+      ((((c_fits, dc), c_named), ((a_fits, da), a_named)), ((b_fits, db), b_named)) rest
 
   expr_correct : IsCorrectParser (expr deeper inside) (TreeWithin D) tree_bytes
   unfolding expr
@@ -392,14 +390,8 @@ module _ (deeper : Bool) (e : ℕ) (inside : Level) (deep : deeper ≡ true → 
 
   a_comparison : (x : (CmpOp × Tree) × Tree) → Sides x → TestWithin D (compared x.0.0 x.0.1 x.1)
       × (test_bytes (compared x.0.0 x.0.1 x.1) ≡ 2 ∷ sides_bytes x)
-  a_comparison x h = (
-    (
-      (
-        (h.0.1.0.0, h.1.0.0),
-        (let a = h.0.1.0.1 in let b = h.1.0.1 in omega (arith, a, b)),
-      ),
-      (h.0.1.1, h.1.1),
-    ),
+  a_comparison ((o, a), b) ((any, ((a_fits, a_low), a_named)), ((b_fits, b_low), b_named)) = (
+    (((a_fits, b_fits), omega (arith, a_low, b_low)), (a_named, b_named)),
     refl,
   )
 
@@ -451,10 +443,10 @@ module _ (deeper : Bool) (e : ℕ) (inside : Level) (deep : deeper ≡ true → 
 
   and_again : (l : List Test) (rest : List ℕ) → TestWithin D (all_of (tests_of l))
       → read_cond (test_bytes (all_of (tests_of l)) ++ rest) ≡ Parsed (all_of (tests_of l)) rest
-  and_again l rest k =
+  and_again l rest (((count, fits), low), named) =
       let n = tests_count l in
-      let few : length l ≤ 65535 = (let a = k.0.0.0 in omega (arith, a, n)) in
-      let all = of_tests e l k.0.0.1 (let a = k.0.1 in omega (arith, a)) k.1 in
+      let few : length l ≤ 65535 = omega (arith, count, n) in
+      let all = of_tests e l fits (omega (arith, low)) named in
       ap (λ x. read_cond (x ++ rest)) (an_and l (few, all)).1
       ∙ tag_read (is_cond_tag deeper) (cond_arm deeper inside) 3 (list_bytes 2 test_bytes l ++ rest)
       (always_cond deeper).2
@@ -464,10 +456,10 @@ module _ (deeper : Bool) (e : ℕ) (inside : Level) (deep : deeper ≡ true → 
 
   or_again : (l : List Test) (rest : List ℕ) → TestWithin D (some_of (tests_of l))
       → read_cond (test_bytes (some_of (tests_of l)) ++ rest) ≡ Parsed (some_of (tests_of l)) rest
-  or_again l rest k =
+  or_again l rest (((count, fits), low), named) =
       let n = tests_count l in
-      let few : length l ≤ 65535 = (let a = k.0.0.0 in omega (arith, a, n)) in
-      let all = of_tests e l k.0.0.1 (let a = k.0.1 in omega (arith, a)) k.1 in
+      let few : length l ≤ 65535 = omega (arith, count, n) in
+      let all = of_tests e l fits (omega (arith, low)) named in
       ap (λ x. read_cond (x ++ rest)) (an_or l (few, all)).1
       ∙ tag_read (is_cond_tag deeper) (cond_arm deeper inside) 4 (list_bytes 2 test_bytes l ++ rest)
       (always_cond deeper).3
@@ -481,16 +473,16 @@ module _ (deeper : Bool) (e : ℕ) (inside : Level) (deep : deeper ≡ true → 
       (always_cond deeper).0
   cond_again always h rest = tag_read (is_cond_tag deeper) (cond_arm deeper inside) 1 rest
       (always_cond deeper).1
-  cond_again (compared o a b) h rest =
-      let da : depth_of a ≤ e = omega (arith, h.0.1) in
-      let db : depth_of b ≤ e = omega (arith, h.0.1) in
+  cond_again (compared o a b) (((a_fits, b_fits), low), (a_named, b_named)) rest =
+      let da : depth_of a ≤ e = omega (arith, low) in
+      let db : depth_of b ≤ e = omega (arith, low) in
       let deeper_is = above_tree a da in
       tag_read (is_cond_tag deeper) (cond_arm deeper inside) 2 (sides_bytes ((o, a), b) ++ rest)
       (deeper_cond deeper deeper_is).0
       ∙ parts_read (pair (pair sign inside.expr) inside.expr) Sides sides_bytes
       (sides_correct (deep deeper_is)) comparison (TestWithin D) test_bytes
       2 a_comparison ((o, a), b)
-      ((tt, ((h.0.0.0, da), h.1.0)), ((h.0.0.1, db), h.1.1)) rest
+      ((tt, ((a_fits, da), a_named)), ((b_fits, db), b_named)) rest
   cond_again (all_of cs) h rest = let P : Tests → Type 0 = λ x. TestWithin D (all_of x)
       → read_cond (test_bytes (all_of x) ++ rest) ≡ Parsed (all_of x) rest in
       subst P (tests_again cs) (and_again (tests_in cs) rest) h
