@@ -47,8 +47,8 @@ fn query_of(alloc: Global, text: &str) -> Result<Query, Fail> {
     let Ok(list) = tokens(alloc, text.as_bytes()) else {
         return Err(Fail::new("the text has tokens"));
     };
-    if list.is_empty() {
-        return Err(Fail::new("the text has a token"));
+    if list.len() < 2 {
+        return Err(Fail::new("the text has more than its first word"));
     }
     match parse_query(alloc, &list, 1) {
         Ok((query, end)) => {
