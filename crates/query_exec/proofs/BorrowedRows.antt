@@ -158,7 +158,7 @@ plain_by_names which place (c ∷ columns) (o ∷ outs) [] e s = tt
 plain_by_names which place (c ∷ columns) (o ∷ outs) (x ∷ row) e s =
     let first : o.0 ≡ c.0 = cc in
     let more : out_names outs ≡ names_of columns = cc in (
-      subst (λ (n : List ℕ). which (AtAtom place) n x ≡ true → is_plain o.1 ≡ true) first s.0,
+      subst (λ (n : List ℕ). which (AtAtom place) n x ≡ true → is_plain x o.1 ≡ true) first s.0,
       plain_by_names which place columns outs row more s.1,
     )
 

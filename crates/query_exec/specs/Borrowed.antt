@@ -30,7 +30,7 @@ abbrev pub SparesRow : BorrowedValues → ℕ → List (List ℕ × Tree) → Ro
 SparesRow which place [] row = ⊤
 SparesRow which place (o ∷ outs) [] = ⊤
 SparesRow which place (o ∷ outs) (x ∷ row) =
-    (which (Atom place) o.0 x ≡ true → is_plain o.1 ≡ true) × SparesRow which place outs row
+    (which (Atom place) o.0 x ≡ true → is_plain x o.1 ≡ true) × SparesRow which place outs row
 
 -- the piece computes none of the values that are borrowed in its branch, in no row that it answers
 -- in its period over what is stored
@@ -74,7 +74,7 @@ ArePlainIn which [] (t ∷ outs) row = ⊥
 ArePlainIn which (c ∷ columns) [] row = ⊥
 ArePlainIn which (c ∷ columns) (t ∷ outs) [] = ⊤
 ArePlainIn which (c ∷ columns) (t ∷ outs) (x ∷ row) =
-    (which (Atom c.atom) c.name x ≡ true → is_plain t ≡ true) × ArePlainIn which columns outs row
+    (which (Atom c.atom) c.name x ≡ true → is_plain x t ≡ true) × ArePlainIn which columns outs row
 
 -- so it is in each row that a piece answers in its period, and each of some pieces over a version
 abbrev pub IsPlainIn : Kept → BorrowedValues → List Column → PlainExplained → Type 0

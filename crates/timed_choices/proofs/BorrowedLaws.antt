@@ -1,22 +1,23 @@
 -- What is borrowed stays borrowed.
-use Rattle.std.proofs.Common.{◌≡◌, ℕ, zero, suc, ◌+◌, ◌<◌, arith, Bool, true, false, cond, List, []}
-use Rattle.std.proofs.Common.{◌∷◌, ◌++◌, append_assoc, map, take, length, get_or, refl, sym, ap}
-use Rattle.std.proofs.Common.{◌∙◌, subst, inl, inr}
-use Rattle.std.specs.Prelude.{◌&&◌, ◌==◌, pos}
+use Rattle.std.proofs.Common.{◌≡◌, ℕ, zero, suc, ◌+◌, ◌<◌, ◌≤◌, arith, Bool, true, false, not}
+use Rattle.std.proofs.Common.{cond, List, [], ◌∷◌, ◌++◌, append_assoc, map, take, length, get_or}
+use Rattle.std.proofs.Common.{refl, sym, ap, ◌∙◌, subst, inl, inr}
+use Rattle.std.specs.Prelude.{◌&&◌, ◌==◌, pos, negsuc}
 use Rattle.std.specs.Ordering.{is_eq}
 use Rattle.std.specs.declared.cmp.Ordering.{Ordering}
 use Rattle.std.specs.declared.cmp.Ordering.TheVariants.{Less, Equal, Greater}
 use Rattle.std.proofs.lemmas.Bool.Decides.{nat_tests}
+use Rattle.std.proofs.lemmas.Cmp.{tied_itself}
 use Rattle.std.proofs.lemmas.List.{map-append, take_more, length-map}
 use Rattle.std.specs.List.{filter}
 use Rattle.prima_base.specs.declared.value.Value.{Value}
-use Rattle.prima_base.specs.declared.value.Value.TheVariants.{Int}
+use Rattle.prima_base.specs.declared.value.Value.TheVariants.{Int, Text}
 use Rattle.relations.specs.Sets.{In}
 use Rattle.prima_base.specs.declared.value.Val.{Val}
 use Rattle.prima_base.specs.declared.value.Val.TheVariants.{Int as ValInt, Slice, Own}
 use Rattle.prima_base.specs.declared.timed_row.TimedRow.{TimedRow}
-use Rattle.prima_base.specs.Order.{shown, IsBorrowed, is_borrowed, same, bytes_cmp}
-use Rattle.prima_base.specs.OrderLaws.{bytes_exact}
+use Rattle.prima_base.specs.Order.{shown, IsBorrowed, is_borrowed, same, bytes_cmp, value_eq}
+use Rattle.prima_base.specs.OrderLaws.{bytes_exact, value_total}
 use Rattle.prima_base.specs.Timed.{entry_of, entries_of}
 use Rattle.prima_base.proofs.BorrowedVals.{stays_borrowed}
 use Rattle.cond_expr.specs.declared.expr.Whose.{Whose}
@@ -62,28 +63,37 @@ named_borrowed which (Atom i) n c e l =
 
 -- ---- what is chosen
 
-module _ (which : Whose → List ℕ → Bool) where
+-- a constant that is another value is not the value
+not_itself : (b : Bool) → b ≡ true → not b ≡ true → ⊥
+not_itself true e so = cc
+not_itself false e so = cc
+
+another : (c v : Value) → not (value_eq c v) ≡ true → v ≡ c → ⊥
+another c v so e = not_itself (value_eq c v) (subst (λ (x : Value). value_eq c x ≡ true) (sym e)
+    (ap is_eq (tied_itself value_total c))) so
+
+module _ (which : BorrowedValues) (v : Value) where
   -- the expression is a column whose value this is, one of those that are borrowed
-  abbrev IsColumn : Cells → Tree → Value → Type 0
-  IsColumn at t v = (w : Whose) × (n : List ℕ) × (t ≡ column w n) × (which w n ≡ true)
+  abbrev IsColumn : Cells → Tree → Type 0
+  IsColumn at t = (w : Whose) × (n : List ℕ) × (t ≡ column w n) × (which w n v ≡ true)
       × (v ≡ at w n)
 
   -- what is borrowed chooses such a column
-  chosen_column : (at : Cells) (t : Tree) → is_borrowed_output which t ≡ true
-      → IsColumn at (chosen at t) (value at t)
-  chosen_column at (column w n) so = (w, n, refl, so, refl)
-  chosen_column at (constant x) so = absurd (cc)
-  chosen_column at (length_of t) so = absurd (cc)
-  chosen_column at (joined ts) so = absurd (cc)
-  chosen_column at (choose c a b) so =
-      let both = both_true (is_borrowed_output which a) (is_borrowed_output which b) so in
-      step (truth at c) (chosen_column at a both.0) (chosen_column at b both.1)
+  chosen_column : (at : Cells) (t : Tree) → is_borrowed_output which v t ≡ true → v ≡ value at t
+      → IsColumn at (chosen at t)
+  chosen_column at (column w n) so is = (w, n, refl, so, is)
+  chosen_column at (constant c) so is = absurd (another c v so is)
+  chosen_column at (length_of t) so is = absurd (cc)
+  chosen_column at (joined ts) so is = absurd (cc)
+  chosen_column at (choose c a b) so is =
+      let both = both_true (is_borrowed_output which v a) (is_borrowed_output which v b) so in
+      step (truth at c) (chosen_column at a both.0) (chosen_column at b both.1) is
     where
-      step : (t : Bool) → IsColumn at (chosen at a) (value at a)
-          → IsColumn at (chosen at b) (value at b)
-          → IsColumn at (cond t (chosen at a) (chosen at b)) (cond t (value at a) (value at b))
-      step true p q = p
-      step false p q = q
+      step : (t : Bool) → (v ≡ value at a → IsColumn at (chosen at a))
+          → (v ≡ value at b → IsColumn at (chosen at b)) → v ≡ cond t (value at a) (value at b)
+          → IsColumn at (cond t (chosen at a) (chosen at b))
+      step true p q e = p e
+      step false p q e = q e
 
 module _ (which : BorrowedValues) where
   -- one that shows what a column holds that is borrowed, and lies elsewhere where that does
@@ -118,14 +128,14 @@ module _ (which : BorrowedValues) where
       → RowBorrows which columns values → shown v ≡ value (flat columns values) t
       → ((w : Whose) → (n : List ℕ) → chosen (flat columns values) t ≡ column w n
       → is_borrowed v ≡ lies_elsewhere columns values w n)
-      → is_borrowed_output (λ w n. which w n (shown v)) t ≡ true → IsBorrowed v
+      → is_borrowed_output which (shown v) t ≡ true → IsBorrowed v
   value_borrowed columns values t v l e b so =
-      let h = chosen_column (λ w n. which w n (shown v)) (flat columns values) t so in
-      borrowed_like columns values h.0 h.1 v l h.3 (e ∙ h.4) (b h.0 h.1 h.2)
+      let h = chosen_column which (shown v) (flat columns values) t so e in
+      borrowed_like columns values h.0 h.1 v l h.3 h.4 (b h.0 h.1 h.2)
 
   stays_with : (outs : List Tree) (values : List Val) (t : Tree) (v : Val)
       → StaysBorrowed which outs values
-      → (is_borrowed_output (λ w n. which w n (shown v)) t ≡ true → IsBorrowed v)
+      → (is_borrowed_output which (shown v) t ≡ true → IsBorrowed v)
       → StaysBorrowed which (outs ++ t ∷ []) (values ++ v ∷ [])
   stays_with [] [] t v s f = (f, tt)
   stays_with [] (x ∷ values) t v s f = absurd s
@@ -246,16 +256,30 @@ all_zero (d ∷ before) after c w n =
     (cells (before ++ c ∷ after) (nothing before ++ Int (pos 0) ∷ nothing after) w n)
     (all_zero before after c w n)
 
--- one that says the 1 of a column beside zeros names it
-names_it : (before after : List Column) (c : Column) (w : Whose) (n : List ℕ)
-    → cells (before ++ c ∷ after) (nothing before ++ Int (pos 1) ∷ nothing after) w n
-    ≡ Int (pos 1) → names w n c ≡ true
-names_it before after c w n says = step (names w n c) refl
+number_of : Value → ℕ
+number_of (Int (pos k)) = k
+number_of (Int (negsuc k)) = 0
+number_of (Text t) = 0
+
+-- more than each number that a CASE may choose as a constant
+beyond : Tree → ℕ
+beyond (column w n) = 0
+beyond (constant x) = suc (number_of x)
+beyond (length_of t) = 0
+beyond (joined ts) = 0
+beyond (choose c a b) = beyond a + beyond b
+
+-- one that says the number of a column beside zeros names it
+names_it : (before after : List Column) (c : Column) (w : Whose) (n : List ℕ) (k : ℕ)
+    → cells (before ++ c ∷ after) (nothing before ++ Int (pos (suc k)) ∷ nothing after) w n
+    ≡ Int (pos (suc k)) → names w n c ≡ true
+names_it before after c w n k says = step (names w n c) refl
   where
     step : (b : Bool) → names w n c ≡ b → names w n c ≡ true
     step true e = e
-    step false e = absurd (let h : Int (pos 1) ≡ Int (pos 0) = sym says
-        ∙ without before after c w n (Int (pos 1)) e ∙ all_zero before after c w n in cc)
+    step false e = absurd (let h : Int (pos (suc k)) ≡ Int (pos 0) = sym says
+        ∙ without before after c w n (Int (pos (suc k))) e ∙ all_zero before after c w n in
+        let i : suc k ≡ 0 = ap number_of h in omega (arith, i))
 
 -- what follows of both values follows of the one that is chosen
 either_way : (So : Type 0) (b : Bool) (x y v : Value) → cond b x y ≡ v → (x ≡ v → So)
@@ -276,7 +300,7 @@ module _ (which : BorrowedValues) where
   from front (c ∷ after) [] (v ∷ values) keeps l =
       absurd (let h = keeps (nothing (c ∷ after)) (length-map (c ∷ after) _) in cc)
   from front (c ∷ after) (t ∷ outs) (v ∷ values) keeps l = (
-    first t (let h = keeps (Int (pos 1) ∷ nothing after)
+    first t (beyond t) (omega arith) (let h = keeps (Int (pos (suc (beyond t))) ∷ nothing after)
         (ap suc (length-map after (λ (d : Column). Int (pos 0)))) in cc),
     from (front ++ c ∷ []) after outs values
         (λ row wide. let h = keeps (Int (pos 0) ∷ row) (ap suc wide) in
@@ -289,22 +313,24 @@ module _ (which : BorrowedValues) where
         ∙ cc) l.1,
   )
     where
-      first : (o : Tree)
-          → value (cells (front ++ c ∷ after) (nothing front ++ Int (pos 1) ∷ nothing after)) o
-          ≡ Int (pos 1) → is_borrowed_output (λ w n. which w n (shown v)) o ≡ true → IsBorrowed v
-      first (column w n) says so =
-          l.0 (named_borrowed (λ u m. which u m (shown v)) w n c (names_it front after c w n says)
-          so)
-      first (constant x) says so = absurd (cc)
-      first (length_of o) says so = absurd (cc)
-      first (joined ts) says so = absurd (cc)
-      first (choose d a b) says so =
+      first : (o : Tree) (k : ℕ) → beyond o ≤ k → value (cells (front ++ c ∷ after)
+          (nothing front ++ Int (pos (suc k)) ∷ nothing after)) o ≡ Int (pos (suc k))
+          → is_borrowed_output which (shown v) o ≡ true → IsBorrowed v
+      first (column w n) k more says so =
+          l.0 (named_borrowed (λ u m. which u m (shown v)) w n c
+          (names_it front after c w n k says) so)
+      first (constant x) k more says so = absurd (let i : number_of x ≡ suc k = ap number_of says in
+          omega (arith, more, i))
+      first (length_of o) k more says so = absurd (cc)
+      first (joined ts) k more says so = absurd (cc)
+      first (choose d a b) k more says so =
           let at : Cells = cells (front ++ c ∷ after)
-          (nothing front ++ Int (pos 1) ∷ nothing after) in
-          let both = both_true (is_borrowed_output (λ w n. which w n (shown v)) a)
-          (is_borrowed_output (λ w n. which w n (shown v)) b) so in
-          either_way (IsBorrowed v) (truth at d) (value at a) (value at b) (Int (pos 1)) says
-          (λ e. first a e both.0) (λ e. first b e both.1)
+          (nothing front ++ Int (pos (suc k)) ∷ nothing after) in
+          let both = both_true (is_borrowed_output which (shown v) a)
+          (is_borrowed_output which (shown v) b) so in
+          either_way (IsBorrowed v) (truth at d) (value at a) (value at b) (Int (pos (suc k))) says
+          (λ e. first a k (omega (arith, more)) e both.0)
+          (λ e. first b k (omega (arith, more)) e both.1)
 
   -- values of columns that are borrowed stay so, as outputs that are the columns in their order
   pub columns_stay : (columns : List Column) (outs : List Tree) (values : List Val)

@@ -1,9 +1,9 @@
 -- Values of columns that are borrowed, and outputs over them that stay borrowed.
-use Rattle.std.specs.Prelude.{◌≡◌, ℕ, Bool, true, false, ◌&&◌, List, [], ◌∷◌, ⊤}
+use Rattle.std.specs.Prelude.{◌≡◌, ℕ, Bool, true, false, not, ◌&&◌, List, [], ◌∷◌, ⊤}
 use Rattle.prima_base.specs.declared.value.Value.{Value}
 use Rattle.prima_base.specs.declared.value.Val.{Val}
 use Rattle.prima_base.specs.declared.timed_row.TimedRow.{TimedRow}
-use Rattle.prima_base.specs.Order.{IsBorrowed, shown}
+use Rattle.prima_base.specs.Order.{IsBorrowed, shown, value_eq}
 use Rattle.cond_expr.specs.declared.expr.Whose.{Whose}
 use Rattle.cond_expr.specs.declared.expr.Whose.TheVariants.{Atom}
 use Rattle.cond_expr.specs.declared.expr.Column.{Column}
@@ -38,17 +38,19 @@ RowBorrows which (c ∷ columns) (v ∷ values) =
 abbrev pub RowsBorrow : BorrowedValues → List Column → List TimedRow → Type 0
 RowsBorrow which columns rows = EachRow (RowBorrows which columns) rows
 
--- it is such a column, or a CASE that chooses one either way, and nothing is computed of it
-abbrev pub is_borrowed_output : (Whose → List ℕ → Bool) → Tree → Bool
-is_borrowed_output which (column w n) = which w n
-is_borrowed_output which (constant v) = false
-is_borrowed_output which (length_of t) = false
-is_borrowed_output which (joined ts) = false
-is_borrowed_output which (choose c a b) = is_borrowed_output which a && is_borrowed_output which b
+-- where an output has this value, it has it of such a column: it is one, or a CASE that chooses
+-- either way one or a constant that is another value, and nothing is computed of it
+abbrev pub is_borrowed_output : BorrowedValues → Value → Tree → Bool
+is_borrowed_output which v (column w n) = which w n v
+is_borrowed_output which v (constant c) = not (value_eq c v)
+is_borrowed_output which v (length_of t) = false
+is_borrowed_output which v (joined ts) = false
+is_borrowed_output which v (choose c a b) =
+    is_borrowed_output which v a && is_borrowed_output which v b
 
--- it is a column, or a CASE that chooses one either way, and nothing is computed of it
-abbrev pub is_plain : Tree → Bool
-is_plain t = is_borrowed_output (λ w n. true) t
+-- where it has this value, it has it of a column
+abbrev pub is_plain : Value → Tree → Bool
+is_plain v t = is_borrowed_output all_values v t
 
 -- the value of each output that is one of these is borrowed, in a row of the outputs and in several
 abbrev pub StaysBorrowed : BorrowedValues → List Tree → List Val → Type 0
@@ -56,7 +58,7 @@ StaysBorrowed which [] [] = ⊤
 StaysBorrowed which [] (v ∷ values) = ⊥
 StaysBorrowed which (t ∷ outs) [] = ⊥
 StaysBorrowed which (t ∷ outs) (v ∷ values) =
-    (is_borrowed_output (λ w n. which w n (shown v)) t ≡ true → IsBorrowed v)
+    (is_borrowed_output which (shown v) t ≡ true → IsBorrowed v)
     × StaysBorrowed which outs values
 
 abbrev pub AllStayBorrowed : BorrowedValues → List Tree → List TimedRow → Type 0
