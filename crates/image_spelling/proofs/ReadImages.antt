@@ -146,30 +146,30 @@ module _ (last : Option ℕ) (keys : List Span) where
 -- what is read is kept of a table
 line_is : (last : Option ℕ) (n : ℕ) (due : Lifeline) (l : StoredLine) → IsLifeline n due
     → LineRead last due l → IsStoredLine last l
-line_is last n due l d h = record {
+line_is last n due l d ((fits, (is_due, keys_are, cells_are)), apart_are) = record {
   store = record {
     columns = subst AreColumns same d.columns;
     width = as_wide last l.keys l.line.columns l.cells are;
-    lasting = key_lasts last l.keys h.0.1.1;
+    lasting = key_lasts last l.keys keys_are;
     filled = filled;
     fitting = λ m id holds. rows_fit l.keys l.line.columns l.cells
         (are_typed last l.keys l.line.columns l.cells are) filled m id holds;
-    apart = λ m i j hi hj e. apart_always l.keys l.cells filled some h.1 m i j hi hj e;
+    apart = λ m i j hi hj e. apart_always l.keys l.cells filled some apart_are m i j hi hj e;
   };
   values = λ cells i c j. (let r = each cells i in value_valid c.value ((r.1.well c j).fits.0.1));
-  keys = key_up_to last l.keys h.0.1.1;
+  keys = key_up_to last l.keys keys_are;
   entries = λ cells i c j. (let r = each cells i in
       period_up_to last c.period ((r.1.well c j).period));
-  few_keys = (let a = h.0.1.1.0 in omega (arith, a));
+  few_keys = (let a = keys_are.0 in omega (arith, a));
   few_cells = λ cells i. (let r = each cells i in r.1.few);
 }
   where
     same : due.columns ≡ l.line.columns
-    same = ap (λ (x : Lifeline). x.columns) (sym h.0.1.0)
+    same = ap (λ (x : Lifeline). x.columns) (sym is_due)
 
     are : AreIn last l.keys l.line.columns l.cells
     are = subst (λ cs. AreIn last l.keys cs l.cells) same
-        (columns_are last l.keys due.columns l.cells h.0.1.2)
+        (columns_are last l.keys due.columns l.cells cells_are)
 
     each : (cells : List Cell) → In cells l.cells → (type : ColType)
         × IsColumn last l.keys type cells
@@ -223,6 +223,11 @@ line_read last n l few d h = (
           is_period_so last c.period lasts (h.entries x i c j),
         )
 
+-- the line is the one that is due
+line_due : (last : Option ℕ) (due : Lifeline) (l : StoredLine) → LineRead last due l
+    → l.line ≡ due
+line_due last due l ((fits, (is_due, keys_are, cells_are)), apart_are) = is_due
+
 -- line by line
 lines_are : (last : Option ℕ) (k n : ℕ) (due : List Lifeline) (l : List StoredLine)
     → ((d : Lifeline) → In d due → IsLifeline n d) → LinesRead last k due l
@@ -234,7 +239,8 @@ lines_are last (suc k) n [] l f h = absurd h
 lines_are last (suc k) n (d ∷ due) [] f h = absurd h
 lines_are last (suc k) n (d ∷ due) (x ∷ l) f h =
     let r = lines_are last k n due l (λ e i. f e (inr i)) h.1 in (
-      ap (λ e. e ∷ map (λ (y : StoredLine). y.line) l) h.0.0.1.0 ∙ ap (λ es. d ∷ es) r.0,
+      ap (λ e. e ∷ map (λ (y : StoredLine). y.line) l) (line_due last d x h.0)
+          ∙ ap (λ es. d ∷ es) r.0,
       each (line_is last n d x (f d (inl refl)) h.0) r.1,
     )
   where

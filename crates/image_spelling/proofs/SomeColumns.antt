@@ -31,6 +31,7 @@ use Rattle.smo_meaning.proofs.NameLaws.{same_is, same_not, same_turned}
 use Rattle.smo_meaning.proofs.StepLaws.{AllMet}
 use Rattle.smo_meaning.proofs.NextSchemas.{all_preconditions, is_table, Each, EachMade, each_after}
 use Rattle.smo_meaning.proofs.NextSchemas.{ordered_columns}
+use Rattle.smo_meaning.proofs.MetPreconditions.{create_met, decompose_met, drop_met}
 use Rattle.command_spelling.proofs.Correctness.{by_test, true_false}
 use Rattle.command_spelling.proofs.Numbers.{of_both}
 use Rattle.image_spelling.proofs.Judging.{either}
@@ -128,7 +129,8 @@ made_some : (tables : Tables) (op : Operator) → IsValid tables → Each HasCol
 made_some tables nop l h m = tt
 made_some tables (create_table r cs) l h m = (
   some_in_order cs
-      (leb-true 1 (length cs) (met (nat_le 1 (length cs)) (LastColumn r) m.1.0)),
+      (leb-true 1 (length cs) (met (nat_le 1 (length cs)) (LastColumn r)
+      (create_met m).some_column)),
   tt,
 )
 made_some tables (drop_table r) l h m = tt
@@ -140,12 +142,13 @@ made_some tables (partition_table r s c t) l h m =
 made_some tables (decompose_table r s xs t ys) l h m =
     let columns : List Column = columns_of tables r in
     let known = each_among (names_of columns) (xs ++ ys)
-    (none_mapped (NoColumn r) (first_not_among (names_of columns) (xs ++ ys)) m.1.1.1.1.0) in
+    (none_mapped (NoColumn r) (first_not_among (names_of columns) (xs ++ ys))
+    (decompose_met m).columns_known) in
     let common = any_in (λ x. among x ys) xs
     (of_both (list_any (λ x. among x ys) xs) (list_all (λ n. among n xs || among n ys)
     (names_of columns))
     (met (list_any (λ x. among x ys) xs && list_all (λ n. among n xs || among n ys)
-    (names_of columns)) (BadCover r) m.1.1.1.1.1.1.1.0)).0 in
+    (names_of columns)) (BadCover r) (decompose_met m).covered)).0 in
     let there = known common.0 (in_left common.0 xs ys common.1) in (
       some_named columns xs common.0 common.1 there,
       (
@@ -168,7 +171,8 @@ made_some tables (add_column c e r) l h m = (
 made_some tables (drop_column c r) l h m =
     let columns : List Column = columns_of tables r in (
       one_left c columns (ordered_columns tables r l.schema)
-          (leb-true 2 (length columns) (met (nat_le 2 (length columns)) (LastColumn r) m.1.1.0)),
+          (leb-true 2 (length columns) (met (nat_le 2 (length columns)) (LastColumn r)
+          (drop_met m).another)),
       tt,
     )
 made_some tables (rename_column b r c) l h m =

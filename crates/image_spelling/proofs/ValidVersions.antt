@@ -110,16 +110,17 @@ module _ (last : Option ℕ) where
             tt;
       })
   read_valid (suc n) number before tables [] h = absurd h
-  read_valid (suc n) number before tables (v ∷ l) h =
-      let e = of_both (is_stamp last v.stamp) (is_accepted number before tables v) h.0.1 in
-      let a = accepted_is number before tables v e.1 h.0.0.1 in
-      let r = read_valid n (number + 1) (Some v.stamp) v.tables l h.1 in
+  read_valid (suc n) number before tables (v ∷ l)
+      ((((stamp_fits, (writable, op_named), few_back, back_spelled), next), accepted), later) =
+      let e = of_both (is_stamp last v.stamp) (is_accepted number before tables v) accepted in
+      let a = accepted_is number before tables v e.1 next in
+      let r = read_valid n (number + 1) (Some v.stamp) v.tables l later in
       record {
         evolved = (a.1, r.evolved);
         begun = (stamp_within last v.stamp e.0, r.begun);
         without = λ q. absurd (true_false (sym e.0 ∙ ap (λ o. is_stamp o v.stamp) q));
         few = λ k. (let b = a.0 in let m = r.few (omega (arith, b)) in omega (arith, m));
-        named = ((h.0.0.0.1.1, named_of v.inverse h.0.0.0.3), r.named);
+        named = ((op_named, named_of v.inverse back_spelled), r.named);
       }
 
 -- ---- what can be read

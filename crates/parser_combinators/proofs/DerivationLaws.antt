@@ -1,10 +1,11 @@
 -- What a derivation tells of its value, its size and its lexemes.
-use Rattle.std.proofs.Common.{◌≡◌, ◌∷◌, ◌++◌, ap, ◌∙◌}
+use Rattle.std.proofs.Common.{◌≡◌, [], ◌∷◌, ◌++◌, Some, ap, ◌∙◌}
+use Rattle.std.specs.Prelude.{Option}
 use Rattle.lexical_grammar.specs.Lexemes.{Lexeme}
 use Rattle.parser_combinators.specs.Grammar.{Grammar, nothing_counted, both}
 use Rattle.parser_combinators.specs.Grammar as grammar
 use Rattle.parser_combinators.specs.Derivations.{Derivation, after_lexeme, first_of, rest_of}
-use Rattle.parser_combinators.specs.Derivations.{source_of}
+use Rattle.parser_combinators.specs.Derivations.{source_of, lexeme_of}
 use Rattle.parser_combinators.proofs.Parsing.{both_none, none_both}
 
 -- a value that takes no lexemes is the one that is given
@@ -20,6 +21,17 @@ made_value d = d.derives.1
 pub lexeme_first : {A : Type 0} {x : Lexeme} {G : Grammar A} (d : Derivation (grammar.lead x G))
     → d.lexemes ≡ x ∷ (after_lexeme d).lexemes
 lexeme_first d = d.derives.1
+
+-- a single lexeme says the value, and counts nothing
+module _ {A : Type 0} {says : Lexeme → Option A} (d : Derivation (grammar.single says)) where
+  pub lexeme_says : says (lexeme_of d) ≡ Some d.value
+  lexeme_says = d.derives.1
+
+  pub lexeme_size : d.size ≡ nothing_counted
+  lexeme_size = d.derives.2
+
+  pub lexeme_alone : d.lexemes ≡ lexeme_of d ∷ []
+  lexeme_alone = d.derives.3
 
 module _ {A B : Type 0} {G : Grammar A} {H : A → Grammar B} (d : Derivation (grammar.seq G H)) where
   pub lexemes_joined : d.lexemes ≡ (first_of d).lexemes ++ (rest_of d).lexemes

@@ -1,6 +1,6 @@
 -- Derivations: a value that a grammar spells, with its size and its lexemes, and the derivations of
 -- the parts that a combined grammar is made of.
-use Rattle.std.specs.Prelude.{ℕ, ◌+◌, List, ◌∷◌}
+use Rattle.std.specs.Prelude.{ℕ, ◌+◌, List, ◌∷◌, Option}
 use Rattle.lexical_grammar.specs.Lexemes.{Lexeme}
 use Rattle.parser_combinators.specs.Grammar.{Grammar, Size, AreMore}
 use Rattle.parser_combinators.specs.Grammar as grammar
@@ -51,6 +51,12 @@ in_opened d = derivation d.value d.derives.0 d.lexemes d.derives.2
 abbrev pub counted_anew : {A : Type 0} {G : Grammar A} → Derivation (grammar.fresh G)
     → Derivation G
 counted_anew d = derivation d.value d.derives.0 d.lexemes d.derives.2
+
+-- ---- of a single lexeme
+
+abbrev pub lexeme_of : {A : Type 0} {says : Lexeme → Option A}
+    → Derivation (grammar.single says) → Lexeme
+lexeme_of d = d.derives.0
 
 -- ---- of a list that is not empty: of its first element, after the separator, and of the others
 

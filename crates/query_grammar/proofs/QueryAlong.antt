@@ -8,6 +8,7 @@ use Rattle.lexical_grammar.specs.Lexemes.{Lexeme, word, sign, is_word, is_sign}
 use Rattle.parser_combinators.specs.Parsing.{Parsed, Stops, Takes, and_then, map_to}
 use Rattle.parser_combinators.specs.Grammar.{Size}
 use Rattle.parser_combinators.specs.Grammar as grammar
+use Rattle.parser_combinators.specs.Derivations.{Derivation, derivation, after_lexeme, source_of}
 use Rattle.expr_grammar.specs.Grammar.{IsExpr}
 use Rattle.expr_grammar.specs.Reader.{outermost, follow_expr}
 use Rattle.parser_combinators.specs.Reads.{sees}
@@ -154,7 +155,10 @@ range_along = bind_follow during (λ when. map_to (λ l. (when, l)) keeping) IsD
     after_during
 
 as_of_light : Light IsAsOf
-as_of_light a s f h = single_light (as_moment_or last_moment) h.2.2.0 s h.2.0 h.2.2.2
+as_of_light a s f h =
+    let whole : Derivation IsAsOf = derivation a s f h in
+    let moment = source_of (after_lexeme (after_lexeme whole)) in
+    single_light (as_moment_or last_moment) moment.value s moment.lexemes moment.derives
 
 -- where no AS comes, it is read so
 no_as_of : (n : ℕ) (ts : List Lexeme) → sees (is_word (codes "AS")) ts ≡ false

@@ -14,13 +14,16 @@ use Rattle.lexical_grammar.specs.Lexemes as lexeme
 use Rattle.parser_combinators.specs.Grammar.{Grammar}
 use Rattle.parser_combinators.specs.Parsing.{Out, Parsed, Parser, IsCorrectParser, Explains}
 use Rattle.parser_combinators.specs.Grammar.{Size, AreMore, so_wide}
+use Rattle.parser_combinators.specs.Derivations.{Derivation, derivation, after_lexeme, first_of}
+use Rattle.parser_combinators.specs.Derivations.{rest_of, source_of, lexeme_of}
+use Rattle.parser_combinators.proofs.DerivationLaws.{made_value, lexeme_says}
 use Rattle.expr_grammar.specs.Constants.{as_natural, as_moment}
 use Rattle.query_types.specs.declared.when.When.{When}
 use Rattle.plain_answers.specs.Branches.{PlainBranch}
 use Rattle.query_types.specs.Branches.{has_parts, have_parts, is_when, is_keep, are_keeps}
 use Rattle.query_grammar.specs.QueryGrammar.{as_moment_or, last_moment, counted_grammar, AreBounds}
 use Rattle.query_grammar.specs.QueryGrammar.{IsOutput, IsItem, IsBranch, AreBranches, IsDuring}
-use Rattle.query_grammar.specs.QueryGrammar.{IsKeep, IsKeeping, IsWhen}
+use Rattle.query_grammar.specs.QueryGrammar.{IsCovering, IsKeep, IsKeeping, IsWhen}
 use Rattle.query_grammar.specs.QueryReader.{branches, when_part, follow_branches, follow_when}
 use Rattle.query_grammar.proofs.BranchCorrectness.{branches_correct}
 use Rattle.query_grammar.proofs.WhenCorrectness.{when_correct}
@@ -53,8 +56,11 @@ as_of_before x n e = step (is_word (codes "now") x) e
 
 bounds_before : (b : ℕ × ℕ) (s : Size) (f : List Lexeme) → AreBounds b s f
     → nat_lt b.0 forever ≡ true
-bounds_before b s f h = ap (λ (p : ℕ × ℕ). nat_lt p.0 forever) h.8.2.1
-    ∙ moment_before h.7.0 h.0 h.7.1
+bounds_before b s f h =
+    let whole : Derivation AreBounds = derivation b s f h in
+    let least = first_of whole in
+    ap (λ (p : ℕ × ℕ). nat_lt p.0 forever) (made_value (after_lexeme (rest_of whole)))
+    ∙ moment_before (lexeme_of least) least.value (lexeme_says least)
 
 -- ---- lists
 
@@ -118,7 +124,11 @@ keep_before k s f (inl h) = ap is_keep h.2.1 ∙ bounds_before h.2.0 s h.0 h.2.2
 keep_before k s f (inr (inl h)) = ap is_keep h.2.1 ∙ bounds_before h.2.0 s h.0 h.2.2
 keep_before k s f (inr (inr (inl h))) = ap is_keep h.2.1 ∙ bounds_before h.2.0 s h.0 h.2.2
 keep_before k s f (inr (inr (inr (inl h)))) = ap is_keep h.2.1 ∙ bounds_before h.2.0 s h.0 h.2.2
-keep_before k s f (inr (inr (inr (inr h)))) = ap is_keep h.2.1 ∙ moment_before h.2.2.0 h.2.0 h.2.2.1
+keep_before k s f (inr (inr (inr (inr h)))) =
+    let whole : Derivation IsCovering = derivation k s f h in
+    let moment = source_of (after_lexeme whole) in
+    ap is_keep (made_value (after_lexeme whole))
+    ∙ moment_before (lexeme_of moment) moment.value (lexeme_says moment)
 
 keeping_before : (l : List Keep) (s : Size) (f : List Lexeme) → IsKeeping l s f → are_keeps l ≡ true
 keeping_before l s f (inl h) = ap are_keeps h.0

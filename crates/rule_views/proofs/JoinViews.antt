@@ -24,6 +24,7 @@ use Rattle.smo_meaning.specs.Making.{joined_columns, agree, joined_row, join_row
 use Rattle.smo_meaning.specs.After.{op_fault, IsValid}
 use Rattle.smo_meaning.proofs.Firsts.{met, none_mapped}
 use Rattle.smo_meaning.proofs.NextSchemas.{all_preconditions, is_table, ordered_columns}
+use Rattle.smo_meaning.proofs.MetPreconditions.{JoinMet, join_met}
 use Rattle.smo_meaning.proofs.MadeRows.{Joinable}
 use Rattle.smo_meaning.proofs.OneColumns.{made_columns}
 use Rattle.smo_meaning.proofs.ColumnsByName.{joined_types}
@@ -160,19 +161,22 @@ module _ (tables : Tables) (r s : List ℕ) (c : Test) where
       tt,
     )
       where
+        joins : JoinMet tables r s t c
+        joins = join_met c (all_preconditions tables (join_table r s t c) e)
+
         here : contains_key tables r ≡ true
-        here = is_table tables r (all_preconditions tables (join_table r s t c) e).0
+        here = is_table tables r joins.left_there
 
         too : contains_key tables s ≡ true
-        too = is_table tables s (all_preconditions tables (join_table r s t c) e).1.0
+        too = is_table tables s joins.right_there
 
         one : Joinable cs ds
-        one = met _ (ColumnsDiffer r s) (all_preconditions tables (join_table r s t c) e).1.1.1.1.0
+        one = met _ (ColumnsDiffer r s) joins.types_agree
 
         known : is_typed (own_kinds new) c ≡ true
         known = typed_test (own_kinds new) 0 c
             (none_mapped WrongType (first_of (test_untyped (own_kinds new) 0 c))
-            (all_preconditions tables (join_table r s t c) e).1.1.1.1.1.1.1.0)
+            joins.types_right)
 
         types : (n : List ℕ) → type_in new n ≡ (if among n (names_of cs) then type_in cs n
             else type_in ds n)

@@ -26,6 +26,7 @@ use Rattle.smo_meaning.specs.After.{op_fault, IsValid}
 use Rattle.smo_meaning.proofs.Firsts.{met, none_mapped}
 use Rattle.smo_meaning.proofs.MadeRows.{columns_same}
 use Rattle.smo_meaning.proofs.NextSchemas.{all_preconditions, is_table}
+use Rattle.smo_meaning.proofs.MetPreconditions.{partition_met, MergeMet, merge_met}
 use Rattle.smo_meaning.proofs.OneColumns.{made_columns}
 use Rattle.smo_meaning.proofs.ColumnsByName.{decomposed_types}
 use Rattle.cond_expr.specs.Parts.{parts_but_true as parts}
@@ -74,11 +75,11 @@ module _ (tables : Tables) (r s t : List ℕ) where
         → AreViews tables (partition_table r s c t)
         (operator_views tables (partition_table r s c t))
     partition_table_views e =
-        let m = all_preconditions tables by e in
-        let here : contains_key tables r ≡ true = is_table tables r m.0 in
+        let m = partition_met c (all_preconditions tables (partition_table r s c t) e) in
+        let here : contains_key tables r ≡ true = is_table tables r m.there in
         let typed : is_typed (own_kinds cs) c ≡ true =
         typed_test (own_kinds cs) 0 c (none_mapped WrongType
-        (first_of (test_untyped (own_kinds cs) 0 c)) m.1.1.1.1.1.0) in (
+        (first_of (test_untyped (own_kinds cs) 0 c)) m.types_right) in (
           given_by_view tables by r s cs (filter (meets cs c)) (parts c) [] here
               (made_filter cs (meets cs c) (parts c) (λ row. parts_hold (own_cells cs row) c))
               (λ x i. part_typed (own_kinds cs) c x typed i) (own_column cs) (inl refl)
@@ -161,15 +162,18 @@ module _ (tables : Tables) (r s t : List ℕ) where
     tt,
   )
     where
+      merges : MergeMet tables r s t
+      merges = merge_met (all_preconditions tables (merge_table r s t) e)
+
       here : contains_key tables r ≡ true
-      here = is_table tables r (all_preconditions tables (merge_table r s t) e).0
+      here = is_table tables r merges.left_there
 
       too : contains_key tables s ≡ true
-      too = is_table tables s (all_preconditions tables (merge_table r s t) e).1.0
+      too = is_table tables s merges.right_there
 
       alike : ds ≡ cs
       alike = sym (columns_same cs ds (met (same_columns cs ds) (ColumnsDiffer r s)
-          (all_preconditions tables (merge_table r s t) e).1.1.1.1.0))
+          merges.columns_alike))
 
       first : (db : Database) → AreGiven tables db cs (rows_under (get db r)) (whole r ∷ [])
       first db = given_by_one tables db r cs [] [] (rows_under (get db r))

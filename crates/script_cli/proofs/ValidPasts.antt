@@ -47,9 +47,9 @@ module _ (shown : ImagesShowPasts) where
   opening_keeps : (log : List LogRecord) (past : Past) → AreSpelled log → AreAccepted past log
       → (has_image log ≡ false → IsOfScript past) → IsOfScript (after_records past log)
   opening_keeps [] past are accepted h = h refl
-  opening_keeps (logged c ∷ log) past are accepted h =
-      opening_keeps log (past_with past c) are.1 accepted.1
-      (λ none. command_keeps past c (h none) (are.0.0, spelled_valid c.body are.0.1.1)
+  opening_keeps (logged c ∷ log) past ((stamp, (writable, named)), later) accepted h =
+      opening_keeps log (past_with past c) later accepted.1
+      (λ none. command_keeps past c (h none) (stamp, spelled_valid c.body named)
       (accepted.0 none))
   opening_keeps (checkpointed i ∷ log) past are accepted h =
       opening_keeps log (image_past past.commands i) are.1 accepted

@@ -9,6 +9,7 @@ pub mod PrintedTrees
 pub mod PrintedParts
 pub mod PrintedOperators
 pub mod PrintThenRead
+pub mod OperatorTokens
 pub mod OperatorCounted
 pub mod OperatorCountSizes
 pub mod OperatorLongest

@@ -5,15 +5,16 @@ use Rattle.std.proofs.Math.Nat.{zero-max}
 use Rattle.cond_expr.specs.Trees.{Test}
 use Rattle.smo_types.specs.Operators.{Operator}
 use Rattle.lexical_grammar.specs.Lexemes.{Lexeme}
-use Rattle.parser_combinators.specs.Grammar.{Size, nothing_counted, both}
+use Rattle.parser_combinators.specs.Grammar.{Size, nothing_counted}
 use Rattle.parser_combinators.specs.TokenCounts.{TokenCounts, plain, nodes_in, deepest, AddUp}
 use Rattle.expr_grammar.specs.TreeCounts.{expr_counts, cond_counts}
-use Rattle.parser_combinators.proofs.Parsing.{both_none, none_both}
 use Rattle.expr_grammar.proofs.CountSizes.{nodes_append, expr_adds_up, cond_adds_up}
 use Rattle.expr_grammar.specs.Where.{IsWhere}
 use Rattle.smo_parse.specs.Productions.{IsPartitionTable, IsJoinTable, IsAddColumn, IsOperator}
 use Rattle.smo_parse.specs.OperatorCounts.{uncounted, partition_counts, where_counts, join_counts}
 use Rattle.smo_parse.specs.OperatorCounts.{add_counts, operator_counts}
+use Rattle.smo_parse.specs.OperatorParts.{partition_condition, join_condition, column_value}
+use Rattle.smo_parse.proofs.OperatorTokens.{partition_parts, join_parts, add_parts}
 use Rattle.smo_parse.proofs.OperatorCounted.{Uncounted, operator_length, nop_counts, create_counts}
 use Rattle.smo_parse.proofs.OperatorCounted.{drop_table_counts, rename_table_counts, copy_counts}
 use Rattle.smo_parse.proofs.OperatorCounted.{merge_counts, decompose_counts, drop_column_counts}
@@ -61,16 +62,11 @@ bare_together s f z = let h = none_at_all f in (h.0 ∙ sym z.no_nodes, h.1 ∙ 
 partition_together : (o : Operator) (s : Size) (f : List Lexeme) (h : IsPartitionTable o s f)
     → Together (partition_counts o s f h) s
 partition_together o s f h =
-    let r = h.2.2 in
-    let q = r.8.2 in
-    let c = q.8.2 in
-    let size : s ≡ c.1 = r.5 ∙ ap (λ z. both z r.2) r.7.2 ∙ none_both r.2 ∙ q.5
-    ∙ ap (λ z. both z q.2) q.7.2 ∙ none_both q.2 ∙ c.5 ∙ ap (both c.1) c.8.2.2.2
-    ∙ both_none c.1 in
-    let ms : List TokenCounts = cond_counts false c.0 c.1 c.3 c.7 ++ plain ∷ plain ∷ [] in
-    let a = cond_adds_up false c.0 c.1 c.3 c.7 in
-    same_size (partition_counts o s f h) s c.1 size
-    (several_more 6 ms c.1 (two_after (cond_counts false c.0 c.1 c.3 c.7) c.1 (a.1, a.2)))
+    let c = partition_condition o s f h in
+    let counts : List TokenCounts = cond_counts false c.value c.size c.lexemes c.derives in
+    let a = cond_adds_up false c.value c.size c.lexemes c.derives in
+    same_size (partition_counts o s f h) s c.size (partition_parts o s f h).size_is
+    (several_more 6 (counts ++ plain ∷ plain ∷ []) c.size (two_after counts c.size (a.1, a.2)))
 
 where_together : (c : Test) (s : Size) (f : List Lexeme) (h : IsWhere false c s f)
     → Together (where_counts c s f h) s
@@ -81,26 +77,19 @@ where_together c s f (inr h) = let a = cond_adds_up false c s h.0 h.2 in
 join_together : (o : Operator) (s : Size) (f : List Lexeme) (h : IsJoinTable o s f)
     → Together (join_counts o s f h) s
 join_together o s f h =
-    let r = h.2.2 in
-    let q = r.8.2 in
-    let w = q.8.2 in
-    let size : s ≡ w.2 = r.5 ∙ ap (λ z. both z r.2) r.7.2 ∙ none_both r.2 ∙ q.5
-    ∙ ap (λ z. both z q.2) q.7.2 ∙ none_both q.2 ∙ w.5 ∙ ap (λ z. both z w.2) w.7.2
-    ∙ none_both w.2 in
-    same_size (join_counts o s f h) s w.2 size
-    (several_more 7 (where_counts w.8.0 w.2 w.4 w.8.2) w.2 (where_together w.8.0 w.2 w.4 w.8.2))
+    let c = join_condition o s f h in
+    same_size (join_counts o s f h) s c.size (join_parts o s f h).size_is
+    (several_more 7 (where_counts c.value c.size c.lexemes c.derives) c.size
+    (where_together c.value c.size c.lexemes c.derives))
 
 add_together : (o : Operator) (s : Size) (f : List Lexeme) (h : IsAddColumn o s f)
     → Together (add_counts o s f h) s
 add_together o s f h =
-    let n = h.2.2 in
-    let e = n.8.2 in
-    let size : s ≡ e.1 = n.5 ∙ ap (λ z. both z n.2) n.7.2 ∙ none_both n.2 ∙ e.5
-    ∙ ap (both e.1) e.8.2.2.2 ∙ both_none e.1 in
-    let ms : List TokenCounts = expr_counts false e.0 e.1 e.3 e.7 ++ plain ∷ plain ∷ [] in
-    let a = expr_adds_up false e.0 e.1 e.3 e.7 in
-    same_size (add_counts o s f h) s e.1 size
-    (several_more 4 ms e.1 (two_after (expr_counts false e.0 e.1 e.3 e.7) e.1 (a.1, a.2)))
+    let e = column_value o s f h in
+    let counts : List TokenCounts = expr_counts false e.value e.size e.lexemes e.derives in
+    let a = expr_adds_up false e.value e.size e.lexemes e.derives in
+    same_size (add_counts o s f h) s e.size (add_parts o s f h).size_is
+    (several_more 4 (counts ++ plain ∷ plain ∷ []) e.size (two_after counts e.size (a.1, a.2)))
 
 together : (o : Operator) (s : Size) (f : List Lexeme) (h : IsOperator o s f)
     → Together (operator_counts o s f h) s

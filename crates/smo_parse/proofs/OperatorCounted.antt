@@ -12,6 +12,7 @@ use Rattle.parser_combinators.specs.Parsing.{Fine, Exceeds, limit, arm_run, sing
 use Rattle.parser_combinators.specs.Parsing.{bind, pure, map_to, lead}
 use Rattle.parser_combinators.specs.Grammar.{Size, nothing_counted, both, no_end, AreMore}
 use Rattle.parser_combinators.specs.Grammar as grammar
+use Rattle.parser_combinators.specs.Derivations.{Derivation}
 use Rattle.expr_grammar.specs.Constants.{as_name, name, name_grammar, names_grammar}
 use Rattle.parser_combinators.specs.TokenCounts.{TokenCounts, plain}
 use Rattle.expr_grammar.specs.TreeCounts.{expr_counts, cond_counts}
@@ -31,7 +32,11 @@ use Rattle.smo_parse.specs.OperatorReader.{operator, operator_arm, partition_res
 use Rattle.smo_parse.specs.OperatorReader.{add_rest, follow_operator}
 use Rattle.smo_parse.specs.OperatorCounts.{uncounted, partition_counts, where_counts, join_counts}
 use Rattle.smo_parse.specs.OperatorCounts.{add_counts, operator_counts}
+use Rattle.smo_parse.specs.OperatorParts.{partition_condition, join_condition, column_value}
 use Rattle.smo_parse.proofs.OperatorCorrectness.{operator_correct}
+use Rattle.smo_parse.proofs.OperatorTokens.{in_partition, in_join, in_add, PartitionParts}
+use Rattle.smo_parse.proofs.OperatorTokens.{partition_parts, JoinParts, join_parts, AddParts}
+use Rattle.smo_parse.proofs.OperatorTokens.{add_parts}
 use Rattle.smo_parse.proofs.PrintThenRead.{got}
 
 -- ---- what counts nothing
@@ -199,22 +204,9 @@ ends_in_name m few make x z t e = bind_name (λ n. pure (make n)) z t m [] e
     ∙ sym (plain_along 32 (make t) m few (plain ∷ []) x (z ∷ [])
     ∙ plain_along 32 (make t) m few [] z [])
 
--- ---- the tokens of a production
-
-token : (x : Lexeme) (f g more : List Lexeme) → f ≡ x ∷ g → g ≡ more → f ≡ x ∷ more
-token x f g more e k = e ∙ ap (λ l. x ∷ l) k
-
-part : (x : Lexeme) (f g h more : List Lexeme) → f ≡ g ++ h → g ≡ x ∷ [] → h ≡ more → f ≡ x ∷ more
-part x f g h more e k i = e ∙ ap (λ l. l ++ h) k ∙ ap (λ l. x ∷ l) i
-
-before : (f g h more : List Lexeme) → f ≡ g ++ h → h ≡ more → f ≡ g ++ more
-before f g h more e i = e ∙ ap (λ l. g ++ l) i
+-- ---- of each operator that has a tree
 
 -- PARTITION
-abbrev in_partition : Lexeme → Lexeme → List Lexeme → Lexeme → List Lexeme
-in_partition x y k z = word (codes "PARTITION") ∷ word (codes "TABLE") ∷ x ∷ word (codes "INTO") ∷ y
-    ∷ word (codes "WITH") ∷ (k ++ sign (codes ",") ∷ z ∷ [])
-
 partition_run : (x : Lexeme) (a : List ℕ) (y : Lexeme) (b : List ℕ) (c : Test) (u : Size)
     (k : List Lexeme) (i : IsTest c u k) (z : Lexeme) (t : List ℕ) → as_name x ≡ Some a
     → as_name y ≡ Some b → as_name z ≡ Some t →
@@ -232,37 +224,33 @@ partition_run x a y b c u k i z t ex ey ez =
     (λ m few e. ends_in_name m few (λ t. partition_table a b c t) (sign (codes ",")) z t ez)
 
 module _ (o : Operator) (s : Size) (f : List Lexeme) (h : IsPartitionTable o s f) where
-  partition_tokens : f ≡ in_partition h.2.2.7.0 h.2.2.8.2.7.0 h.2.2.8.2.8.2.3 h.2.2.8.2.8.2.8.2.2.0
-  partition_tokens =
-      let r = h.2.2 in
-      let q = r.8.2 in
-      let c = q.8.2 in
-      let t = c.8 in
-      token _ _ _ _ h.1 (token _ _ _ _ h.2.1 (part _ _ _ _ _ r.6 r.7.3
-      (token _ _ _ _ r.8.1 (part _ _ _ _ _ q.6 q.7.3
-      (token _ _ _ _ q.8.1 (before _ _ _ _ c.6 (token _ _ _ _ t.1 t.2.2.3)))))))
+  abbrev condition : Derivation IsTest
+  condition = partition_condition o s f h
+
+  parts : PartitionParts o s f condition
+  parts = partition_parts o s f h
 
   partition_counted : operator 0 f ≡ along 32 o 0 (partition_counts o s f h) f
   partition_counted =
-      let r = h.2.2 in
-      let q = r.8.2 in
-      let c = q.8.2 in
-      let t = c.8.2 in
-      ap (operator 0) partition_tokens
-      ∙ partition_run r.7.0 r.0 q.7.0 q.0 c.0 c.1 c.3 c.7 t.2.0 t.0 r.7.1 q.7.1 t.2.1
-      ∙ sym (ap (λ l. along 32 o 0 (partition_counts o s f h) l) partition_tokens
-      ∙ ap (λ v. along 32 v 0 (partition_counts o s f h) (in_partition r.7.0 q.7.0 c.3 t.2.0))
-      t.1)
+      ap (operator 0) parts.tokens_are
+      ∙ partition_run parts.table.token parts.table.name parts.first.token parts.first.name
+      condition.value condition.size condition.lexemes condition.derives parts.second.token
+      parts.second.name parts.table.spells parts.first.spells parts.second.spells
+      ∙ sym (ap (λ l. along 32 o 0 (partition_counts o s f h) l) parts.tokens_are
+      ∙ ap (λ v. along 32 v 0 (partition_counts o s f h)
+      (in_partition parts.table.token parts.first.token condition.lexemes parts.second.token))
+      parts.operator_is)
 
   partition_length : length (partition_counts o s f h) ≡ length f
   partition_length =
-      let c = h.2.2.8.2.8.2 in
+      let counts = cond_counts false condition.value condition.size condition.lexemes
+      condition.derives in
       omega (
         arith,
-        ap length partition_tokens,
-        cond_length false c.0 c.1 c.3 c.7,
-        length-append (cond_counts false c.0 c.1 c.3 c.7) (plain ∷ plain ∷ []),
-        length-append c.3 (sign (codes ",") ∷ c.8.2.2.0 ∷ []),
+        ap length parts.tokens_are,
+        cond_length false condition.value condition.size condition.lexemes condition.derives,
+        length-append counts (plain ∷ plain ∷ []),
+        length-append condition.lexemes (sign (codes ",") ∷ parts.second.token ∷ []),
       )
 
 -- JOIN
@@ -279,12 +267,7 @@ where_length : (c : Test) (s : Size) (f : List Lexeme) (h : IsWhere false c s f)
 where_length c s f (inl h) = sym (ap length h.2)
 where_length c s f (inr h) = omega (arith, ap length h.1, cond_length false c s h.0 h.2)
 
--- its tokens before the WHERE
-abbrev pub in_join : Lexeme → Lexeme → Lexeme → List Lexeme → List Lexeme
-in_join x y z l = word (codes "JOIN") ∷ word (codes "TABLE") ∷ x ∷ sign (codes ",") ∷ y
-    ∷ word (codes "INTO") ∷ z ∷ l
-
--- and what is read after them
+-- what is read after its tokens before the WHERE
 pub join_run : (x : Lexeme) (a : List ℕ) (y : Lexeme) (b : List ℕ) (z : Lexeme) (t : List ℕ)
     (l : List Lexeme) → as_name x ≡ Some a → as_name y ≡ Some b → as_name z ≡ Some t
     → operator 0 (in_join x y z l) ≡ map_to (λ c. join_table a b t c) (outer_where false) 0 l
@@ -293,39 +276,39 @@ join_run x a y b z t l ex ey ez = bind_name _ x a 0 _ ex ∙ bind_name _ y b 0 _
     ∙ bind_name _ z t 0 _ ez
 
 module _ (o : Operator) (s : Size) (f : List Lexeme) (h : IsJoinTable o s f) where
-  pub join_tokens : f ≡ in_join h.2.2.7.0 h.2.2.8.2.7.0 h.2.2.8.2.8.2.7.0 h.2.2.8.2.8.2.4
-  join_tokens =
-      let r = h.2.2 in
-      let q = r.8.2 in
-      let w = q.8.2 in
-      token _ _ _ _ h.1 (token _ _ _ _ h.2.1 (part _ _ _ _ _ r.6 r.7.3
-      (token _ _ _ _ r.8.1 (part _ _ _ _ _ q.6 q.7.3
-      (token _ _ _ _ q.8.1 (part _ _ _ _ _ w.6 w.7.3 refl))))))
+  abbrev where_part : Derivation (IsWhere false)
+  where_part = join_condition o s f h
+
+  joins : JoinParts o s f where_part
+  joins = join_parts o s f h
 
   join_counted : operator 0 f ≡ along 32 o 0 (join_counts o s f h) f
   join_counted =
-      let r = h.2.2 in
-      let q = r.8.2 in
-      let w = q.8.2 in
-      let c = w.8 in
-      let make : Test → Operator = λ c. join_table r.0 q.0 w.0 c in
-      ap (operator 0) join_tokens
-      ∙ join_run r.7.0 r.0 q.7.0 q.0 w.7.0 w.0 w.4 r.7.1 q.7.1 w.7.1
-      ∙ ap (λ out. and_then out (λ c. pure (make c))) (where_counted c.0 w.2 w.4 c.2)
-      ∙ map_along 32 make c.0 0 (where_counts c.0 w.2 w.4 c.2) w.4
-      ∙ sym (ap (λ l. along 32 o 0 (join_counts o s f h) l) join_tokens
-      ∙ ap (λ v. along 32 v 0 (join_counts o s f h) (in_join r.7.0 q.7.0 w.7.0 w.4)) c.1)
+      let make : Test → Operator = λ c.
+      join_table joins.left.name joins.right.name joins.into.name c in
+      let counted = where_counted where_part.value where_part.size where_part.lexemes
+      where_part.derives in
+      let counts = where_counts where_part.value where_part.size where_part.lexemes
+      where_part.derives in
+      ap (operator 0) joins.tokens_are
+      ∙ join_run joins.left.token joins.left.name joins.right.token joins.right.name
+      joins.into.token joins.into.name where_part.lexemes joins.left.spells joins.right.spells
+      joins.into.spells
+      ∙ ap (λ out. and_then out (λ c. pure (make c))) counted
+      ∙ map_along 32 make where_part.value 0 counts where_part.lexemes
+      ∙ sym (ap (λ l. along 32 o 0 (join_counts o s f h) l) joins.tokens_are
+      ∙ ap (λ v. along 32 v 0 (join_counts o s f h)
+      (in_join joins.left.token joins.right.token joins.into.token where_part.lexemes))
+      joins.operator_is)
 
   join_length : length (join_counts o s f h) ≡ length f
-  join_length =
-      let w = h.2.2.8.2.8.2 in
-      omega (arith, ap length join_tokens, where_length w.8.0 w.2 w.4 w.8.2)
+  join_length = omega (
+    arith,
+    ap length joins.tokens_are,
+    where_length where_part.value where_part.size where_part.lexemes where_part.derives,
+  )
 
 -- ADD
-abbrev in_add : Lexeme → List Lexeme → Lexeme → List Lexeme
-in_add x k z = word (codes "ADD") ∷ word (codes "COLUMN") ∷ x ∷ word (codes "AS")
-    ∷ (k ++ word (codes "INTO") ∷ z ∷ [])
-
 add_run : (x : Lexeme) (a : List ℕ) (e : Tree) (u : Size) (k : List Lexeme) (i : IsTree e u k)
     (z : Lexeme) (t : List ℕ) → as_name x ≡ Some a → as_name z ≡ Some t →
     operator 0 (in_add x k z) ≡ along 32 (add_column a e t) 0
@@ -342,33 +325,30 @@ add_run x a e u k i z t ex ez =
     (λ m few y. ends_in_name m few (λ r. add_column a e r) (word (codes "INTO")) z t ez)
 
 module _ (o : Operator) (s : Size) (f : List Lexeme) (h : IsAddColumn o s f) where
-  add_tokens : f ≡ in_add h.2.2.7.0 h.2.2.8.2.3 h.2.2.8.2.8.2.2.0
-  add_tokens =
-      let n = h.2.2 in
-      let e = n.8.2 in
-      let t = e.8 in
-      token _ _ _ _ h.1 (token _ _ _ _ h.2.1 (part _ _ _ _ _ n.6 n.7.3
-      (token _ _ _ _ n.8.1 (before _ _ _ _ e.6 (token _ _ _ _ t.1 t.2.2.3)))))
+  abbrev tree : Derivation IsTree
+  tree = column_value o s f h
+
+  adds : AddParts o s f tree
+  adds = add_parts o s f h
 
   add_counted : operator 0 f ≡ along 32 o 0 (add_counts o s f h) f
   add_counted =
-      let n = h.2.2 in
-      let e = n.8.2 in
-      let t = e.8.2 in
-      ap (operator 0) add_tokens
-      ∙ add_run n.7.0 n.0 e.0 e.1 e.3 e.7 t.2.0 t.0 n.7.1 t.2.1
-      ∙ sym (ap (λ l. along 32 o 0 (add_counts o s f h) l) add_tokens
-      ∙ ap (λ v. along 32 v 0 (add_counts o s f h) (in_add n.7.0 e.3 t.2.0)) t.1)
+      ap (operator 0) adds.tokens_are
+      ∙ add_run adds.column.token adds.column.name tree.value tree.size tree.lexemes tree.derives
+      adds.table.token adds.table.name adds.column.spells adds.table.spells
+      ∙ sym (ap (λ l. along 32 o 0 (add_counts o s f h) l) adds.tokens_are
+      ∙ ap (λ v. along 32 v 0 (add_counts o s f h)
+      (in_add adds.column.token tree.lexemes adds.table.token)) adds.operator_is)
 
   add_length : length (add_counts o s f h) ≡ length f
   add_length =
-      let e = h.2.2.8.2 in
+      let counts = expr_counts false tree.value tree.size tree.lexemes tree.derives in
       omega (
         arith,
-        ap length add_tokens,
-        expr_length false e.0 e.1 e.3 e.7,
-        length-append (expr_counts false e.0 e.1 e.3 e.7) (plain ∷ plain ∷ []),
-        length-append e.3 (word (codes "INTO") ∷ e.8.2.2.0 ∷ []),
+        ap length adds.tokens_are,
+        expr_length false tree.value tree.size tree.lexemes tree.derives,
+        length-append counts (plain ∷ plain ∷ []),
+        length-append tree.lexemes (word (codes "INTO") ∷ adds.table.token ∷ []),
       )
 
 -- ---- any operator

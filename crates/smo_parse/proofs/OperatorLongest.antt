@@ -9,12 +9,12 @@ use Rattle.parser_combinators.specs.Grammar.{Grammar}
 use Rattle.parser_combinators.specs.Parsing.{Out, Parsed, Unexpected, LimitExceeded, Parser, Fine}
 use Rattle.parser_combinators.specs.Parsing.{Valid, CanGoOn, IsCorrectParser, and_then, pure}
 use Rattle.parser_combinators.specs.Grammar.{Size, nothing_counted, both}
+use Rattle.parser_combinators.specs.Derivations.{Derivation}
 use Rattle.expr_grammar.specs.Grammar as g
 use Rattle.expr_grammar.specs.Grammar.{leaf, IsCond}
 use Rattle.expr_grammar.specs.Reader.{outermost}
 use Rattle.parser_combinators.specs.Found.{Ends}
 use Rattle.lexical_grammar.proofs.Cases.{by_test}
-use Rattle.parser_combinators.proofs.Parsing.{none_both}
 use Rattle.lexical_grammar.proofs.LexemeTests.{word_exact}
 use Rattle.expr_grammar.proofs.Longest.{cond_longest}
 use Rattle.expr_grammar.specs.Where.{IsWhere, outer_where}
@@ -29,7 +29,9 @@ use Rattle.parser_combinators.proofs.Alternatives.{stops_never}
 use Rattle.smo_parse.proofs.OperatorCorrectness.{ends, create_correct, drop_correct, rename_correct}
 use Rattle.smo_parse.proofs.OperatorCorrectness.{copy_correct, merge_correct, partition_correct}
 use Rattle.smo_parse.proofs.OperatorCorrectness.{decompose_correct, add_correct}
-use Rattle.smo_parse.proofs.OperatorCounted.{in_join, join_run, join_tokens}
+use Rattle.smo_parse.specs.OperatorParts.{join_condition}
+use Rattle.smo_parse.proofs.OperatorTokens.{in_join, JoinParts, join_parts}
+use Rattle.smo_parse.proofs.OperatorCounted.{join_run}
 
 -- it is read whatever follows
 abbrev ReadsOn : Operator → Size → List Lexeme → List Lexeme → Type 0
@@ -151,19 +153,25 @@ mapped make a u rest (Unexpected c r) h = h
 mapped make a u rest (LimitExceeded w c r) h = h
 
 module _ (o : Operator) (s : Size) (prefix : List Lexeme) (h : IsJoinTable o s prefix) where
+  abbrev where_part : Derivation (IsWhere false)
+  where_part = join_condition o s prefix h
+
+  joins : JoinParts o s prefix where_part
+  joins = join_parts o s prefix h
+
   -- its tokens with others from the WHERE on
   abbrev with_where : List Lexeme → List Lexeme
-  with_where l = in_join h.2.2.7.0 h.2.2.8.2.7.0 h.2.2.8.2.8.2.7.0 l
+  with_where l = in_join joins.left.token joins.right.token joins.into.token l
 
   -- another condition in its place
   other : (c : Test) (u : Size) (l : List Lexeme) → IsWhere false c u l → (p : Operator)
       × (v : Size) × IsOperator p v (with_where l)
   other c u l i =
-      let r = h.2.2 in
-      let q = r.8.2 in
-      let w = q.8.2 in
+      let left = joins.left in
+      let right = joins.right in
+      let into = joins.into in
       let named : Lexeme → List Lexeme = λ x. x ∷ [] in (
-        join_table r.0 q.0 w.0 c,
+        join_table left.name right.name into.name c,
         both nothing_counted (both nothing_counted (both nothing_counted u)),
         inr (inr (inr (inr (inr (inr (inr (inr (inl (
           _,
@@ -172,38 +180,38 @@ module _ (o : Operator) (s : Size) (prefix : List Lexeme) (h : IsJoinTable o s p
             _,
             refl,
             (
-              r.0,
+              left.name,
               nothing_counted,
               both nothing_counted (both nothing_counted u),
-              named r.7.0,
+              named left.token,
               _,
               refl,
               refl,
-              (r.7.0, r.7.1, refl, refl),
+              (left.token, left.spells, refl, refl),
               (
                 _,
                 refl,
                 (
-                  q.0,
+                  right.name,
                   nothing_counted,
                   both nothing_counted u,
-                  named q.7.0,
+                  named right.token,
                   _,
                   refl,
                   refl,
-                  (q.7.0, q.7.1, refl, refl),
+                  (right.token, right.spells, refl, refl),
                   (
                     _,
                     refl,
                     (
-                      w.0,
+                      into.name,
                       nothing_counted,
                       u,
-                      named w.7.0,
+                      named into.token,
                       l,
                       refl,
                       refl,
-                      (w.7.0, w.7.1, refl, refl),
+                      (into.token, into.spells, refl, refl),
                       (c, refl, i),
                     ),
                   ),
@@ -222,14 +230,6 @@ module _ (o : Operator) (s : Size) (prefix : List Lexeme) (h : IsJoinTable o s p
       let j = other c u ((k ++ x ∷ []) ++ more) i in
       let P : List Lexeme → Type 0 = λ l. CanGoOn IsOperator (l ++ x ∷ []) in
       subst P (sym e) (more, j.0, j.1, j.2)
-
-  size_is : s ≡ h.2.2.8.2.8.2.2
-  size_is =
-      let r = h.2.2 in
-      let q = r.8.2 in
-      let w = q.8.2 in
-      r.5 ∙ ap (λ z. both z r.2) r.7.2 ∙ none_both r.2 ∙ q.5 ∙ ap (λ z. both z q.2) q.7.2
-      ∙ none_both q.2 ∙ w.5 ∙ ap (λ z. both z w.2) w.7.2 ∙ none_both w.2
 
   cond_ends : (k m : List Lexeme) → k ≡ word (codes "WHERE") ∷ m → prefix ≡ with_where k
       → (l : List Lexeme) → Ends IsOperator (prefix ++ l) (length prefix)
@@ -261,21 +261,23 @@ module _ (o : Operator) (s : Size) (prefix : List Lexeme) (h : IsJoinTable o s p
   join_on : (rest : List Lexeme) → Ends IsOperator (prefix ++ rest) (length prefix)
       → ReadsOn o s prefix rest
   join_on rest e =
-      let r = h.2.2 in
-      let q = r.8.2 in
-      let w = q.8.2 in
-      let make : Test → Operator = λ c. join_table r.0 q.0 w.0 c in
-      let fine : Fine 32 w.8.0 w.2 0 rest (outer_where false 0 (w.4 ++ rest)) =
-      by_where w.8.0 w.2 w.4 w.8.2 (join_tokens o s prefix h) rest e in
+      let left = joins.left in
+      let right = joins.right in
+      let into = joins.into in
+      let c = where_part in
+      let make : Test → Operator = λ c. join_table left.name right.name into.name c in
+      let fine : Fine 32 c.value c.size 0 rest (outer_where false 0 (c.lexemes ++ rest)) =
+      by_where c.value c.size c.lexemes c.derives joins.tokens_are rest e in
       let P : Out Operator → Type 0 = λ out. Fine 32 o s 0 rest out in
       let Q : Size → Type 0 = λ z. Fine 32 o z 0 rest
-      (and_then (outer_where false 0 (w.4 ++ rest)) (λ c. pure (make c))) in
-      let R : Operator → Type 0 = λ v. Fine 32 v w.2 0 rest
-      (and_then (outer_where false 0 (w.4 ++ rest)) (λ c. pure (make c))) in
-      subst P (sym (ap (λ l. operator 0 (l ++ rest)) (join_tokens o s prefix h)
-      ∙ join_run r.7.0 r.0 q.7.0 q.0 w.7.0 w.0 (w.4 ++ rest) r.7.1 q.7.1 w.7.1))
-      (subst Q (sym size_is) (subst R (sym w.8.1)
-      (mapped make w.8.0 w.2 rest (outer_where false 0 (w.4 ++ rest)) fine)))
+      (and_then (outer_where false 0 (c.lexemes ++ rest)) (λ c. pure (make c))) in
+      let R : Operator → Type 0 = λ v. Fine 32 v c.size 0 rest
+      (and_then (outer_where false 0 (c.lexemes ++ rest)) (λ c. pure (make c))) in
+      subst P (sym (ap (λ l. operator 0 (l ++ rest)) joins.tokens_are
+      ∙ join_run left.token left.name right.token right.name into.token into.name
+      (c.lexemes ++ rest) left.spells right.spells into.spells))
+      (subst Q (sym joins.size_is) (subst R (sym joins.operator_is)
+      (mapped make c.value c.size rest (outer_where false 0 (c.lexemes ++ rest)) fine)))
 
 -- ---- any operator
 

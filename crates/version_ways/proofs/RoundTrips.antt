@@ -29,6 +29,8 @@ use Rattle.smo_meaning.proofs.Firsts.{met}
 use Rattle.smo_meaning.proofs.NameLaws.{same_itself, same_turned, same_is}
 use Rattle.smo_meaning.proofs.StepLaws.{all_met}
 use Rattle.smo_meaning.proofs.NextSchemas.{all_preconditions, is_table}
+use Rattle.smo_meaning.proofs.MetPreconditions.{RenameMet, rename_met, PartitionMet}
+use Rattle.smo_meaning.proofs.MetPreconditions.{partition_met}
 use Rattle.smo_meaning.proofs.TouchedTables.{opposite, free_name}
 use Rattle.smo_meaning.proofs.InverseLaws.{alike_itself, accepted_so}
 use Rattle.smo_meaning.proofs.WholeTables.{found, in_parts}
@@ -158,20 +160,22 @@ other r s e = opposite (same r s) (met (not (same r s)) (SameTable r) e)
 -- ---- RENAME TABLE r INTO t, and RENAME TABLE t INTO r
 
 module _ (tables : Tables) (r t : List ℕ) (e : op_fault tables (rename_table r t) ≡ None) where
+  met_rename : RenameMet tables r t
+  met_rename = rename_met (all_preconditions tables (rename_table r t) e)
+
   rename_is : contains_key tables r ≡ true
-  rename_is = is_table tables r (all_preconditions tables (rename_table r t) e).0
+  rename_is = is_table tables r met_rename.there
 
   rename_free : get tables t ≡ None
-  rename_free = free_table tables r t (all_preconditions tables (rename_table r t) e).1.1.0
-      (same_turned t r ∙ other r t (all_preconditions tables (rename_table r t) e).1.0)
+  rename_free = free_table tables r t met_rename.name_free
+      (same_turned t r ∙ other r t met_rename.apart)
 
   new_there : get (insert (remove tables r) t (columns_of tables r)) t ≡ Some (columns_of tables r)
   new_there = there (remove tables r) t (columns_of tables r)
 
   old_gone : get (insert (remove tables r) t (columns_of tables r)) r ≡ None
   old_gone =
-      under_another (remove tables r) t r (columns_of tables r)
-      (other r t (all_preconditions tables (rename_table r t) e).1.0)
+      under_another (remove tables r) t r (columns_of tables r) (other r t met_rename.apart)
       ∙ get-remove nat_list_cmp_total tables r r
       ∙ ap (λ (b : Bool). cond b None (get tables r)) (same_itself r)
 
@@ -180,7 +184,7 @@ module _ (tables : Tables) (r t : List ℕ) (e : op_fault tables (rename_table r
       (rename_table t r)).preconditions (
         named_now (schema_after tables (rename_table r t)) t (columns_of tables r) new_there,
         (
-          turned r t (all_preconditions tables (rename_table r t) e).1.0,
+          turned r t met_rename.apart,
           (
             ap (λ (o : Option (List Column)).
                 unless (not (is_some o) || among r (t ∷ [])) (Exists r)) old_gone,
@@ -255,19 +259,20 @@ module _ (tables : Tables) (r s t : List ℕ) (c : Test)
   abbrev parts : Tables
   parts = insert (insert (remove tables r) s its) t its
 
+  met_partition : PartitionMet tables r s c t
+  met_partition = partition_met c (all_preconditions tables (partition_table r s c t) e)
+
   part_is : contains_key tables r ≡ true
-  part_is = is_table tables r (all_preconditions tables (partition_table r s c t) e).0
+  part_is = is_table tables r met_partition.there
 
   part_differ : differ s t ≡ None
-  part_differ = (all_preconditions tables (partition_table r s c t) e).1.0
+  part_differ = met_partition.apart
 
   first_free : same s r ≡ false → get tables s ≡ None
-  first_free d = free_table tables r s (all_preconditions tables (partition_table r s c t) e).1.1.0
-      d
+  first_free d = free_table tables r s met_partition.first_free d
 
   second_free : same t r ≡ false → get tables t ≡ None
-  second_free d = free_table tables r t (all_preconditions tables (partition_table r s c t)
-      e).1.1.1.0 d
+  second_free d = free_table tables r t met_partition.second_free d
 
   module _ {X : Type 0} (m : FinMap bytes_cmp X) (a b : X) where
     second_part : get (insert (insert (remove m r) s a) t b) t ≡ Some b
