@@ -2,6 +2,7 @@ pub mod Errors
 pub mod OnePut
 pub mod ReplySteps
 pub mod ReadConstants
+pub mod ReadParts
 pub mod ReadStatements
 pub mod WrittenStatements
 pub mod ReplyPasts

@@ -1,120 +1,151 @@
 -- The constants of operators, bodies and queries that are read are valid.
-use Rattle.std.proofs.Common.{◌≡◌, ◌+◌, ℕ, List, [], ◌∷◌, ◌++◌, refl, sym, subst, inl, inr}
-use Rattle.std.specs.Prelude.{codes, false, true}
+use Rattle.std.proofs.Common.{◌+◌, ℕ, List, [], ◌∷◌, ◌++◌, refl, sym, subst, inl, inr}
+use Rattle.std.specs.Prelude.{Bool, codes, false, true}
 use Rattle.relations.specs.Sets.{In}
 use Rattle.prima_base.specs.declared.refusal.What.{What}
 use Rattle.prima_base.specs.declared.refusal.What.TheVariants.{Inverse, Outputs, Branches}
-use Rattle.cond_expr.specs.Trees.{Tree, Test}
+use Rattle.cond_expr.specs.Trees.{Test}
 use Rattle.smo_types.specs.Operators.{Operator}
 use Rattle.smo_types.specs.Commands.{PlainBody}
-use Rattle.plain_answers.specs.Branches.{PlainBranch}
 use Rattle.piece_meaning.specs.Constants.{ValidInTree, ValidInTest, ValidInOperator}
 use Rattle.piece_meaning.specs.Constants.{ValidInOperators, ValidInEvolution}
 use Rattle.lexical_grammar.specs.Lexemes.{Lexeme, word, sign}
 use Rattle.parser_combinators.specs.Grammar.{Size, AreMore, so_wide}
+use Rattle.parser_combinators.specs.Grammar as grammar
+use Rattle.parser_combinators.specs.Derivations.{Derivation, derivation, after_lexeme, rest_of}
+use Rattle.parser_combinators.specs.Derivations.{element_of, others_of}
+use Rattle.parser_combinators.proofs.DerivationLaws.{given_value, made_value}
+use Rattle.expr_grammar.specs.Grammar.{IsExpr, IsCond}
 use Rattle.expr_grammar.specs.Where.{IsWhere, IsFreshWhere}
-use Rattle.smo_parse.specs.Productions.{IsOperator}
+use Rattle.smo_parse.specs.Productions.{IsNop, IsCreateTable, IsDropTable, IsRenameTable}
+use Rattle.smo_parse.specs.Productions.{IsCopyTable, IsMergeTable, IsPartitionTable}
+use Rattle.smo_parse.specs.Productions.{IsDecomposeTable, IsJoinTable, IsAddColumn, IsDropColumn}
+use Rattle.smo_parse.specs.Productions.{IsRenameColumn, IsOperator}
 use Rattle.query_grammar.specs.QueryGrammar.{counted_grammar, IsOutput, IsBranch, IsAsk}
-use Rattle.query_types.specs.Queries.{PlainQuery}
-use Rattle.script_parse.specs.Productions.{IsOp, IsInverse, IsBody}
+use Rattle.script_parse.specs.Productions.{IsOp, AreOps, IsInverse, IsEvolve, AreChanges, IsBody}
 use Rattle.query_exec.specs.Constants.{ValidInBranch, ValidInQuery}
 use Rattle.statement_response.proofs.ReadConstants.{AllValid, expr_valid, cond_valid, after, prefix}
 use Rattle.statement_response.proofs.ReadConstants.{back}
-
--- the lexemes after the first, and those of the first part and of what stands after it
-pub led : (x : Lexeme) (ts more : List Lexeme) → AllValid ts → ts ≡ x ∷ more → AllValid more
-led x ts more l e = after x more (subst AllValid e l)
-
-first : (ts us vs : List Lexeme) → AllValid ts → ts ≡ us ++ vs → AllValid us
-first ts us vs l e = prefix us vs (subst AllValid e l)
-
-pub rest : (ts us vs : List Lexeme) → AllValid ts → ts ≡ us ++ vs → AllValid vs
-rest ts us vs l e = back us vs (subst AllValid e l)
+use Rattle.statement_response.proofs.ReadParts.{Read, value_read, read, led, first, rest, source}
+use Rattle.statement_response.proofs.ReadParts.{anew}
 
 -- ---- lists
 
 module _ {A : Type 0} (P : A → Type 0) (sep : Lexeme) (G : A → Size → List Lexeme → Type 0)
-    (each : (a : A) (s : Size) (ts : List Lexeme) → AllValid ts → G a s ts → P a) where
+    (each : (r : Read G) → P (value_read r)) where
   more_each : (end : ℕ → Size) (j : ℕ) (xs : List A) (s : Size) (ts : List Lexeme) → AllValid ts
       → AreMore sep end G j xs s ts → (x : A) → In x xs → P x
   more_each end j [] s ts l h x m = absurd m
   more_each end j (a ∷ others) s ts l h x (inl e) =
-      subst P e (each a h.0 h.2 (prefix h.2 h.3 (led sep ts (h.2 ++ h.3) l h.5)) h.6)
+      let element : Derivation G = element_of end j a others h in
+      let later : Derivation (AreMore sep end G (j + 1)) = others_of end j a others h in
+      let both = after sep (element.lexemes ++ later.lexemes) (subst AllValid h.5 l) in
+      let it : Read G = record {
+        derived = element;
+        valid = prefix element.lexemes later.lexemes both;
+      } in
+      subst P e (each it)
   more_each end j (a ∷ others) s ts l h x (inr m) =
-      more_each end (j + 1) others h.1 h.3 (back h.2 h.3 (led sep ts (h.2 ++ h.3) l h.5)) h.7 x m
+      let element : Derivation G = element_of end j a others h in
+      let later : Derivation (AreMore sep end G (j + 1)) = others_of end j a others h in
+      let both = after sep (element.lexemes ++ later.lexemes) (subst AllValid h.5 l) in
+      more_each end (j + 1) others later.size later.lexemes
+      (back element.lexemes later.lexemes both) later.derives x m
 
-  counted_each : (w : What) (xs : List A) (s : Size) (ts : List Lexeme) → AllValid ts
-      → counted_grammar sep w G xs s ts → (x : A) → In x xs → P x
-  counted_each w xs s ts l h x m = among (subst (In x) h.8.1 m)
+  counted_each : (w : What) (r : Read (counted_grammar sep w G)) → (x : A) → In x (value_read r)
+      → P x
+  counted_each w r x m = among (subst (In x) (made_value (rest r).derived) m)
     where
-      among : In x (h.0 ∷ h.8.0) → P x
-      among (inl e) = subst P e (each h.0 h.1 h.3 (first ts h.3 h.4 l h.6) h.7)
-      among (inr i) = more_each (so_wide w) 1 h.8.0 h.2 h.4 (rest ts h.3 h.4 l h.6) h.8.2 x i
+      among : In x (value_read (first r) ∷ value_read (source (rest r))) → P x
+      among (inl e) = subst P e (each (first r))
+      among (inr i) =
+          let others = source (rest r) in
+          more_each (so_wide w) 1 (value_read others) others.derived.size others.derived.lexemes
+          others.valid others.derived.derives x i
 
 -- ---- operators
+
+expr_read : {q : Bool} (r : Read (IsExpr q)) → ValidInTree (value_read r)
+expr_read {q} r = expr_valid q r.derived.value r.derived.size r.derived.lexemes r.valid
+    r.derived.derives
+
+cond_read : {q : Bool} (r : Read (IsCond q)) → ValidInTest (value_read r)
+cond_read {q} r = cond_valid q r.derived.value r.derived.size r.derived.lexemes r.valid
+    r.derived.derives
 
 where_valid : (c : Test) (s : Size) (ts : List Lexeme) → AllValid ts → IsWhere false c s ts
     → ValidInTest c
 where_valid c s ts l (inl h) = subst ValidInTest (sym h.0) tt
-where_valid c s ts l (inr h) = cond_valid false c s h.0 (led _ ts h.0 l h.1) h.2
+where_valid c s ts l (inr h) =
+    let whole : Read (grammar.lead (word (codes "WHERE")) (IsCond false)) = read c s ts l h in
+    cond_read (led whole)
 
 operator_valid : (op : Operator) (s : Size) (ts : List Lexeme) → AllValid ts → IsOperator op s ts
     → ValidInOperator op
--- NOP
-operator_valid op s ts l (inl h) = subst ValidInOperator (sym h.2.0) tt
--- CREATE TABLE
-operator_valid op s ts l (inr (inl h)) = subst ValidInOperator (sym h.2.2.8.2.8.2.0) tt
--- DROP TABLE
-operator_valid op s ts l (inr (inr (inl h))) = subst ValidInOperator (sym h.2.2.1) tt
--- RENAME TABLE
-operator_valid op s ts l (inr (inr (inr (inl h)))) = subst ValidInOperator (sym h.2.2.8.2.1) tt
--- COPY TABLE
+operator_valid op s ts l (inl h) =
+    let whole : Derivation IsNop = derivation op s ts h in
+    subst ValidInOperator (sym (given_value (after_lexeme whole))) tt
+operator_valid op s ts l (inr (inl h)) =
+    let whole : Derivation IsCreateTable = derivation op s ts h in
+    let after_table = rest_of (after_lexeme (after_lexeme whole)) in
+    let after_columns = rest_of (after_lexeme after_table) in
+    subst ValidInOperator (sym (given_value (after_lexeme after_columns))) tt
+operator_valid op s ts l (inr (inr (inl h))) =
+    let whole : Derivation IsDropTable = derivation op s ts h in
+    subst ValidInOperator (sym (made_value (after_lexeme (after_lexeme whole)))) tt
+operator_valid op s ts l (inr (inr (inr (inl h)))) =
+    let whole : Derivation IsRenameTable = derivation op s ts h in
+    let after_table = rest_of (after_lexeme (after_lexeme whole)) in
+    subst ValidInOperator (sym (made_value (after_lexeme after_table))) tt
 operator_valid op s ts l (inr (inr (inr (inr (inl h))))) =
-    subst ValidInOperator (sym h.2.2.8.2.1) tt
--- MERGE TABLE
+    let whole : Derivation IsCopyTable = derivation op s ts h in
+    let after_table = rest_of (after_lexeme (after_lexeme whole)) in
+    subst ValidInOperator (sym (made_value (after_lexeme after_table))) tt
 operator_valid op s ts l (inr (inr (inr (inr (inr (inl h)))))) =
-    subst ValidInOperator (sym h.2.2.8.2.8.2.1) tt
--- PARTITION TABLE
+    let whole : Derivation IsMergeTable = derivation op s ts h in
+    let after_left = rest_of (after_lexeme (after_lexeme whole)) in
+    let after_right = rest_of (after_lexeme after_left) in
+    subst ValidInOperator (sym (made_value (after_lexeme after_right))) tt
 operator_valid op s ts l (inr (inr (inr (inr (inr (inr (inl h))))))) =
-    let table = h.2.2 in
-    let yes = table.8.2 in
-    let c = yes.8.2 in
-    let after_words = led _ _ _ (led _ ts _ l h.1) h.2.1 in
-    let after_into = led _ _ _ (rest _ table.3 table.4 after_words table.6) table.8.1 in
-    let after_with = led _ _ _ (rest _ yes.3 yes.4 after_into yes.6) yes.8.1 in
-    subst ValidInOperator (sym c.8.2.1) (cond_valid false c.0 c.1 c.3
-    (first _ c.3 c.4 after_with c.6) c.7)
--- DECOMPOSE TABLE
+    let whole : Read IsPartitionTable = read op s ts l h in
+    let after_table = rest (led (led whole)) in
+    let after_first = rest (led after_table) in
+    let from_condition = led after_first in
+    let from_second = led (rest from_condition) in
+    subst ValidInOperator (sym (made_value from_second.derived)) (cond_read (first from_condition))
 operator_valid op s ts l (inr (inr (inr (inr (inr (inr (inr (inl h)))))))) =
-    subst ValidInOperator (sym h.2.2.8.2.8.2.1) tt
--- JOIN TABLE
+    let whole : Derivation IsDecomposeTable = derivation op s ts h in
+    let after_table = rest_of (after_lexeme (after_lexeme whole)) in
+    let after_first = rest_of (after_lexeme after_table) in
+    subst ValidInOperator (sym (made_value (after_lexeme after_first))) tt
 operator_valid op s ts l (inr (inr (inr (inr (inr (inr (inr (inr (inl h))))))))) =
-    let left = h.2.2 in
-    let right = left.8.2 in
-    let into = right.8.2 in
-    let after_words = led _ _ _ (led _ ts _ l h.1) h.2.1 in
-    let after_comma = led _ _ _ (rest _ left.3 left.4 after_words left.6) left.8.1 in
-    let after_into = led _ _ _ (rest _ right.3 right.4 after_comma right.6) right.8.1 in
-    subst ValidInOperator (sym into.8.1) (where_valid into.8.0 into.2 into.4
-    (rest _ into.3 into.4 after_into into.6) into.8.2)
--- ADD COLUMN
+    let whole : Read IsJoinTable = read op s ts l h in
+    let after_left = rest (led (led whole)) in
+    let after_right = rest (led after_left) in
+    let after_into = rest (led after_right) in
+    let c = source after_into in
+    subst ValidInOperator (sym (made_value after_into.derived))
+    (where_valid (value_read c) c.derived.size c.derived.lexemes c.valid c.derived.derives)
 operator_valid op s ts l (inr (inr (inr (inr (inr (inr (inr (inr (inr (inl h)))))))))) =
-    let column = h.2.2 in
-    let e = column.8.2 in
-    let after_words = led _ _ _ (led _ ts _ l h.1) h.2.1 in
-    let after_as = led _ _ _ (rest _ column.3 column.4 after_words column.6) column.8.1 in
-    subst ValidInOperator (sym e.8.2.1) (expr_valid false e.0 e.1 e.3 (first _ e.3 e.4 after_as e.6)
-    e.7)
--- DROP COLUMN
+    let whole : Read IsAddColumn = read op s ts l h in
+    let after_column = rest (led (led whole)) in
+    let from_value = led after_column in
+    let from_table = led (rest from_value) in
+    subst ValidInOperator (sym (made_value from_table.derived)) (expr_read (first from_value))
 operator_valid op s ts l (inr (inr (inr (inr (inr (inr (inr (inr (inr (inr (inl h))))))))))) =
-    subst ValidInOperator (sym h.2.2.8.2.1) tt
--- RENAME COLUMN
+    let whole : Derivation IsDropColumn = derivation op s ts h in
+    let after_column = rest_of (after_lexeme (after_lexeme whole)) in
+    subst ValidInOperator (sym (made_value (after_lexeme after_column))) tt
 operator_valid op s ts l (inr (inr (inr (inr (inr (inr (inr (inr (inr (inr (inr h))))))))))) =
-    subst ValidInOperator (sym h.2.2.8.2.8.2.1) tt
+    let whole : Derivation IsRenameColumn = derivation op s ts h in
+    let after_column = rest_of (after_lexeme (after_lexeme whole)) in
+    let after_table = rest_of (after_lexeme after_column) in
+    subst ValidInOperator (sym (made_value (after_lexeme after_table))) tt
 
-op_valid : (op : Operator) (s : Size) (ts : List Lexeme) → AllValid ts → IsOp op s ts
-    → ValidInOperator op
-op_valid op s ts l h = operator_valid op h.0 ts l h.2
+op_valid : (r : Read IsOp) → ValidInOperator (value_read r)
+op_valid r =
+    let op = anew r in
+    operator_valid (value_read op) op.derived.size op.derived.lexemes op.valid op.derived.derives
 
 all_operators : (ops : List Operator) → ((op : Operator) → In op ops → ValidInOperator op)
     → ValidInOperators ops
@@ -125,52 +156,56 @@ inverse_valid : (ops : List Operator) (s : Size) (ts : List Lexeme) → AllValid
     → IsInverse ops s ts → ValidInOperators ops
 inverse_valid ops s ts l (inl h) = subst ValidInOperators (sym h.0) tt
 inverse_valid ops s ts l (inr h) =
-    all_operators ops (counted_each ValidInOperator (word (codes "THEN")) IsOp op_valid Inverse ops
-    s h.0 (led _ ts h.0 l h.1) h.2)
+    let whole : Read (grammar.lead (word (codes "INVERSE")) AreOps) = read ops s ts l h in
+    all_operators ops (counted_each ValidInOperator (word (codes "THEN")) IsOp op_valid Inverse
+    (led whole))
 
 pub body_valid : (b : PlainBody) (s : Size) (ts : List Lexeme) → AllValid ts → IsBody b s ts
     → ValidInEvolution b
 body_valid b s ts l (inl h) =
-    let op = h.2 in
-    let after_word = led _ ts _ l h.1 in
-    subst ValidInEvolution (sym op.8.1) (
-      op_valid op.0 op.1 op.3 (first _ op.3 op.4 after_word op.6) op.7,
-      inverse_valid op.8.0 op.2 op.4 (rest _ op.3 op.4 after_word op.6) op.8.2,
+    let whole : Read IsEvolve = read b s ts l h in
+    let after_op = rest (led whole) in
+    let inverse = source after_op in
+    subst ValidInEvolution (sym (made_value after_op.derived)) (
+      op_valid (first (led whole)),
+      inverse_valid (value_read inverse) inverse.derived.size inverse.derived.lexemes inverse.valid
+          inverse.derived.derives,
     )
-body_valid b s ts l (inr h) = subst ValidInEvolution (sym h.1) tt
+body_valid b s ts l (inr h) =
+    let whole : Derivation AreChanges = derivation b s ts h in
+    subst ValidInEvolution (sym (made_value whole)) tt
 
 -- ---- queries
 
-output_valid : (t : Tree) (s : Size) (ts : List Lexeme) → AllValid ts → IsOutput t s ts
-    → ValidInTree t
-output_valid t s ts l h = expr_valid true t h.0 ts l h.2
+output_valid : (r : Read IsOutput) → ValidInTree (value_read r)
+output_valid r = expr_read (anew r)
 
 condition_valid : (c : Test) (s : Size) (ts : List Lexeme) → AllValid ts → IsFreshWhere true c s ts
     → ValidInTest c
 condition_valid c s ts l (inl h) = subst ValidInTest (sym h.0) tt
-condition_valid c s ts l (inr h) = cond_valid true c h.2.0 h.0 (led _ ts h.0 l h.1) h.2.2
+condition_valid c s ts l (inr h) =
+    let whole : Read (grammar.lead (word (codes "WHERE")) (grammar.fresh (IsCond true))) =
+    read c s ts l h in
+    cond_read (anew (led whole))
 
-branch_valid : (b : PlainBranch) (s : Size) (ts : List Lexeme) → AllValid ts → IsBranch b s ts
-    → ValidInBranch b
-branch_valid b s ts l h =
-    let outs = h.2 in
-    let from = outs.8.2 in
-    let after_select = led _ ts _ l h.1 in
-    let after_from = led _ _ _ (rest _ outs.3 outs.4 after_select outs.6) outs.8.1 in
-    subst ValidInBranch (sym from.8.1) (record {
-      outs = counted_each ValidInTree (sign (codes ",")) IsOutput output_valid Outputs outs.0 outs.1
-          outs.3 (first _ outs.3 outs.4 after_select outs.6) outs.7;
-      cond = condition_valid from.8.0 from.2 from.4 (rest _ from.3 from.4 after_from from.6)
-          from.8.2;
+branch_valid : (r : Read IsBranch) → ValidInBranch (value_read r)
+branch_valid r =
+    let whole : Read IsBranch = r in
+    let from_outputs = led whole in
+    let from_items = led (rest from_outputs) in
+    let after_items = rest from_items in
+    let c = source after_items in
+    subst ValidInBranch (sym (made_value after_items.derived)) (record {
+      outs = counted_each ValidInTree (sign (codes ",")) IsOutput output_valid Outputs
+          (first from_outputs);
+      cond = condition_valid (value_read c) c.derived.size c.derived.lexemes c.valid
+          c.derived.derives;
     })
 
-pub query_valid : (query : PlainQuery) (s : Size) (ts : List Lexeme) → AllValid ts
-    → IsAsk query s ts → ValidInQuery query
-query_valid query s ts l h =
-    let version = h.2 in
-    let branches = version.8 in
-    let after_word = led _ ts _ l h.1 in
-    let after_number = rest _ version.3 version.4 after_word version.6 in
-    subst ValidInQuery (sym branches.8.1)
-    (counted_each ValidInBranch (word (codes "UNION")) IsBranch branch_valid Branches branches.0
-    branches.1 branches.3 (first _ branches.3 branches.4 after_number branches.6) branches.7)
+pub query_valid : (r : Read IsAsk) → ValidInQuery (value_read r)
+query_valid r =
+    let whole : Read IsAsk = r in
+    let from_branches = rest (led whole) in
+    subst ValidInQuery (sym (made_value (rest from_branches).derived))
+    (counted_each ValidInBranch (word (codes "UNION")) IsBranch branch_valid Branches
+    (first from_branches))

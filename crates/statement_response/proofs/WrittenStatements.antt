@@ -7,14 +7,18 @@ use Rattle.relations.specs.Spans.{forever}
 use Rattle.lexical_grammar.specs.Lexemes.{Lexeme}
 use Rattle.lexical_grammar.specs.Lexemes as lexeme
 use Rattle.parser_combinators.specs.Grammar.{Size}
+use Rattle.parser_combinators.specs.Derivations.{Derivation, derivation, after_lexeme}
+use Rattle.parser_combinators.proofs.DerivationLaws.{given_value, made_value}
 use Rattle.expr_grammar.specs.Constants.{as_natural, moment_grammar}
 use Rattle.script_parse.specs.Statements.{PlainStatement}
-use Rattle.script_parse.specs.Productions.{IsStatement}
+use Rattle.script_parse.specs.Productions.{IsWrite, IsQuery, IsExplain, IsShowVersions}
+use Rattle.script_parse.specs.Productions.{IsShowSchema, IsShowSizes, IsCheckpoint, IsStatement}
 use Rattle.script_parse.specs.Reading.{Reading, Blank, Refused, Whole, IsReading, reading}
 use Rattle.script_parse.proofs.ReadingLaws.{of_the_grammar}
 use Rattle.statement_response.specs.Written.{IsWritten, HasWritten}
 use Rattle.statement_response.proofs.ReadConstants.{AllValid, TokensValid, lexed_valid}
-use Rattle.statement_response.proofs.ReadStatements.{led, rest, body_valid, query_valid}
+use Rattle.statement_response.proofs.ReadParts.{Read, value_read, read, led, first, rest, source}
+use Rattle.statement_response.proofs.ReadStatements.{body_valid, query_valid}
 
 natural_most : (most : ℕ) (x : Lexeme) (n : ℕ) → as_natural most x ≡ Some n → n ≤ most
 natural_most most (lexeme.number (pos k)) n e = step (nat_le k most) refl e
@@ -33,24 +37,36 @@ moment_before n s ts h = let m = natural_most 18446744073709551614 h.0 n h.1 in 
 statement_written : (s : PlainStatement) (size : Size) (ts : List Lexeme) → AllValid ts
     → IsStatement s size ts → IsWritten s
 statement_written s size ts l (inl h) =
-    let stamp = h.2 in
-    let body = stamp.8 in
-    let after_stamp = rest _ stamp.3 stamp.4 (led _ ts _ l h.1) stamp.6 in
-    subst IsWritten (sym body.1) (
-      moment_before stamp.0 stamp.1 stamp.3 stamp.7,
-      body_valid body.0 stamp.2 stamp.4 after_stamp body.2,
+    let whole : Read IsWrite = read s size ts l h in
+    let from_stamp = led whole in
+    let stamp = (first from_stamp).derived in
+    let after_stamp = rest from_stamp in
+    let body = source after_stamp in
+    subst IsWritten (sym (made_value after_stamp.derived)) (
+      moment_before stamp.value stamp.size stamp.lexemes stamp.derives,
+      body_valid (value_read body) body.derived.size body.derived.lexemes body.valid
+          body.derived.derives,
     )
 statement_written s size ts l (inr (inl h)) =
-    subst IsWritten (sym h.2.1) (query_valid h.2.0 size h.0 (led _ ts _ l h.1) h.2.2)
+    let whole : Read IsQuery = read s size ts l h in
+    let from_ask = led whole in
+    subst IsWritten (sym (made_value from_ask.derived)) (query_valid (source from_ask))
 statement_written s size ts l (inr (inr (inl h))) =
-    subst IsWritten (sym h.2.2.1) (query_valid h.2.2.0 size h.2.0
-    (led _ _ _ (led _ ts _ l h.1) h.2.1) h.2.2.2)
-statement_written s size ts l (inr (inr (inr (inl (inl h))))) = subst IsWritten (sym h.2.2.0) tt
+    let whole : Read IsExplain = read s size ts l h in
+    let from_ask = led (led whole) in
+    subst IsWritten (sym (made_value from_ask.derived)) (query_valid (source from_ask))
+statement_written s size ts l (inr (inr (inr (inl (inl h))))) =
+    let whole : Derivation IsShowVersions = derivation s size ts h in
+    subst IsWritten (sym (given_value (after_lexeme (after_lexeme whole)))) tt
 statement_written s size ts l (inr (inr (inr (inl (inr (inl h)))))) =
-    subst IsWritten (sym h.2.2.1) tt
+    let whole : Derivation IsShowSchema = derivation s size ts h in
+    subst IsWritten (sym (made_value (after_lexeme (after_lexeme whole)))) tt
 statement_written s size ts l (inr (inr (inr (inl (inr (inr h)))))) =
-    subst IsWritten (sym h.2.2.0) tt
-statement_written s size ts l (inr (inr (inr (inr h)))) = subst IsWritten (sym h.2.0) tt
+    let whole : Derivation IsShowSizes = derivation s size ts h in
+    subst IsWritten (sym (given_value (after_lexeme (after_lexeme whole)))) tt
+statement_written s size ts l (inr (inr (inr (inr h)))) =
+    let whole : Derivation IsCheckpoint = derivation s size ts h in
+    subst IsWritten (sym (given_value (after_lexeme whole))) tt
 
 reading_written : (text : List ℕ) (r : Reading) → IsReading text r → HasWritten r
 reading_written text Blank h = tt
