@@ -2,7 +2,7 @@
 use Rattle.std.proofs.Common.{◌≡◌, ◌<◌, ◌+◌, ℕ, suc, zero, true, false, cond, List, [], ◌∷◌, ◌++◌}
 use Rattle.std.proofs.Common.{length, drop, get_or, refl, sym, ap, subst, ◌∙◌, arith, append_assoc}
 use Rattle.std.proofs.Common.{append-nil, length-append}
-use Rattle.std.specs.Prelude.{Some, None, slice_get}
+use Rattle.std.specs.Prelude.{Option, Some, None, IsSome, slice_get}
 use Rattle.std.proofs.lemmas.Option.{slice_get_within}
 use Rattle.relations.specs.Sets.{In}
 use Rattle.prima_base.specs.Columns.{Column}
@@ -54,6 +54,12 @@ still_there stored old places place name t Has f h = record {
   named = f.1;
   has = h;
 }
+
+-- what is stored before a stamp is there
+pub stored_before : (stamp : ℕ) (columns : List Column) (stored : Option Store)
+    → IsStoredBefore stamp columns stored → IsSome stored
+stored_before stamp columns None h = absurd h
+stored_before stamp columns (Some store) h = refl
 
 pub goes_there : (stored old : List MadeTable) (places : List ℕ) (place : ℕ) (name : List ℕ)
     (columns : List Column) (stamp : ℕ) (t : MadeTable) → IsFound stored places name place t

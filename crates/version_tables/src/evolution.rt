@@ -28,7 +28,7 @@ ghost use Rattle.version_tables.specs.MadeRows.{made_rows};
 ghost use Rattle.version_tables.specs.Evolving.{AreEarlier, rows_named, AreNext, IsNextTable};
 ghost use Rattle.version_tables.specs.Evolving.{IsBegun, Comes, IsEvolved};
 
-use crate::made_table::{MadeTable, find_stored, find_table};
+use crate::made_table::{MadeTable, find_stored, kept_table};
 use history_store::StoredTable;
 use prima_base::{Name, NoMemory, Row, same_name};
 use schema_catalog::{Schema, Table};
@@ -169,11 +169,8 @@ fn next_place(
     if is_name(names.second, table.name()) {
         return begin_after(alloc, tables, version, table, stamp, &rows.second, begun);
     }
-    match find_table(tables, places, table.name()) {
-        Some((place, _)) => Ok(place),
-        // A table that is not made is stored under its name at one of these places (`others`).
-        None => unreachable!(),
-    }
+    // A table that is not made is stored under its name at one of these places (`others`).
+    Ok(kept_table(tables, places, table.name()).0)
 }
 
 // The tables of the next version, in the order of their names: those that are made begin, and the

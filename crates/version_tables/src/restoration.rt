@@ -17,7 +17,7 @@ ghost use Rattle.version_tables.specs.Restoring.{stores_of, HaveColumns, with_ma
 ghost use Rattle.version_tables.specs.Restoring.{HasColumns, IsStored, OthersAre};
 
 use crate::evolution::{NextTables, put_begun};
-use crate::made_table::{MadeTable, find_table};
+use crate::made_table::{MadeTable, kept_table};
 use history_store::StoredTable;
 use prima_base::{Name, NoMemory};
 use schema_catalog::{Schema, Table};
@@ -91,11 +91,8 @@ fn restored_place(
     if names.has(table.name()) {
         return begin_over(tables, version, table, stores, begun);
     }
-    match find_table(tables, places, table.name()) {
-        Some((place, _)) => Ok(place),
-        // A table that is not made is stored under its name at one of these places (`others`).
-        None => unreachable!(),
-    }
+    // A table that is not made is stored under its name at one of these places (`others`).
+    Ok(kept_table(tables, places, table.name()).0)
 }
 
 /// The tables of a version, in the order of their names: those that are made, which have these
