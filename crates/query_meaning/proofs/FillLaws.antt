@@ -1,6 +1,7 @@
 -- Trees whose references are made ones to atoms: they have as many nodes as before, and where each
 -- reference was accepted each of theirs is to a column.
 use Rattle.std.specs.Prelude.{◌≡◌, ℕ, ◌+◌, List, [], ◌∷◌, ◌++◌, map, None}
+use Rattle.std.specs.Option.{option_or}
 use Rattle.std.proofs.Common.{refl, sym, ap, ◌∙◌, arith}
 use Rattle.cond_expr.specs.declared.expr.Whose.{Whose}
 use Rattle.cond_expr.specs.declared.expr.ColRef.{ColRef}
@@ -11,7 +12,7 @@ use Rattle.cond_expr.specs.Trees.{fill_test, fill_tests}
 use Rattle.cond_expr.specs.Sizes.{nodes_of, trees_nodes, test_nodes, tests_nodes}
 use Rattle.cond_expr.specs.Kinds.{Kinds}
 use Rattle.cond_expr.specs.Faults.{references, trees_references, test_references, tests_references}
-use Rattle.cond_expr.specs.Faults.{first_unknown, earlier}
+use Rattle.cond_expr.specs.Faults.{first_unknown}
 use Rattle.cond_expr.proofs.FaultLaws.{unknown_append}
 use Rattle.smo_meaning.specs.First.{first_refusal}
 use Rattle.smo_meaning.specs.Checks.{Fault}
@@ -66,7 +67,7 @@ module _ (by : Filling) (of : Kinds) (test : ColRef → Fault)
 
   pub together : (xs ys : List ColRef) → first_unknown of xs ≡ None → first_unknown of ys ≡ None
       → first_unknown of (xs ++ ys) ≡ None
-  together xs ys p q = unknown_append of xs ys ∙ ap (λ o. earlier o (first_unknown of ys)) p ∙ q
+  together xs ys p q = unknown_append of xs ys ∙ ap (λ o. option_or o (first_unknown of ys)) p ∙ q
 
   mutual
     pub known_filled : (t : Tree) → Crossings (references t)

@@ -2,7 +2,7 @@
 use Rattle.std.proofs.Common.{subst, append_assoc, ◌≡◌, ◌<◌, ◌≤◌, ◌+◌, ℕ, true, false, List, []}
 use Rattle.std.proofs.Common.{◌∷◌, ◌++◌, length, take, drop, get_or, refl, sym, ap, ◌∙◌}
 use Rattle.std.specs.Prelude.{Option, Some, None}
-use Rattle.std.specs.Option.{option_map}
+use Rattle.std.specs.Option.{option_map, option_or}
 use Rattle.std.proofs.lemmas.List.{take_more}
 use Rattle.prima_base.specs.declared.refusal.Refusal.TheVariants.{NoColumn, ColumnExists}
 use Rattle.prima_base.specs.Columns.{Column, names_of}
@@ -14,7 +14,7 @@ use Rattle.cond_expr.specs.declared.expr.Expr.{Expr}
 use Rattle.cond_expr.specs.declared.expr.ColRef.{ColRef}
 use Rattle.cond_expr.specs.Seen.{tree}
 use Rattle.cond_expr.specs.Sizes.{nodes_of}
-use Rattle.cond_expr.specs.Faults.{references, first_unknown, earlier}
+use Rattle.cond_expr.specs.Faults.{references, first_unknown}
 use Rattle.cond_expr.proofs.FaultLaws.{unknown_append}
 use Rattle.smo_types.specs.Changes.{sets_of}
 use Rattle.smo_meaning.specs.OneRow.{own_kinds}
@@ -72,7 +72,7 @@ module _ (columns : List Column) (sets : List (List ℕ × Expr)) (i : ℕ) (p :
       ∙ append_assoc (references (tree p.1)) (set_references (sets_of (drop (i + 1) sets))) rest
 
   either : (rs : List ColRef) → first_unknown (own_kinds columns) (references (tree p.1) ++ rs)
-      ≡ earlier (first_unknown (own_kinds columns) (references (tree p.1)))
+      ≡ option_or (first_unknown (own_kinds columns) (references (tree p.1)))
       (first_unknown (own_kinds columns) rs)
   either rs = unknown_append (own_kinds columns) (references (tree p.1)) rs
 
@@ -86,7 +86,7 @@ module _ (columns : List Column) (sets : List (List ℕ × Expr)) (i : ℕ) (p :
       e
     where
       first_stays : (a b : Option (List ℕ)) → option_map NoColumn a ≡ Some r
-          → option_map NoColumn (earlier a b) ≡ Some r
+          → option_map NoColumn (option_or a b) ≡ Some r
       first_stays None b q = absurd (cc)
       first_stays (Some n) b q = q
 
@@ -96,7 +96,7 @@ module _ (columns : List Column) (sets : List (List ℕ × Expr)) (i : ℕ) (p :
   reference_later e =
       ap (reference_fault columns) here_then ∙ ap (option_map NoColumn)
       (either (set_references (sets_of (drop (i + 1) sets)) ++ rest))
-      ∙ ap (λ a. option_map NoColumn (earlier a
+      ∙ ap (λ a. option_map NoColumn (option_or a
       (first_unknown (own_kinds columns) (set_references (sets_of (drop (i + 1) sets))
       ++ rest)))) (none_mapped NoColumn (first_unknown (own_kinds columns)
       (references (tree p.1))) e)
@@ -114,7 +114,7 @@ pub known_both : (columns : List Column) (a b : List ColRef)
 known_both columns a b e = step (first_unknown (own_kinds columns) a)
     (first_unknown (own_kinds columns) b) (sym (unknown_append (own_kinds columns) a b) ∙ e)
   where
-    step : (x y : Option (List ℕ)) → earlier x y ≡ None → (x ≡ None) × (y ≡ None)
+    step : (x y : Option (List ℕ)) → option_or x y ≡ None → (x ≡ None) × (y ≡ None)
     step None y q = (refl, q)
     step (Some n) y q = absurd (cc)
 
