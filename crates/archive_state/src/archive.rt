@@ -212,8 +212,8 @@ impl ArchiveState {
     /// them, and none where the query is refused; where it lists, at least as many as there are for
     /// any one of these pieces. The texts of each output that is a plain column are borrowed by
     /// what the archive keeps, unless one of these pieces computes that text for the column of its
-    /// item: each row is so of one of the branches that answer it in the slice. The one other error
-    /// is `NoMemory`, where memory runs out.
+    /// item: each row is so of one of the branches that answer it where its period begins. The one
+    /// other error is `NoMemory`, where memory runs out.
     pub fn query<'a, L: Ledger>(
         &'a self,
         book: &RuleBook,

@@ -10,6 +10,7 @@ use Rattle.relations.specs.Sets.{In}
 use Rattle.relations.specs.Spans.{Span}
 use Rattle.relations.specs.Timed.{Entry}
 use Rattle.relations.specs.Listing.{IsListing}
+use Rattle.relations.proofs.SetLaws.{in_map}
 use Rattle.prima_base.specs.declared.value.Value.{Value}
 use Rattle.prima_base.specs.declared.timed_row.TimedRow.{TimedRow}
 use Rattle.prima_base.specs.Order.{row_cmp}
@@ -128,6 +129,11 @@ within_all slice [] h e k = absurd k
 within_all slice (a ∷ rest) h e k =
     let p = both (is_inside slice a.period) (are_after slice a rest) h in
     each_within slice a rest p.0 p.1 e k
+
+pub lasts_each : (slice : Span) (rows : List TimedRow) → is_listing slice rows ≡ true
+    → (row : TimedRow) → In row rows → row.period.start < row.period.end
+lasts_each slice rows h row m =
+    (within_all slice rows h (entry_of row) (in_map entry_of row rows m)).lasting
 
 pub unmoved : (slice : Span) (rows : List TimedRow) → is_listing slice rows ≡ true
     → IsListing row_cmp (rows_at rows) slice (entries_of rows)

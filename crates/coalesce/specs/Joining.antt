@@ -1,10 +1,10 @@
 -- Entries in order, joined where they touch.
-use Rattle.std.specs.Prelude.{◌≡◌, ℕ, ◌&&◌, Bool, nat_le, max, List, [], ◌∷◌, ◌++◌, take, drop}
-use Rattle.std.specs.Prelude.{if◌then◌else◌}
+use Rattle.std.specs.Prelude.{◌≡◌, ℕ, ◌&&◌, Bool, true, nat_le, max, List, [], ◌∷◌, ◌++◌, take}
+use Rattle.std.specs.Prelude.{drop, if◌then◌else◌}
 use Rattle.std.specs.Ordering.{is_eq}
 use Rattle.std.specs.declared.cmp.Ordering.{Ordering}
 use Rattle.relations.specs.Sets.{In}
-use Rattle.relations.specs.Spans.{Span, span}
+use Rattle.relations.specs.Spans.{Span, span, covers}
 use Rattle.relations.specs.Timed.{Entry}
 use Rattle.prima_base.specs.declared.timed_row.TimedRow.{TimedRow}
 use Rattle.prima_base.specs.Timed.{vals_cmp}
@@ -47,8 +47,12 @@ unfoldable pub standing : {E : Type 0} → (E → E → Bool) → (E → E → E
 standing touch join kept next rows = take kept rows
     ++ goes_on touch join (drop kept rows) (drop next rows)
 
--- each row of the second list has the very values of a row of the first: what of them is borrowed
--- stays borrowed
+-- each row of the second list has the very values of a row of the first that holds at the first
+-- moment of its period: what of them is borrowed stays borrowed
 abbrev pub HaveValuesOf : List TimedRow → List TimedRow → Type 0
 HaveValuesOf before after = (row : TimedRow) → In row after → (old : TimedRow) × In old before
-    × (old.values.items ≡ row.values.items)
+    × (old.values.items ≡ row.values.items) × (covers old.period row.period.start ≡ true)
+
+-- each row of the second list is one of the first
+abbrev pub AreAmong : List TimedRow → List TimedRow → Type 0
+AreAmong before after = (row : TimedRow) → In row after → In row before

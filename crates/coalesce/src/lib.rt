@@ -28,8 +28,9 @@ pub use row_keep::keep;
 
 /// Makes of rows with periods the one list of what they hold inside a slice: each row with its
 /// longest periods, ascending by row and start. At each moment of the slice the same rows hold as
-/// before, and at no other moment any. The values of each row are those of one that was there: what
-/// is borrowed stays borrowed. It takes no memory. (Coalescing, PRIMA 2008.)
+/// before, and at no other moment any. The values of each row are those of one that was there and
+/// held where its period begins: what is borrowed stays borrowed. It takes no memory. (Coalescing,
+/// PRIMA 2008.)
 pub fn coalesce_in_place(rows: &mut Vec<TimedRow<'_>>, slice: Period)
     ensures listing { IsListing row_cmp (rows_at rows.old.items) slice (entries_of rows.new.items) }
     ensures same { (m : ℕ) → covers slice m ≡ true

@@ -1,7 +1,7 @@
 ghost use Rattle.std.specs.Prelude.{◌≡◌};
 ghost use Rattle.prima_base.specs.Keeping.{below, between, lasting, keeps, keeps_all, kept};
 ghost use Rattle.prima_base.specs.Timed.{entries_of};
-ghost use Rattle.coalesce.specs.Joining.{HaveValuesOf};
+ghost use Rattle.coalesce.specs.Joining.{AreAmong};
 
 use prima_base::{FOREVER, Keep, Period, TimedRow};
 
@@ -56,11 +56,11 @@ fn meets_all(conditions: &[Keep], period: Period) -> bool
 }
 
 /// Keeps the rows whose periods meet every condition of KEEP, in their order. The periods are those
-/// of the one list, cut to the slice of the query. What is borrowed stays borrowed. It takes no
-/// memory.
+/// of the one list, cut to the slice of the query. Each row stays as it was, with what of it is
+/// borrowed. It takes no memory.
 pub fn keep(rows: &mut Vec<TimedRow<'_>>, conditions: &[Keep])
     ensures rows { entries_of rows.new.items ≡ kept conditions.now (entries_of rows.old.items) }
-    ensures values { HaveValuesOf rows.old.items rows.new.items }
+    ensures among { AreAmong rows.old.items rows.new.items }
 {
     rows.retain(|row| meets_all(conditions, row.period));
 }

@@ -2,11 +2,11 @@
 use Rattle.std.proofs.Common.{◌≡◌, ◌<◌, ◌+◌, ℕ, zero, suc, Bool, true, false, not, List, [], ◌∷◌}
 use Rattle.std.proofs.Common.{◌++◌, map, length, get_or, drop, refl, sym, ap, ◌∙◌, subst}
 use Rattle.std.proofs.Common.{inl, inr, arith}
-use Rattle.std.specs.Prelude.{Option}
+use Rattle.std.specs.Prelude.{Option, ◌⊎◌}
 use Rattle.relations.specs.Sets.{In, set_of}
 use Rattle.relations.specs.Spans.{Span, covers}
 use Rattle.relations.proofs.Held.{in_at, covers_is}
-use Rattle.relations.proofs.SetLaws.{in_left, in_right, in_map, from_map, in_flat_map}
+use Rattle.relations.proofs.SetLaws.{in_left, in_right, in_append, in_map, from_map, in_flat_map}
 use Rattle.relations.proofs.SetLaws.{from_flat_map, from_set}
 use Rattle.prima_base.specs.declared.value.Val.{Val}
 use Rattle.prima_base.specs.declared.timed_row.TimedRow.{TimedRow}
@@ -28,6 +28,7 @@ use Rattle.timed_choices.specs.BorrowedOutputs.{EachRow, BorrowedValues, all_val
 use Rattle.timed_choices.specs.BorrowedOutputs.{RowsBorrow, is_plain}
 use Rattle.timed_choices.specs.BorrowedOutputs.{StaysBorrowed, AllStayBorrowed}
 use Rattle.timed_choices.proofs.BorrowedLaws.{each_both, each_member, all_members}
+use Rattle.coalesce.specs.Joining.{HaveValuesOf}
 use Rattle.joining.specs.declared.atom.Atom.{Atom}
 use Rattle.joining.specs.Atoms.{AtomsBorrow}
 use Rattle.version_ways.specs.Migration.{migrated}
@@ -46,10 +47,11 @@ use Rattle.rewrite_chains.proofs.ReadMoments.{table_output}
 use Rattle.period_split.specs.Splitting.{Part}
 use Rattle.query_types.specs.Branches.{branch_of, branches_of}
 use Rattle.query_types.specs.declared.branch.Branch.{Branch}
+use Rattle.query_types.specs.Queries.{PlainQuery}
 use Rattle.query_exec.specs.declared.part_piece.PartPieces.{PartPieces}
 use Rattle.query_exec.specs.declared.route.Route.{Route}
 use Rattle.query_exec.specs.Borrowed.{BorrowedByBranch, SparesRow, Spares, AllSpare, IsAnswered}
-use Rattle.query_exec.specs.Borrowed.{IsBorrowedBy}
+use Rattle.query_exec.specs.Borrowed.{IsBorrowedBy, AlwaysBorrowedBy, AreBorrowedBy}
 use Rattle.query_exec.specs.Borrowed.{ArePlainIn, IsPlainIn, AllPlainIn}
 use Rattle.query_exec.specs.Planned.{ArePlanned, own_pieces, planned_pieces}
 use Rattle.query_exec.specs.Questions.{own_read}
@@ -77,34 +79,32 @@ plain_borrows which (c ∷ columns) (t ∷ outs) (v ∷ values) p s = (
   plain_borrows which columns outs values p.1 s.1,
 )
 
--- rows that are a relation at each moment of a period, and nothing at any other: each shows, at its
--- first moment, a row of it
+-- rows that are a relation at each moment of a period, and nothing at any other: each shows, at each
+-- moment of its own, a row of it
 module _ (relation : ℕ → Relation) (period : Span) (rows : List TimedRow)
     (inside : (m : ℕ) → covers period m ≡ true → rows_at rows m ≡ relation m)
     (outside : (m : ℕ) → covers period m ≡ false → rows_at rows m ≡ []) where
-  pub row_holds : (row : TimedRow) → In row rows → row.period.start < row.period.end
-      → (m : ℕ) × (covers period m ≡ true) × In (map shown row.values.items) (relation m)
-  row_holds row i some = step (covers period row.period.start) refl
+  pub row_at : (row : TimedRow) → In row rows → (m : ℕ) → covers row.period m ≡ true
+      → (covers period m ≡ true) × In (map shown row.values.items) (relation m)
+  row_at row i m held = step (covers period m) refl
     where
-      here : In (map shown row.values.items) (rows_at rows row.period.start)
-      here = (in_at row_cmp row_exact (entries_of rows) (map shown row.values.items)
-          row.period.start).1 (
-            entry_of row,
-            in_map entry_of row rows i,
-            refl,
-            (covers_is row.period row.period.start).1 (omega arith, some),
-          )
+      here : In (map shown row.values.items) (rows_at rows m)
+      here = (in_at row_cmp row_exact (entries_of rows) (map shown row.values.items) m).1
+          (entry_of row, in_map entry_of row rows i, refl, held)
 
-      step : (b : Bool) → covers period row.period.start ≡ b
-          → (m : ℕ) × (covers period m ≡ true) × In (map shown row.values.items) (relation m)
-      step true e = (
-        row.period.start,
-        e,
-        subst (λ (r : Relation). In (map shown row.values.items) r) (inside row.period.start e)
-            here,
-      )
+      step : (b : Bool) → covers period m ≡ b
+          → (covers period m ≡ true) × In (map shown row.values.items) (relation m)
+      step true e =
+          (e, subst (λ (r : Relation). In (map shown row.values.items) r) (inside m e) here)
       step false e = absurd (subst (λ (r : Relation). In (map shown row.values.items) r)
-          (outside row.period.start e) here)
+          (outside m e) here)
+
+  row_holds : (row : TimedRow) → In row rows → row.period.start < row.period.end
+      → (m : ℕ) × (covers period m ≡ true) × In (map shown row.values.items) (relation m)
+  row_holds row i some =
+      let h = row_at row i row.period.start
+      ((covers_is row.period row.period.start).1 (omega arith, some)) in
+      (row.period.start, h.0, h.1)
 
   -- where in each row of it each output whose value is to be borrowed is a plain column, the rows
   -- borrow these
@@ -272,23 +272,20 @@ atom_more which atoms new a e l k = subst (AtomsBorrow which) (sym e) (with_atom
 
 -- ---- branches
 
--- each row of a branch is answered at a moment of the slice
+-- each row of a branch is answered at each moment of its period
 pub row_answered : (past : Past) (version : ℕ) (slice : Span) (b : PlainBranch)
     (rows : List TimedRow)
     → ((m : ℕ) → covers slice m ≡ true → rows_at rows m
     ≡ set_of row_cmp (branch_answers (tables_of past version) (migrated past m version) b))
     → ((m : ℕ) → covers slice m ≡ false → rows_at rows m ≡ [])
-    → (row : TimedRow) → In row rows → row.period.start < row.period.end
-    → IsAnswered past version slice b (map shown row.values.items)
-row_answered past version slice b rows inside outside row i some =
-    let h = row_holds (λ m. set_of row_cmp
-    (branch_answers (tables_of past version) (migrated past m version) b)) slice rows inside outside
-    row i some in (
-      h.0,
-      h.1,
-      from_set row_cmp row_exact (map shown row.values.items)
-          (branch_answers (tables_of past version) (migrated past h.0 version) b) h.2,
-    )
+    → (row : TimedRow) → In row rows → (m : ℕ) → covers row.period m ≡ true
+    → IsAnswered past version m b (map shown row.values.items)
+row_answered past version slice b rows inside outside row i m held =
+    from_set row_cmp row_exact (map shown row.values.items)
+    (branch_answers (tables_of past version) (migrated past m version) b)
+    (row_at (λ n. set_of row_cmp
+    (branch_answers (tables_of past version) (migrated past n version) b)) slice rows inside outside
+    row i m held).1
 
 module _ (answers : PlainBranch → Row → Type 0) (by_branch : BorrowedByBranch) where
   -- values of one of the branches are so of all of them
@@ -311,15 +308,33 @@ module _ (answers : PlainBranch → Row → Type 0) (by_branch : BorrowedByBranc
       inr (among_branches (number + 1) branches i b (omega arith) is values a
       (subst (λ (n : ℕ). StaysBorrowed (by_branch n) (branch_of b).outs values) e s))
 
+module _ (past : Past) (version : ℕ) (by_branch : BorrowedByBranch) where
   pub branch_more : (number : ℕ) (branches : List Branch) (i : ℕ) (b : Branch)
       → i < length branches → b ≡ get_or branches i b → (old news new : List TimedRow)
       → new ≡ old ++ news
-      → EachRow (IsBorrowedBy answers by_branch number (branches_of branches)) old
-      → ((row : TimedRow) → In row news → answers (branch_of b) (map shown row.values.items))
+      → AlwaysBorrowedBy past version by_branch number (branches_of branches) old
+      → ((row : TimedRow) → In row news → (m : ℕ) → covers row.period m ≡ true
+      → IsAnswered past version m (branch_of b) (map shown row.values.items))
       → AllStayBorrowed (by_branch (number + i)) (branch_of b).outs news
-      → EachRow (IsBorrowedBy answers by_branch number (branches_of branches)) new
-  branch_more number branches i b below is old news new e l a s =
-      each_joined (IsBorrowedBy answers by_branch number (branches_of branches)) old news new e l
-      (all_members (IsBorrowedBy answers by_branch number (branches_of branches)) news
-      (λ row m. among_branches number branches i b below is row.values.items (a row m)
-      (each_member (StaysBorrowed (by_branch (number + i)) (branch_of b).outs) news row m s)))
+      → AlwaysBorrowedBy past version by_branch number (branches_of branches) new
+  branch_more number branches i b below is old news new e l a s = λ row k m held.
+      step row m held (in_append row old news (subst (λ (rs : List TimedRow). In row rs) e k))
+    where
+      step : (row : TimedRow) (m : ℕ) → covers row.period m ≡ true → In row old ⊎ In row news
+          → IsBorrowedBy (IsAnswered past version m) by_branch number (branches_of branches)
+          row.values.items
+      step row m held (inl j) = l row j m held
+      step row m held (inr j) =
+          among_branches (IsAnswered past version m) by_branch number branches i b below is
+          row.values.items (a row j m held)
+          (each_member (StaysBorrowed (by_branch (number + i)) (branch_of b).outs) news row j s)
+
+-- rows with the values of others, from their first moment on
+pub begun_borrowed : (past : Past) (query : PlainQuery) (by_branch : BorrowedByBranch)
+    (before after : List TimedRow) → HaveValuesOf before after
+    → AlwaysBorrowedBy past query.version by_branch 1 query.branches before
+    → AreBorrowedBy past query by_branch after
+begun_borrowed past query by_branch before after h l = λ row i.
+    let r = h row i in
+    subst (IsBorrowedBy (IsAnswered past query.version row.period.start) by_branch 1
+    query.branches) r.2 (l r.0 r.1 row.period.start r.3)

@@ -14,9 +14,9 @@ use Rattle.smo_meaning.specs.Past.{Past, tables_of}
 use Rattle.version_ways.specs.Migration.{migrated}
 use Rattle.version_groups.specs.Groups.{Kept, versions_in}
 use Rattle.join_exec.specs.Pieces.{stored_meaning}
-use Rattle.timed_choices.specs.BorrowedOutputs.{EachRow, BorrowedValues, is_plain, StaysBorrowed}
+use Rattle.timed_choices.specs.BorrowedOutputs.{BorrowedValues, is_plain, StaysBorrowed}
 use Rattle.plain_answers.specs.Branches.{PlainBranch, branch_answers}
-use Rattle.query_types.specs.Queries.{PlainQuery, slice_of}
+use Rattle.query_types.specs.Queries.{PlainQuery}
 use Rattle.piece_meaning.specs.Pieces.{PlainPiece, out_trees}
 use Rattle.piece_texts.specs.ExplainedPieces.{PlainExplained}
 use Rattle.query_exec.specs.QueryPieces.{IsAlive}
@@ -43,11 +43,10 @@ Spares kept by_branch e = (place : ℕ) → e.atom ≡ place + 1 → (m : ℕ) �
 abbrev pub AreSpared : Kept → BorrowedByBranch → List PlainExplained → Type 0
 AreSpared kept by_branch pieces = (e : PlainExplained) → In e pieces → Spares kept by_branch e
 
--- the branch answers the row at some moment of the slice, over the tables as they are migrated to
--- the version
-abbrev pub IsAnswered : Past → ℕ → Span → PlainBranch → Row → Type 0
-IsAnswered past version slice b row = (m : ℕ) × (covers slice m ≡ true)
-    × In row (branch_answers (tables_of past version) (migrated past m version) b)
+-- the branch answers the row at the moment, over the tables as they are migrated to the version
+abbrev pub IsAnswered : Past → ℕ → ℕ → PlainBranch → Row → Type 0
+IsAnswered past version m b row =
+    In row (branch_answers (tables_of past version) (migrated past m version) b)
 
 -- the values show what one of the branches answers, the first of which has this number: they are
 -- borrowed where an output of that branch is a plain column, and this value one of those
@@ -58,13 +57,21 @@ IsBorrowedBy answers by_branch number (b ∷ branches) values =
     (answers b (map shown values) × StaysBorrowed (by_branch number) b.outs values)
     ⊎ IsBorrowedBy answers by_branch (number + 1) branches values
 
--- so are those of each row of a query's answer
+-- so are those of each row of a query's answer, by what the branches answer at the first moment of
+-- the row's period
 abbrev pub AreBorrowedBy : Past → PlainQuery → BorrowedByBranch → List TimedRow → Type 0
-AreBorrowedBy past query by_branch rows =
-    EachRow (IsBorrowedBy (IsAnswered past query.version (slice_of query.when)) by_branch 1
-    query.branches) rows
+AreBorrowedBy past query by_branch rows = (row : TimedRow) → In row rows
+    → IsBorrowedBy (IsAnswered past query.version row.period.start) by_branch 1 query.branches
+    row.values.items
 
 -- ---- on the way there
+
+-- so are those of each row at each moment of its period, of branches over a version
+abbrev pub AlwaysBorrowedBy : Past → ℕ → BorrowedByBranch → ℕ → List PlainBranch → List TimedRow
+    → Type 0
+AlwaysBorrowedBy past version by_branch number branches rows = (row : TimedRow) → In row rows
+    → (m : ℕ) → covers row.period m ≡ true
+    → IsBorrowedBy (IsAnswered past version m) by_branch number branches row.values.items
 
 -- in a row of some outputs each whose value is to be borrowed, as of these columns, is a plain
 -- column

@@ -20,13 +20,13 @@ ghost use Rattle.query_exec.specs.Routes.{IsRoute};
 ghost use Rattle.piece_texts.specs.ExplainedPieces.{PlainExplained};
 ghost use Rattle.query_exec.specs.QueryPieces.{items_pieces, branch_pieces, branches_pieces};
 ghost use Rattle.query_exec.specs.QueryPieces.{AreAlive, IsAlive};
-ghost use Rattle.timed_choices.specs.BorrowedOutputs.{EachRow, AllStayBorrowed};
+ghost use Rattle.timed_choices.specs.BorrowedOutputs.{AllStayBorrowed};
 ghost use Rattle.joining.specs.Atoms.{AtomsBorrow};
-ghost use Rattle.query_exec.specs.Borrowed.{BorrowedByBranch, IsAnswered, IsBorrowedBy, AllSpare};
+ghost use Rattle.query_exec.specs.Borrowed.{BorrowedByBranch, AlwaysBorrowedBy, AllSpare};
 ghost use Rattle.query_exec.specs.Reads.{explained_read, reads_of};
 
 use crate::item::read_item;
-use crate::piece::{have_moments, put_rows};
+use crate::piece::put_rows;
 use crate::route::Route;
 use cond_expr::{ColRef, Cond, gather_references};
 use joining::{Atom, answer_choices};
@@ -176,10 +176,8 @@ pub(crate) fn answer_branches<'a, L: Ledger>(
         (branches_pieces (meaning_of book.now.rules.items (λ r. handles (r.vtable, r.value))
         (λ r. answers (r.vtable, r.value))) (versions_in groups.now) route.now.asked
         route.now.parts.items number (branches_of branches.now))
-        → IfOk result (λ rows. EachRow (IsBorrowedBy
-        (IsAnswered past route.now.asked route.now.slice) by_branch number (branches_of
-        branches.now))
-        rows.items) }
+        → IfOk result (λ rows. AlwaysBorrowedBy past route.now.asked by_branch number
+        (branches_of branches.now) rows.items) }
     ensures cost { (number : ℕ) → (alive : List PlainExplained)
         → AreAlive (versions_in groups.now) (branches_pieces
         (meaning_of book.now.rules.items (λ r. handles (r.vtable, r.value))
@@ -197,7 +195,6 @@ pub(crate) fn answer_branches<'a, L: Ledger>(
     let mut rows = Vec::new(alloc);
     for branch in branches {
         let news = answer_branch(alloc, groups, book, route, schema, branch, steps)?;
-        have_moments(&news);
         put_rows(&mut rows, news)?;
     }
     Ok(rows)

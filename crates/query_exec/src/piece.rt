@@ -51,8 +51,8 @@ fn has_moments(period: Period)
     let _start = period.start();
 }
 
-/// Each row has a moment, the first of its period. So nothing is done here.
-pub(crate) fn have_moments(rows: &[TimedRow<'_>])
+// Each row has a moment, the first of its period. So nothing is done here.
+fn have_moments(rows: &[TimedRow<'_>])
     ensures { (row : OneRow) → In row rows.now → row.period.start < row.period.end }
 {
     for row in rows {

@@ -39,7 +39,8 @@ use version_groups::Groups;
 /// that `explain` answers; and where it answers rows, at least as many as there are for any one of
 /// them. The texts of each output that is a plain column are borrowed by the stored tables, unless
 /// one of these pieces computes that text for the column of its item: each row is so of one of the
-/// branches that answer it in the slice. The one error is `NoMemory`, where memory runs out.
+/// branches that answer it where its period begins. The one error is `NoMemory`, where memory runs
+/// out.
 pub fn answer<'a, L: Ledger>(
     alloc: Global,
     groups: &'a Groups,

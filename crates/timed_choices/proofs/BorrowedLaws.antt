@@ -256,13 +256,13 @@ all_zero (d ∷ before) after c w n =
     (cells (before ++ c ∷ after) (nothing before ++ Int (pos 0) ∷ nothing after) w n)
     (all_zero before after c w n)
 
-number_of : Value → ℕ
+abbrev number_of : Value → ℕ
 number_of (Int (pos k)) = k
 number_of (Int (negsuc k)) = 0
 number_of (Text t) = 0
 
 -- more than each number that a CASE may choose as a constant
-beyond : Tree → ℕ
+abbrev beyond : Tree → ℕ
 beyond (column w n) = 0
 beyond (constant x) = suc (number_of x)
 beyond (length_of t) = 0

@@ -10,7 +10,7 @@ use Rattle.prima_base.specs.Timed.{rows_at, entries_of}
 use Rattle.prima_base.specs.declared.timed_row.TimedRow.{TimedRow}
 use Rattle.coalesce.specs.Listed.{is_listing}
 use Rattle.coalesce.proofs.Sorted.{coalesced}
-use Rattle.coalesce.proofs.Values.{have_values, moved_have_values}
+use Rattle.coalesce.proofs.Values.{have_values, moved_have_values, listed_have_values}
 use Rattle.coalesce.proofs.Listed.{same_at, unlisted_at}
 use Rattle.coalesce.proofs.Unmoved.{unmoved, unjoined_listing}
 use Rattle.coalesce.proofs.coalesce_in_place.Goals as goal
@@ -67,6 +67,11 @@ returns-then-is_listing-clause-inside c = unlisted_at (rows_at c.args.rows.now.i
     (unmoved c.args.slice c.args.rows.now.items
     (ap (is_listing c.args.slice) (sym c.deref.ensures.value) ∙ sym c.is_listing.ensures
     ∙ c.if-is_listing.true))
+
+pub returns-then-is_listing-clause-values : goal.returns-then-is_listing-clause-values
+returns-then-is_listing-clause-values c = listed_have_values c.args.slice c.args.rows.now.items
+    (ap (is_listing c.args.slice) (sym c.deref.ensures.value) ∙ sym c.is_listing.ensures
+    ∙ c.if-is_listing.true)
 
 -- ---- the groups in order are the list
 

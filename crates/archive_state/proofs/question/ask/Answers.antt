@@ -6,12 +6,11 @@ use Rattle.smo_types.specs.Commands.{PlainVersion}
 use Rattle.smo_meaning.specs.Checks.{Fault}
 use Rattle.smo_meaning.specs.Past.{tables_of}
 use Rattle.query_meaning.specs.Atoms.{with_atoms}
-use Rattle.query_types.specs.Queries.{PlainQuery, query_of, slice_of}
+use Rattle.query_types.specs.Queries.{PlainQuery, query_of}
 use Rattle.version_groups.specs.Groups.{versions_in}
 use Rattle.piece_meaning.specs.Books.{book_of}
 use Rattle.query_exec.specs.Accepted.{IsAccepted}
-use Rattle.join_levels.proofs.CoalescedRows.{each_by_values}
-use Rattle.query_exec.specs.Borrowed.{IsAnswered, IsBorrowedBy, AreBorrowedBy}
+use Rattle.query_exec.specs.Borrowed.{AreBorrowedBy}
 use Rattle.query_exec.specs.QueryPieces.{ArePieces}
 use Rattle.archive_state.specs.Asking.{IfAccepted, IsReady, query_asked}
 use Rattle.archive_state.proofs.question.ask.Goals as goal
@@ -85,10 +84,8 @@ pub returns-clause-borrowed : goal.returns-clause-borrowed
 returns-clause-borrowed g c = λ past represents pieces are by_branch spared.
     let query = query_of c.args.query.now in
     let h : IsReady past query c.in_ok-atoms.atoms = c.in_ok-atoms.ensures past represents in
-    each_by_values (IsBorrowedBy (IsAnswered past query.version (slice_of query.when)) by_branch 1
-    (query_asked past query).branches) c.in_ok-rows.rows.items c.keep.new.rows.items
-    c.keep.ensures.values
-    (subst (λ (q : PlainQuery). AreBorrowedBy past q by_branch c.in_ok-rows.rows.items) h.atoms
+    let all : AreBorrowedBy past (query_asked past query) by_branch c.in_ok-rows.rows.items =
+    subst (λ (q : PlainQuery). AreBorrowedBy past q by_branch c.in_ok-rows.rows.items) h.atoms
     (c.in_ok-rows.ensures.borrowed past represents pieces
     (subst (λ (q : PlainQuery). ArePieces (book_of
     (λ r. (goal.Rule-dyn g (r.vtable, r.value)).handles r.value)
@@ -103,7 +100,8 @@ returns-clause-borrowed g c = λ past represents pieces are by_branch spared.
     (λ r. (goal.Rule-dyn g (r.vtable, r.value)).answers r.value) c.args.book.now.rules.items)
     past.versions (with_atoms (tables_of past query.version) query) pieces) pieces) h.accepted
     are)))
-    by_branch spared))
+    by_branch spared) in
+    λ row m. all row (c.keep.ensures.among row m)
 
 pub returns-clause-least : goal.returns-clause-least
 returns-clause-least g c = λ past represents pieces are e m.

@@ -1,4 +1,4 @@
-use Rattle.std.proofs.Common.{◌≡◌, refl, ap, subst, ◌∙◌, rules, List}
+use Rattle.std.proofs.Common.{◌≡◌, ap, subst, ◌∙◌, rules, List}
 use Rattle.std.proofs.lemmas.Fn.{filter_same}
 use Rattle.std.specs.List.{filter}
 use Rattle.relations.specs.Sets.{In}
@@ -19,11 +19,8 @@ pub returns-clause-rows : goal.returns-clause-rows
 returns-clause-rows c = ap entries_of (kept_rows (goal.at.returns-clause-rows c).After-retain)
     ∙ kept_entries c.args.conditions.now c.args.rows.now.items
 
-pub returns-clause-values : goal.returns-clause-values
-returns-clause-values c = λ row m. (
-  row,
-  (from_filter (λ (r : TimedRow). keeps_all c.args.conditions.now r.period) row
-      c.args.rows.now.items (subst (λ (l : List TimedRow). In row l)
-      (kept_rows (goal.at.returns-clause-values c).After-retain) m)).0,
-  refl,
-)
+pub returns-clause-among : goal.returns-clause-among
+returns-clause-among c = λ row m.
+    (from_filter (λ (r : TimedRow). keeps_all c.args.conditions.now r.period) row
+    c.args.rows.now.items (subst (λ (l : List TimedRow). In row l)
+    (kept_rows (goal.at.returns-clause-among c).After-retain) m)).0

@@ -1,7 +1,6 @@
 use Rattle.std.proofs.Common.{◌≡◌, ◌<◌, ◌+◌, ℕ, List, length, get_or, drop, sym, ap, subst, ◌∙◌}
 use Rattle.std.proofs.Common.{inl, arith}
 use Rattle.std.proofs.lemmas.List.{take_all, drop_all}
-use Rattle.relations.specs.Sets.{In}
 use Rattle.prima_base.specs.declared.timed_row.TimedRow.{TimedRow}
 use Rattle.prima_base.specs.Timed.{rows_at}
 use Rattle.smo_meaning.specs.Past.{tables_of}
@@ -12,8 +11,7 @@ use Rattle.piece_meaning.specs.Books.{book_of}
 use Rattle.query_types.specs.Branches.{branch_of, branches_of}
 use Rattle.query_types.specs.declared.branch.Branch.{Branch}
 use Rattle.query_exec.specs.QueryPieces.{branches_pieces, IsAlive}
-use Rattle.timed_choices.specs.BorrowedOutputs.{EachRow}
-use Rattle.query_exec.specs.Borrowed.{IsAnswered, IsBorrowedBy, AllSpare}
+use Rattle.query_exec.specs.Borrowed.{AlwaysBorrowedBy, AllSpare}
 use Rattle.query_exec.specs.Reads.{reads_of}
 use Rattle.query_exec.proofs.AliveLaws.{Owes, owes_all, owes_within, IsLeftOrRead, all_read}
 use Rattle.query_exec.proofs.BranchRows.{none_answered, next_branch, branch_owes, branch_left}
@@ -32,8 +30,9 @@ loop-branch-init g c = record {
       (migrated past m c.args.route.now.asked)) m;
   borrowed = λ past represents number by_branch h.
       let e : number ≡ number + 0 = omega arith in (
-        subst (EachRow (IsBorrowedBy (IsAnswered past c.args.route.now.asked c.args.route.now.slice)
-            by_branch number (branches_of c.args.branches.now))) (sym c.new-rows.ensures.items) tt,
+        subst (AlwaysBorrowedBy past c.args.route.now.asked by_branch number
+            (branches_of c.args.branches.now)) (sym c.new-rows.ensures.items)
+            (λ row m. absurd m),
         subst (λ (n : ℕ). AllSpare c.args.groups.now by_branch
             (branches_pieces (book_of (λ r. (goal.Rule-dyn g (r.vtable, r.value)).handles r.value)
             (λ r. (goal.Rule-dyn g (r.vtable, r.value)).answers r.value)
@@ -96,13 +95,12 @@ loop-branch-preserved g c =
           (λ r. (goal.Rule-dyn g (r.vtable, r.value)).answers r.value)
           c.args.book.now.rules.items) c.args.route.now.asked c.args.route.now.parts.items bs i
           b below is number before.1 in (
-            branch_more (IsAnswered past c.args.route.now.asked c.args.route.now.slice) by_branch
-                number bs i b below is c.loop-branch.rows.items c.in_ok-news.news.items
-                c.put_rows.new.rows.items c.in_ok-put_rows.ensures.items before.0
-                (λ row m. row_answered past c.args.route.now.asked c.args.route.now.slice
-                (branch_of b) c.in_ok-news.news.items (c.in_ok-news.ensures.rows past represents)
-                c.in_ok-news.ensures.inside row m (c.have_moments.ensures row
-                (subst (In row) (sym c.deref.ensures.value) m)))
+            branch_more past c.args.route.now.asked by_branch number bs i b below is
+                c.loop-branch.rows.items c.in_ok-news.news.items c.put_rows.new.rows.items
+                c.in_ok-put_rows.ensures.items before.0
+                (row_answered past c.args.route.now.asked c.args.route.now.slice (branch_of b)
+                c.in_ok-news.news.items (c.in_ok-news.ensures.rows past represents)
+                c.in_ok-news.ensures.inside)
                 (c.in_ok-news.ensures.borrowed (number + i) by_branch both.0),
             both.1,
           );

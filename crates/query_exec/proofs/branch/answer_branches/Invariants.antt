@@ -11,8 +11,7 @@ use Rattle.piece_texts.specs.ExplainedPieces.{PlainExplained}
 use Rattle.query_types.specs.Branches.{branches_of}
 use Rattle.query_exec.specs.Accepted.{MayBranches}
 use Rattle.query_exec.specs.QueryPieces.{branches_pieces, AreAlive, IsAlive}
-use Rattle.timed_choices.specs.BorrowedOutputs.{EachRow}
-use Rattle.query_exec.specs.Borrowed.{BorrowedByBranch, IsAnswered, IsBorrowedBy, AllSpare}
+use Rattle.query_exec.specs.Borrowed.{BorrowedByBranch, AlwaysBorrowedBy, AllSpare}
 use Rattle.query_exec.specs.Reads.{reads_of}
 use Rattle.query_exec.proofs.AliveLaws.{Owes, IsLeftOrRead}
 use Rattle.query_exec.proofs.branch.answer_branches.Given as goal
@@ -28,8 +27,7 @@ invariant-loop-branch g l = record {
       (branches_pieces (book_of (λ r. (goal.Rule-dyn g (r.vtable, r.value)).handles r.value)
       (λ r. (goal.Rule-dyn g (r.vtable, r.value)).answers r.value) l.book.rules.items)
       (versions_in l.groups) l.route.asked l.route.parts.items number (branches_of l.branches))
-      → EachRow (IsBorrowedBy (IsAnswered past l.route.asked l.route.slice) by_branch number
-      (branches_of l.branches)) l.rows.items
+      → AlwaysBorrowedBy past l.route.asked by_branch number (branches_of l.branches) l.rows.items
       × AllSpare l.groups by_branch
       (branches_pieces (book_of (λ r. (goal.Rule-dyn g (r.vtable, r.value)).handles r.value)
       (λ r. (goal.Rule-dyn g (r.vtable, r.value)).answers r.value) l.book.rules.items)

@@ -11,13 +11,12 @@ use Rattle.piece_meaning.specs.Books.{book_of}
 use Rattle.piece_texts.specs.ExplainedPieces.{PlainExplained}
 use Rattle.query_types.specs.Branches.{branches_of}
 use Rattle.query_types.specs.declared.branch.Branch.{Branch}
-use Rattle.query_types.specs.Queries.{query_of, slice_of}
+use Rattle.query_types.specs.Queries.{query_of}
 use Rattle.query_exec.specs.Accepted.{MayBranches}
-use Rattle.join_levels.proofs.CoalescedRows.{each_by_values}
-use Rattle.timed_choices.specs.BorrowedOutputs.{EachRow}
-use Rattle.query_exec.specs.Borrowed.{IsAnswered, IsBorrowedBy, AllSpare}
+use Rattle.query_exec.specs.Borrowed.{AlwaysBorrowedBy, AllSpare}
 use Rattle.query_exec.specs.QueryPieces.{branches_pieces, AreAlive}
 use Rattle.query_exec.proofs.AliveLaws.{alive_in, in_alive}
+use Rattle.query_exec.proofs.BorrowedRows.{begun_borrowed}
 use Rattle.query_exec.proofs.WholeAnswers.{may_all, whole_listing, whole_answer, pieces_here}
 use Rattle.query_exec.proofs.query_answer.answer.Goals as goal
 
@@ -91,19 +90,12 @@ returns-clause-cost g c = λ pieces h. c.answer_branches.ensures.cost 1 pieces
 pub returns-clause-borrowed : goal.returns-clause-borrowed
 returns-clause-borrowed g c = λ past shows pieces h by_branch spared.
     let query = query_of c.args.query.now in
-    each_by_values (IsBorrowedBy (IsAnswered past query.version (slice_of query.when)) by_branch 1
-    query.branches)
-    c.in_ok-rows.rows.items c.coalesce_in_place.new.rows.items
-    c.coalesce_in_place.ensures.values
-    (subst (λ (bs : List Branch). EachRow (IsBorrowedBy
-    (IsAnswered past query.version (slice_of query.when)) by_branch 1 (branches_of bs))
+    begun_borrowed past query by_branch c.in_ok-rows.rows.items
+    c.coalesce_in_place.new.rows.items c.coalesce_in_place.ensures.values
+    (subst (λ (bs : List Branch). AlwaysBorrowedBy past query.version by_branch 1 (branches_of bs)
     c.in_ok-rows.rows.items) c.deref.ensures.value
-    (subst (λ (s : Span). EachRow (IsBorrowedBy (IsAnswered past query.version s) by_branch 1
-    (branches_of c.deref.result.now)) c.in_ok-rows.rows.items)
-    (c.in_ok-route.ensures.slice ∙ c.slice-slice.ensures.value)
-    (subst (λ (v : ℕ). EachRow (IsBorrowedBy (IsAnswered past v c.in_ok-route.route.slice) by_branch
-    1
-    (branches_of c.deref.result.now)) c.in_ok-rows.rows.items) c.in_ok-route.ensures.asked
+    (subst (λ (v : ℕ). AlwaysBorrowedBy past v by_branch 1 (branches_of c.deref.result.now)
+    c.in_ok-rows.rows.items) c.in_ok-route.ensures.asked
     (c.in_ok-rows.ensures.borrowed past shows 1 by_branch
     (subst (λ (all : List PlainExplained). AllSpare c.args.groups.now by_branch all)
     (sym (pieces_here (book_of (λ r. (goal.Rule-dyn g (r.vtable, r.value)).handles r.value)
@@ -112,7 +104,7 @@ returns-clause-borrowed g c = λ past shows pieces h by_branch spared.
     c.in_ok-route.route.parts.items c.slice-slice.result (branches_of c.deref.result.now)
     c.in_ok-route.ensures.asked c.in_ok-route.ensures.parts c.slice-slice.ensures.value
     (ap branches_of c.deref.ensures.value)))
-    (λ e alive. spared e (alive_in (versions_in c.args.groups.now) _ pieces e h alive)))))))
+    (λ e alive. spared e (alive_in (versions_in c.args.groups.now) _ pieces e h alive))))))
 
 pub returns-clause-least : goal.returns-clause-least
 returns-clause-least g c = λ pieces h e m. c.in_ok-rows.ensures.least 1 e
