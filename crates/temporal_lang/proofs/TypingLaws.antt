@@ -3,7 +3,7 @@ use Rattle.std.specs.Prelude.{◌≡◌, ℕ, ◌+◌, ◌*◌, ◌<◌, ◌≤�
 use Rattle.std.specs.Prelude.{Some, None, Err}
 use Rattle.std.proofs.Common.{refl, sym, ap, subst, ◌∙◌, get_or, drop, append_assoc, arith}
 use Rattle.std.specs.List.{flat_map}
-use Rattle.std.specs.Option.{option_map}
+use Rattle.std.specs.Option.{option_or, option_map}
 use Rattle.prima_base.specs.declared.refusal.Refusal.TheVariants.{WrongType}
 use Rattle.cond_expr.specs.declared.expr.ColRef.{ColRef}
 use Rattle.cond_expr.specs.declared.expr.Expr.{Expr}
@@ -12,7 +12,7 @@ use Rattle.cond_expr.specs.Seen.{tree}
 use Rattle.cond_expr.specs.Sizes.{nodes_of}
 use Rattle.cond_expr.specs.Kinds.{Kinds}
 use Rattle.cond_expr.specs.Faults.{references, untyped, test_untyped, first_of, first_unknown}
-use Rattle.cond_expr.specs.Faults.{earlier}
+use Rattle.cond_expr.specs.Faults.{option_or}
 use Rattle.cond_expr.proofs.FaultLaws.{unknown_append}
 use Rattle.smo_meaning.specs.First.{first_refusal}
 use Rattle.smo_meaning.proofs.Firsts.{first_after, first_before, first_at, first_later, first_alone}
@@ -28,7 +28,7 @@ use Rattle.query_meaning.proofs.FillLaws.{map_both}
 
 -- ---- references
 
-earlier_none : (a b : Option (List ℕ)) → earlier a b ≡ None → (a ≡ None) × (b ≡ None)
+earlier_none : (a b : Option (List ℕ)) → option_or a b ≡ None → (a ≡ None) × (b ≡ None)
 earlier_none None b h = (refl, h)
 earlier_none (Some n) b h = absurd (cc)
 
