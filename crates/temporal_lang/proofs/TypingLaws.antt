@@ -12,7 +12,6 @@ use Rattle.cond_expr.specs.Seen.{tree}
 use Rattle.cond_expr.specs.Sizes.{nodes_of}
 use Rattle.cond_expr.specs.Kinds.{Kinds}
 use Rattle.cond_expr.specs.Faults.{references, untyped, test_untyped, first_of, first_unknown}
-use Rattle.cond_expr.specs.Faults.{option_or}
 use Rattle.cond_expr.proofs.FaultLaws.{unknown_append}
 use Rattle.smo_meaning.specs.First.{first_refusal}
 use Rattle.smo_meaning.proofs.Firsts.{first_after, first_before, first_at, first_later, first_alone}

@@ -7,7 +7,7 @@ use Rattle.timed_choices.specs.BorrowedOutputs.{StaysBorrowed}
 use Rattle.timed_choices.proofs.BorrowedLaws.{stays_more}
 use Rattle.cond_expr.specs.Rows.{cells}
 use Rattle.timed_choices.proofs.OneMore.{map_step}
-use Rattle.joining.proofs.answer.output_row.Goals as goal
+use Rattle.join_levels.proofs.answer.output_row.Goals as goal
 
 pub loop-out-preserved : goal.loop-out-preserved
 loop-out-preserved c = record {

@@ -4,7 +4,7 @@ use Rattle.cond_expr.specs.Seen.{tree}
 use Rattle.cond_expr.specs.Values.{value}
 use Rattle.cond_expr.specs.Rows.{cells}
 use Rattle.timed_choices.specs.BorrowedOutputs.{BorrowedValues, RowBorrows, StaysBorrowed}
-use Rattle.joining.proofs.answer.output_row.Given as goal
+use Rattle.join_levels.proofs.answer.output_row.Given as goal
 
 abbrev pub invariant-loop-out : goal.invariant-loop-out
 invariant-loop-out l = record {
