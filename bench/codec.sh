@@ -8,16 +8,9 @@ top=$(cd "$(dirname "$0")/.." && pwd)
 [ $# -gt 0 ] || set -- 250000 4000000
 scratch=$(mktemp -d)
 trap 'rm -rf "$scratch"' EXIT
+"$top/bench/libraries" "$scratch" command_codec
+echo 'codec_again: command_codec' >>"$scratch/crates.txt"
 mkdir -p "$scratch/crates/codec_again/src"
-below='relations prima_base cond_expr schema_catalog smo_types smo_meaning command_spelling'
-below="$below command_encoder command_codec"
-for crate in $below; do
-    mkdir "$scratch/crates/$crate"
-    (cd "$top/crates/$crate" && tar cf - --exclude=./out .) | tar xf - -C "$scratch/crates/$crate"
-    grep -E "^$crate:" "$top/crates.txt" >>"$scratch/crates.txt"
-done
-echo "codec_again: $below" >>"$scratch/crates.txt"
-cp "$top/HANDLES" "$scratch/HANDLES"
 cat >"$scratch/crates/codec_again/src/main.rt" <<'RATTLE'
 //! Reads standard input as a command as often as its first byte says, and writes it again.
 #![tactic(auto)]

@@ -9,14 +9,9 @@ top=$(cd "$(dirname "$0")/.." && pwd)
 [ $# -gt 0 ] || set -- 250000 1000000
 scratch=$(mktemp -d)
 trap 'rm -rf "$scratch"' EXIT
+"$top/bench/libraries" "$scratch" lexer
+echo 'count_tokens: lexer' >>"$scratch/crates.txt"
 mkdir -p "$scratch/crates/count_tokens/src"
-for crate in relations prima_base cond_expr lexer; do
-    mkdir "$scratch/crates/$crate"
-    (cd "$top/crates/$crate" && tar cf - --exclude=./out .) | tar xf - -C "$scratch/crates/$crate"
-done
-grep -E '^(relations|prima_base|cond_expr|lexer):' "$top/crates.txt" >"$scratch/crates.txt"
-echo 'count_tokens: lexer cond_expr prima_base' >>"$scratch/crates.txt"
-cp "$top/HANDLES" "$scratch/HANDLES"
 cat >"$scratch/crates/count_tokens/src/main.rt" <<'RATTLE'
 //! Counts the tokens of standard input, and the conditions in it, between which stands one token
 //! each.
