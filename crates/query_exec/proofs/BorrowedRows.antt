@@ -79,8 +79,8 @@ plain_borrows which (c ∷ columns) (t ∷ outs) (v ∷ values) p s = (
   plain_borrows which columns outs values p.1 s.1,
 )
 
--- rows that are a relation at each moment of a period, and nothing at any other: each shows, at each
--- moment of its own, a row of it
+-- rows that are a relation at each moment of a period, and nothing at any other: each shows, at
+-- each moment of its own, a row of it
 module _ (relation : ℕ → Relation) (period : Span) (rows : List TimedRow)
     (inside : (m : ℕ) → covers period m ≡ true → rows_at rows m ≡ relation m)
     (outside : (m : ℕ) → covers period m ≡ false → rows_at rows m ≡ []) where
