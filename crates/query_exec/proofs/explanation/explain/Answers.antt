@@ -12,7 +12,7 @@ use Rattle.query_exec.proofs.explanation.explain.Goals as goal
 
 pub explain_branches-requires-clause-read : goal.explain_branches-requires-clause-read
 explain_branches-requires-clause-read g c =
-    let h = c.requires.shown in
+    let h = c.requires.answerable in
     subst (λ (bs : List Branch). MayBranches (versions_in c.args.groups.now) c.in_ok-route.route
     (branches_of bs)) (sym c.deref.ensures.value)
     (may_all c.args.groups.now h.past h.asked (query_of c.args.query.now) h.represents h.accepted
@@ -21,7 +21,7 @@ explain_branches-requires-clause-read g c =
 
 pub explain_branches-requires-clause-few : goal.explain_branches-requires-clause-few
 explain_branches-requires-clause-few g c =
-    let h = c.requires.shown in
+    let h = c.requires.answerable in
     few_branches c.args.groups.now h.past h.asked
     (query_of c.args.query.now) h.represents h.accepted
     c.deref.result.now (ap branches_of c.deref.ensures.value)
