@@ -1,42 +1,74 @@
 //! Inverses of an operator: one that leads back, one that leads elsewhere, and one that is refused.
-ghost use Rattle.smo_meaning.specs.After.{IsValid};
+ghost use Rattle.std.specs.Prelude.{◌≡◌, None, IsTrue};
+ghost use Rattle.smo_types.specs.Operators.{operator_of};
+ghost use Rattle.smo_meaning.specs.After.{IsValid, op_fault, HasFewNodes};
 
 use crate::operator::{are_small, is_small, next, operator, two_tables};
 use prima_base::{NoMemory, OpRefusal};
 use schema_catalog::Schema;
-use smo_ops::{InverseFault, check_inverse};
+use smo_ops::{InverseFault, Op, check_inverse};
 use std::alloc::Global;
 use std::test::Fail;
 
-// What `check_inverse` answers to the operator and the inverse of one operator that the texts
-// spell; none where one of them spells none, or the operator is refused.
+// Whether the operator is small, and accepted on the schema.
+fn is_accepted(alloc: Global, before: &Schema, op: &Op) -> bool
+    requires { IsValid before.now }
+    ensures { IsTrue result → (op_fault before.now (operator_of op.now) ≡ None)
+        × HasFewNodes (operator_of op.now) }
+{
+    match next(alloc, before, op) {
+        Some(_) => is_small(op),
+        None => false,
+    }
+}
+
+// What `check_inverse` answers to the operator and its inverse; none where the operator is refused.
 fn judged(
     alloc: Global,
     before: &Schema,
-    text: &[u8],
-    inverse_text: &[u8],
+    op: &Op,
+    inverse: &[Op],
+) -> Option<Result<(), InverseFault>>
+    requires { IsValid before.now }
+{
+    if !is_accepted(alloc, before, op) || !are_small(inverse) {
+        return None;
+    }
+    Some(check_inverse(alloc, before, op, inverse))
+}
+
+// The same, of the inverse that the text spells; none where it spells no operator.
+fn judged_text(
+    alloc: Global,
+    before: &Schema,
+    op: &Op,
+    inverse: &[u8],
 ) -> Result<Option<Result<(), InverseFault>>, NoMemory>
     requires { IsValid before.now }
 {
-    let Some(op) = operator(alloc, text) else {
-        return Ok(None);
-    };
-    let Some(back) = operator(alloc, inverse_text) else {
-        return Ok(None);
-    };
     let mut list = Vec::new(alloc);
-    list.push(back)?;
-    let inverse = list.as_slice();
-    if !is_small(&op) {
+    if let Some(inverse) = operator(alloc, inverse) {
+        list.push(inverse)?;
+    }
+    if list.is_empty() {
         return Ok(None);
     }
-    if !are_small(inverse) {
-        return Ok(None);
+    Ok(judged(alloc, before, op, &list))
+}
+
+// The same, of the operator that the text spells.
+fn judged_texts(
+    alloc: Global,
+    before: &Schema,
+    op: &[u8],
+    inverse: &[u8],
+) -> Result<Option<Result<(), InverseFault>>, NoMemory>
+    requires { IsValid before.now }
+{
+    match operator(alloc, op) {
+        Some(op) => judged_text(alloc, before, &op, inverse),
+        None => Ok(None),
     }
-    let Some(_next) = next(alloc, before, &op) else {
-        return Ok(None);
-    };
-    Ok(Some(check_inverse(alloc, before, &op, inverse)))
 }
 
 fn leads_back(judged: &Option<Result<(), InverseFault>>) -> bool {
@@ -67,8 +99,13 @@ fn an_inverse_is_judged(rt: HostRuntime) -> Result<(), Fail> {
         return Err(Fail::new("two tables are made"));
     };
     let add = b"ADD COLUMN c AS LENGTH(b) INTO r";
-    assert!(rt; leads_back(&judged(alloc, &before, add, b"DROP COLUMN c FROM r")?));
-    assert!(rt; misses(&judged(alloc, &before, add, b"DROP COLUMN b FROM r")?, b"r"));
-    assert!(rt; has_no_table(&judged(alloc, &before, add, b"DROP TABLE t")?, b"t"));
+    assert!(rt; leads_back(&judged_texts(alloc, &before, add, b"DROP COLUMN c FROM r")?));
+    assert!(rt;
+        misses(
+            &judged_texts(alloc, &before, add, b"DROP COLUMN b FROM r")?,
+            b"r"
+        )
+    );
+    assert!(rt; has_no_table(&judged_texts(alloc, &before, add, b"DROP TABLE t")?, b"t"));
     Ok(())
 }
