@@ -6,6 +6,7 @@ use Rattle.version_groups.specs.Steps.{a_command}
 use Rattle.archive_file.specs.LogRecords.{logged, record_of}
 use Rattle.archive_state.specs.AcceptedCommands.{accepted_command, IsAcceptedAfter}
 use Rattle.archive_state.proofs.Judging.{borrowed}
+use Rattle.archive_core.specs.Fields.{standing_of, place_of, limit_of}
 use Rattle.archive_core.specs.Committing.{Commits}
 use Rattle.archive_core.proofs.archive.Archive.commit.Goals as goal
 
@@ -43,7 +44,9 @@ accept-requires-in-Evolve-clause-sealed g c = c.in_ok-accepted.ensures.sealed
 
 pub returns-in-Changes-clause-commits : goal.returns-in-Changes-clause-commits
 returns-in-Changes-clause-commits g c past represents =
-    subst (λ (command : PlainCommand). Commits past command _ _ _ _ _)
+    subst (λ (command : PlainCommand). Commits past command (place_of c.args.self.now)
+    (limit_of c.args.self.now) (standing_of c.args.self.now) c.accept.result
+    (standing_of c.accept.new.self))
     (ap (λ (items : List Change). a_command c.in-Changes.stamp (changing (changes_of items)))
     c.deref.ensures.value ∙ ap accepted_command (sym c.in-Changes.is)
     ∙ c.in_ok-accepted.ensures.same)
@@ -53,9 +56,11 @@ returns-in-Changes-clause-commits g c past represents =
     (subst (IsAcceptedAfter past) c.in-Changes.is
     (c.in_ok-accepted.ensures.judged past represents))))
 
-pub returns-in-Evolve-clause-commits : goal.returns-in-Evolve-clause-commits
-returns-in-Evolve-clause-commits g c past represents =
-    subst (λ (command : PlainCommand). Commits past command _ _ _ _ _)
+pub returns-clause-commits : goal.returns-clause-commits
+returns-clause-commits g c past represents =
+    subst (λ (command : PlainCommand). Commits past command (place_of c.args.self.now)
+    (limit_of c.args.self.now) (standing_of c.args.self.now) c.accept-in-Evolve.result
+    (standing_of c.accept-in-Evolve.new.self))
     (ap accepted_command (sym c.in-Evolve.is) ∙ c.in_ok-accepted.ensures.same)
     (c.accept-in-Evolve.ensures.commits past represents
     (subst (IsAcceptedAfter past) c.in-Evolve.is
