@@ -9,8 +9,8 @@ use Rattle.version_groups.specs.Groups.{Kept, versions_in}
 use Rattle.rewrite_chains.specs.Beginnings.{IsQuestion, asking}
 use Rattle.archive_tests.proofs.version.may_be_asked.Goals as goal
 
-pub schema_of-requires : goal.schema_of-requires-clause-there
-schema_of-requires c =
+pub schema_of-schema-requires : goal.schema_of-schema-requires
+schema_of-schema-requires c =
     let groups = ap (λ (k : Kept). length k.versions) c.groups.ensures in
     let same = ap length c.requires.same in
     omega (arith, groups, same, c.requires.there)
