@@ -360,9 +360,9 @@ impl<D: Disk> Archive<D> {
         ensures acknowledged { OnOk result (Acknowledges (below self.old) (below self.new)
             (place_of self.old) (place_of self.new) (sealed_record sealed.now)) }
     {
-        let next = self.state.prepare(judged)?;
+        let prepared = self.state.prepare(judged)?;
         self.put(sealed)?;
-        Ok(self.state.carry_out(next))
+        Ok(self.state.carry_out(prepared))
     }
 
     // Puts a record after the others. What stands in memory stays as it is.

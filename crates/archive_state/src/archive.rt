@@ -10,7 +10,7 @@ use std::alloc::Global;
 use std::marker::Model;
 use std::sync::ledger::Ledger;
 use temporal_lang::Query;
-use version_groups::{Groups, Judged, Next};
+use version_groups::{Groups, Judged, PreparedGroups};
 
 /// What was accepted: the versions with their stored tables, and the last stamp. Every archive
 /// represents a past.
@@ -137,14 +137,14 @@ impl ArchiveState {
     /// taken, and `carry_out` then accepts it. The archive represents the past that it represented,
     /// with the same stored tables but for room. The one error is `NoMemory`, where memory runs
     /// out.
-    pub fn prepare<'a>(&mut self, judged: Judged<'a>) -> Result<Next<'a>, NoMemory>
+    pub fn prepare<'a>(&mut self, judged: Judged<'a>) -> Result<PreparedGroups<'a>, NoMemory>
         requires { (past : Past) × RepresentsPast self.old past × IsAccepted past judged }
         ensures before { IsAsBefore self.old self.new }
         ensures represents { (past : Past) → RepresentsPast self.old past
             → RepresentsPast self.new past }
-        ensures next { (past : Past) → RepresentsPast self.old past → IsAccepted past judged.entry
-            → IfOk result (λ next. Prepares self.new.groups past (judged_command judged.entry)
-            next) }
+        ensures prepared { (past : Past) → RepresentsPast self.old past
+            → IsAccepted past judged.entry → IfOk result (λ prepared.
+            Prepares self.new.groups past (judged_command judged.entry) prepared) }
     {
         self.groups.prepare(judged)
     }
@@ -152,19 +152,19 @@ impl ArchiveState {
     /// Carries out what `prepare` made of a command and this very archive, which then
     /// represents the past with the command. It takes no memory, and cannot fail.
     #[tactic(auto, using(crate::proofs::CarriedOut::represents_next, crate::proofs::CarriedOut::newest_next))]
-    pub fn carry_out(&mut self, next: Next<'_>) -> Done
+    pub fn carry_out(&mut self, prepared: PreparedGroups<'_>) -> Done
         requires { (past : Past) × (command : PlainCommand) × RepresentsPast self.old past
-            × Prepares self.old.groups past command next }
+            × Prepares self.old.groups past command prepared }
         ensures done { (past : Past) → (command : PlainCommand) → RepresentsPast self.old past
-            → Prepares self.old.groups past command next.entry
+            → Prepares self.old.groups past command prepared.entry
             → IsDone past command result × RepresentsPast self.new (past_with past command) }
         ensures represents { RepresentsSome self.new }
     {
-        let stamp = next.stamp();
-        let gained = next.gained();
-        let lost = next.lost();
-        let makes_version = next.makes_version();
-        self.groups.install(next);
+        let stamp = prepared.stamp();
+        let gained = prepared.gained();
+        let lost = prepared.lost();
+        let makes_version = prepared.makes_version();
+        self.groups.install(prepared);
         self.last = Some(stamp);
         Done {
             stamp,
@@ -272,7 +272,7 @@ impl ArchiveState {
             → Accepts past (judged_command judged.entry) self.old result self.new }
         ensures represents { RepresentsSome self.new }
     {
-        let next = self.prepare(judged)?;
-        Ok(self.carry_out(next))
+        let prepared = self.prepare(judged)?;
+        Ok(self.carry_out(prepared))
     }
 }

@@ -25,4 +25,4 @@ pub use given_row::GivenRow;
 pub use restoration::Cell;
 pub use row_order::{BorrowedRows, Cut};
 pub use scan::{KeyEntry, KeyScan};
-pub use table::{Prepared, StoredTable};
+pub use table::{PreparedTable, StoredTable};

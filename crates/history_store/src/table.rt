@@ -44,14 +44,14 @@ impl Model for StoredTable {
 /// A change that was made ready: it is installed into the table that prepared it. Texts of the
 /// gained rows may stand elsewhere until then.
 #[derive(Drop)]
-pub struct Prepared<'a> {
+pub struct PreparedTable<'a> {
     stamp: u64,
     lost: Vec<usize>,
     gained: Vec<GivenRow<'a>>,
     after: After,
 }
 
-impl<'a> Model for Prepared<'a> {
+impl<'a> Model for PreparedTable<'a> {
     ghost use Rattle.table_meaning.specs.Change.{PreparedChange};
 
     ghost Value = { PreparedChange };
@@ -66,7 +66,7 @@ impl<'a> Model for Prepared<'a> {
     } };
 }
 
-impl Prepared<'_> {
+impl PreparedTable<'_> {
     ghost use Rattle.std.specs.Prelude.{◌≡◌, length};
 
     /// How many rows the change gains.
@@ -205,7 +205,7 @@ impl StoredTable {
         lost: Vec<usize>,
         gained: Vec<GivenRow<'a>>,
         after: After,
-    ) -> Result<Prepared<'a>, NoMemory>
+    ) -> Result<PreparedTable<'a>, NoMemory>
         ensures same { self.new ≡ record self.old { spare = self.new.spare } }
         ensures made { IfOk result (λ p. p ≡ record {
           stamp = stamp;
@@ -218,7 +218,7 @@ impl StoredTable {
         ensures spare { self.old.spare ≤ self.new.spare }
     {
         self.reserve_for(&gained)?;
-        Ok(Prepared {
+        Ok(PreparedTable {
             stamp,
             lost,
             gained,
@@ -229,7 +229,11 @@ impl StoredTable {
     /// Makes the change to these rows ready, and all the room that installing it needs, by one walk
     /// along the current rows and these. Each stamp in the table is before this one. What the table
     /// stands for stays as it is. The one error is `NoMemory`, where memory runs out.
-    pub fn prepare<'a>(&mut self, stamp: u64, rows: &'a [Row]) -> Result<Prepared<'a>, NoMemory>
+    pub fn prepare<'a>(
+        &mut self,
+        stamp: u64,
+        rows: &'a [Row],
+    ) -> Result<PreparedTable<'a>, NoMemory>
         requires before { AllBefore self.old stamp }
         requires valid { stamp < forever }
         requires relation { IsRelation self.old.columns rows.now }
@@ -266,7 +270,7 @@ impl StoredTable {
         stamp: u64,
         lost: &[GivenRow<'_>],
         gained: Vec<GivenRow<'a>>,
-    ) -> Result<Prepared<'a>, NoMemory>
+    ) -> Result<PreparedTable<'a>, NoMemory>
         requires before { AllBefore self.old stamp }
         requires valid { stamp < forever }
         requires lost { IsRelation self.old.columns lost.now }
@@ -308,7 +312,7 @@ impl StoredTable {
         &mut self,
         stamp: u64,
         rows: Vec<GivenRow<'a>>,
-    ) -> Result<Prepared<'a>, NoMemory>
+    ) -> Result<PreparedTable<'a>, NoMemory>
         requires before { AllBefore self.old stamp }
         requires valid { stamp < forever }
         requires relation { IsRelation self.old.columns rows.items }
@@ -345,7 +349,7 @@ impl StoredTable {
     /// block alone, or it is replaced by the whole one that was made ready. The indexes of columns
     /// stay where no more rows are lost, and no more gained, than are few in the table: 64, or one
     /// in 64 of its rows where that is more. Else they go, since to sort the ids anew costs less.
-    pub fn install(&mut self, prepared: Prepared<'_>)
+    pub fn install(&mut self, prepared: PreparedTable<'_>)
         requires fits { IsPrepared self.old prepared }
         requires room { length prepared.gained ≤ self.old.spare }
         ensures columns { self.new.columns ≡ self.old.columns }
@@ -368,7 +372,7 @@ impl StoredTable {
         ensures later { (m : ℕ) → prepared.entry.stamp < m → AllBefore self.new m }
         ensures valid { IsStore self.new }
     {
-        let Prepared {
+        let PreparedTable {
             stamp,
             lost,
             gained,

@@ -16,7 +16,7 @@ ghost use Rattle.table_changes.specs.Changing.{changed_relation};
 
 use crate::overlay::{condition, given_row, lost_and_gained};
 use candidate_rows::column_asked;
-use history_store::{GivenRow, Prepared, StoredTable};
+use history_store::{GivenRow, PreparedTable, StoredTable};
 use prima_base::{ColType, Name, NoMemory};
 use smo_ops::{Change, OwnColumns, insertions_are_a_union};
 use std::alloc::Global;
@@ -72,7 +72,7 @@ fn prepare_given<'a>(
     store: &mut StoredTable,
     stamp: u64,
     rows: Vec<GivenRow<'a>>,
-) -> Result<Prepared<'a>, NoMemory>
+) -> Result<PreparedTable<'a>, NoMemory>
     requires before { AllBefore store.old stamp }
     requires valid { stamp < forever }
     requires relation { IsRelation store.old.columns (set_of row_cmp rows.items) }
@@ -100,7 +100,7 @@ fn prepare_overlay<'a>(
     store: &mut StoredTable,
     stamp: u64,
     changes: &[&'a Change],
-) -> Result<Prepared<'a>, NoMemory>
+) -> Result<PreparedTable<'a>, NoMemory>
     requires columns { AreColumns columns.now }
     requires same { store.old.columns ≡ columns.now }
     requires accepted { AreAccepted columns.now (borrowed_changes changes.now) }
@@ -169,7 +169,7 @@ fn prepare_indexed<'a>(
     store: &mut StoredTable,
     stamp: u64,
     changes: &[&'a Change],
-) -> Result<Prepared<'a>, NoMemory>
+) -> Result<PreparedTable<'a>, NoMemory>
     requires columns { AreColumns columns.now }
     requires same { store.old.columns ≡ columns.now }
     requires accepted { AreAccepted columns.now (borrowed_changes changes.now) }
@@ -205,7 +205,7 @@ pub fn prepare_table<'a>(
     store: &mut StoredTable,
     stamp: u64,
     changes: &[&'a Change],
-) -> Result<Prepared<'a>, NoMemory>
+) -> Result<PreparedTable<'a>, NoMemory>
     requires columns { AreColumns columns.now }
     requires same { store.old.columns ≡ columns.now }
     requires accepted { AreAccepted columns.now (borrowed_changes changes.now) }

@@ -24,8 +24,8 @@ use Rattle.version_tables.specs.Beginning.{BeginsWith, BeginInOrder, ArePlaced}
 use Rattle.version_tables.specs.Evolving.{BeginsEntry}
 use Rattle.version_tables.specs.Becoming.{Leads}
 use Rattle.version_tables.specs.Places.{at_places, AreWithin}
-use Rattle.version_groups.specs.declared.next.Step.{Step}
-use Rattle.version_groups.specs.declared.next.Step.TheVariants.{Changed, Evolved}
+use Rattle.version_groups.specs.declared.prepared_groups.Step.{Step}
+use Rattle.version_groups.specs.declared.prepared_groups.Step.TheVariants.{Changed, Evolved}
 use Rattle.version_groups.specs.Groups.{Kept, newest_places, group_of}
 
 -- a change of each table of the newest version, or none; or the next version, the tables that begin
@@ -87,12 +87,12 @@ IsStep kept past stamp (evolving op inverse) (evolved version begun places) =
 
 -- the command is accepted after the past, its constants are valid values, and what it does was made
 -- ready from these groups, which have the room for it
-pub record IsReady (kept : Kept) (past : Past) (command : PlainCommand) (next : PreparedCommand) :
-    Type 0 where
+pub record IsReady (kept : Kept) (past : Past) (command : PlainCommand)
+    (prepared : PreparedCommand) : Type 0 where
   pub accepted : command_fault past command ≡ None
   pub valid : command.stamp < forever
   pub constants : BodyHolds command.body
-  pub step : IsStep kept past command.stamp command.body (step_of next.step)
+  pub step : IsStep kept past command.stamp command.body (step_of prepared.step)
 
 -- the rows that the command gains and loses, over all tables; none where it makes a version
 abbrev pub rows_gained : Past → PlainBody → ℕ
@@ -109,9 +109,9 @@ abbrev pub a_command : ℕ → PlainBody → PlainCommand
 a_command stamp body = record { stamp = stamp; body = body }
 
 -- what `prepare` makes of a command that is accepted after the past
-pub record Prepares (kept : Kept) (past : Past) (command : PlainCommand) (next : PreparedCommand) :
-    Type 0 where
-  pub ready : IsReady kept past command next
-  pub stamp : next.stamp ≡ command.stamp
-  pub gained : next.gained ≡ rows_gained past command.body
-  pub lost : next.lost ≡ rows_lost past command.body
+pub record Prepares (kept : Kept) (past : Past) (command : PlainCommand)
+    (prepared : PreparedCommand) : Type 0 where
+  pub ready : IsReady kept past command prepared
+  pub stamp : prepared.stamp ≡ command.stamp
+  pub gained : prepared.gained ≡ rows_gained past command.body
+  pub lost : prepared.lost ≡ rows_lost past command.body

@@ -1,7 +1,7 @@
 use crate::judged::Judged;
-use crate::next::{Next, Step};
+use crate::prepared_groups::{PreparedGroups, Step};
 use crate::size::SizeLine;
-use history_store::{Prepared, StoredTable};
+use history_store::{PreparedTable, StoredTable};
 use prima_base::{Name, NoMemory};
 use schema_catalog::Schema;
 use smo_ops::{Change, Version, Versions, made};
@@ -302,9 +302,10 @@ impl Groups {
 
     /// Makes a command ready, and all the room that installing it needs. The command was judged,
     /// and is accepted after the past that is shown, which stays as it is; judging found of each
-    /// change where its table stands, and of an operator the schema that is after it. `Next` has
-    /// its stamp; for changes it has the counts of the rows that are gained and lost, summed over
-    /// the tables, and for an operator none. The one error is `NoMemory`, where memory runs out.
+    /// change where its table stands, and of an operator the schema that is after it.
+    /// `PreparedGroups` has its stamp; for changes it has the counts of the rows that are gained
+    /// and lost, summed over the tables, and for an operator none. The one error is `NoMemory`,
+    /// where memory runs out.
     ///
     /// A table that has INSERTs alone costs a search for each row. Any other that the command names
     /// costs for each UPDATE or DELETE a look at the rows between two cuts, by the constants to
@@ -312,12 +313,13 @@ impl Groups {
     /// gained; where more than 64 rows are lost or gained, a copy of the index of its current rows
     /// too. Other tables are not looked at. An operator costs a copy of its inputs, and of the rows
     /// that it makes; other tables go on.
-    pub fn prepare<'a>(&mut self, judged: Judged<'a>) -> Result<Next<'a>, NoMemory>
+    pub fn prepare<'a>(&mut self, judged: Judged<'a>) -> Result<PreparedGroups<'a>, NoMemory>
         requires { (past : Past) × Represents self.old past × IsAccepted past judged }
         ensures same { IsSame self.old self.new }
         ensures represents { (past : Past) → Represents self.old past → Represents self.new past }
-        ensures next { (past : Past) → Represents self.old past → IsAccepted past judged.entry
-            → IfOk result (λ next. Prepares self.new past (judged_command judged.entry) next) }
+        ensures prepared { (past : Past) → Represents self.old past
+            → IsAccepted past judged.entry → IfOk result (λ prepared.
+            Prepares self.new past (judged_command judged.entry) prepared) }
     {
         match judged {
             Judged::Changes {
@@ -334,16 +336,16 @@ impl Groups {
     /// the one that is then the newest has at the moments at which its version is in force what it
     /// had. Changes are made of the stored tables of the newest version, and an operator ends
     /// lifelines and begins others: each other stored table is the very same. It takes no memory.
-    pub fn install(&mut self, next: Next<'_>)
+    pub fn install(&mut self, prepared: PreparedGroups<'_>)
         requires { (past : Past) × (command : PlainCommand) × Represents self.old past
-            × IsReady self.old past command next }
+            × IsReady self.old past command prepared }
         ensures represents { (past : Past) → (command : PlainCommand) → Represents self.old past
-            → IsReady self.old past command next.entry
+            → IsReady self.old past command prepared.entry
             → Represents self.new (past_with past command) }
         ensures earlier { HasEarlier self.old self.new }
-        ensures step { HasStep self.old self.new next.entry.step }
+        ensures step { HasStep self.old self.new prepared.entry.step }
     {
-        self.install_step(next.step);
+        self.install_step(prepared.step);
     }
 
     // Carries out a step of a command that is accepted after the past. It takes no memory.
@@ -366,7 +368,7 @@ impl Groups {
     }
 
     // Makes the changes of the newest version's tables. It takes no memory.
-    fn install_changes(&mut self, prepared: Vec<Option<Prepared<'_>>>)
+    fn install_changes(&mut self, prepared: Vec<Option<PreparedTable<'_>>>)
         requires { HaveRoom (newest_group self.old) prepared.items }
         ensures { HasChanges self.old self.new prepared.entry.items }
     {
@@ -400,17 +402,17 @@ impl Groups {
         stamp: u64,
         changes: &'a [Change],
         places: &[usize],
-    ) -> Result<Next<'a>, NoMemory>
+    ) -> Result<PreparedGroups<'a>, NoMemory>
         requires valid { stamp < forever }
         requires constants { BodyHolds (changing (changes_of changes.now)) }
         requires accepted { (past : Past) × Represents self.old past
             × (command_fault past (a_command stamp (changing (changes_of changes.now))) ≡ None)
             × StandAt (newest_tables past) (changes_of changes.now) places.now }
         ensures same { IsSame self.old self.new }
-        ensures next { (past : Past) → Represents self.old past
+        ensures prepared { (past : Past) → Represents self.old past
             → command_fault past (a_command stamp (changing (changes_of changes.now))) ≡ None
-            → IfOk result (λ next. Prepares self.new past
-            (a_command stamp (changing (changes_of changes.now))) next) }
+            → IfOk result (λ prepared. Prepares self.new past
+            (a_command stamp (changing (changes_of changes.now))) prepared) }
     {
         let schema = newest_schema(&self.nothing, &self.versions);
         let made = prepare_tables(
@@ -427,7 +429,7 @@ impl Groups {
             lost,
             prepared,
         } = made;
-        Ok(Next {
+        Ok(PreparedGroups {
             stamp,
             gained,
             lost,
@@ -436,14 +438,13 @@ impl Groups {
     }
 
     // Makes the next version ready.
-    fn prepare_version<'a>(&mut self, version: Version) -> Result<Next<'a>, NoMemory>
+    fn prepare_version<'a>(&mut self, version: Version) -> Result<PreparedGroups<'a>, NoMemory>
         requires { (past : Past) × Represents self.old past
             × IsAccepted past (found.Evolve version) }
         ensures same { IsSame self.old self.new }
-        ensures next { (past : Past) → Represents self.old past
-            → IsAccepted past (found.Evolve version)
-            → IfOk result (λ next. Prepares self.new past (judged_command (found.Evolve version))
-            next) }
+        ensures prepared { (past : Past) → Represents self.old past
+            → IsAccepted past (found.Evolve version) → IfOk result (λ prepared.
+            Prepares self.new past (judged_command (found.Evolve version)) prepared) }
     {
         let number = self.newest() + 1;
         let schema = newest_schema(&self.nothing, &self.versions);
@@ -456,7 +457,7 @@ impl Groups {
             &version,
         )?;
         self.reserve_version(tables.begun.len())?;
-        Ok(Next {
+        Ok(PreparedGroups {
             stamp: version.stamp,
             gained: 0,
             lost: 0,

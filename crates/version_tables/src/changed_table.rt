@@ -21,7 +21,7 @@ ghost use Rattle.version_tables.specs.Places.{at_places, AreWithin};
 
 use crate::change_group::changes_by_table;
 use crate::made_table::MadeTable;
-use history_store::Prepared;
+use history_store::PreparedTable;
 use prima_base::{ColType, Name, NoMemory};
 use schema_catalog::Schema;
 use smo_ops::Change;
@@ -33,7 +33,7 @@ use table_changes::prepare_table;
 pub struct Changes<'a> {
     pub gained: u64,
     pub lost: u64,
-    pub prepared: Vec<Option<Prepared<'a>>>,
+    pub prepared: Vec<Option<PreparedTable<'a>>>,
 }
 
 // Makes the changes of one table with these columns ready, where there are any.
@@ -43,7 +43,7 @@ fn prepare_one<'a>(
     table: &mut MadeTable,
     stamp: u64,
     changes: &[&'a Change],
-) -> Result<Option<Prepared<'a>>, NoMemory>
+) -> Result<Option<PreparedTable<'a>>, NoMemory>
     requires columns { AreColumns columns.now }
     requires own { table.old.store.columns ≡ columns.now }
     requires changeable { IsChangeable stamp (borrowed_changes changes.now) table.old }
@@ -66,7 +66,7 @@ fn prepare_one<'a>(
 }
 
 // The rows that a change gains.
-fn gained_by(change: &Option<Prepared<'_>>) -> u64
+fn gained_by(change: &Option<PreparedTable<'_>>) -> u64
     ensures { result ≡ gained_by change.now }
 {
     match change {
@@ -76,7 +76,7 @@ fn gained_by(change: &Option<Prepared<'_>>) -> u64
 }
 
 // The rows that a change loses.
-fn lost_by(change: &Option<Prepared<'_>>) -> u64
+fn lost_by(change: &Option<PreparedTable<'_>>) -> u64
     ensures { result ≡ lost_by change.now }
 {
     match change {
@@ -146,7 +146,7 @@ pub fn prepare_tables<'a>(
 }
 
 // Makes the change of one table. It takes no memory.
-fn install_one(table: &mut MadeTable, change: Option<Prepared<'_>>)
+fn install_one(table: &mut MadeTable, change: Option<PreparedTable<'_>>)
     requires { HasRoom table.old.store change }
     ensures { IsMade table.old change.entry table.new }
 {
@@ -160,7 +160,7 @@ fn install_one(table: &mut MadeTable, change: Option<Prepared<'_>>)
 pub fn install_tables(
     tables: &mut Vec<MadeTable>,
     places: &[usize],
-    prepared: Vec<Option<Prepared<'_>>>,
+    prepared: Vec<Option<PreparedTable<'_>>>,
 )
     requires there { AreWithin places.now (length tables.old.items) }
     requires ordered { Ascends bytes_cmp (names_of (at_places tables.old.items places.now)) }

@@ -17,9 +17,9 @@ pub carry_out-requires : goal.carry_out-requires
 carry_out-requires g c =
     let some = c.requires.accepted in
     subst (λ s. (x : Past) × (command : PlainCommand) × RepresentsPast s x
-    × Prepares s.groups x command c.in_ok-next.next) (sym c.in_ok-put.ensures.same) (
+    × Prepares s.groups x command c.in_ok-prepared.prepared) (sym c.in_ok-put.ensures.same) (
       some.0,
       judged_command c.args.judged,
       c.prepare.ensures.represents some.0 some.1,
-      c.in_ok-next.ensures.next some.0 some.1 some.2,
+      c.in_ok-prepared.ensures.prepared some.0 some.1 some.2,
     )

@@ -11,7 +11,7 @@ pub returns-clause-done : goal.returns-clause-done
 returns-clause-done c past command represents prepares =
     let before = subst (λ (s : ArchiveContent). RepresentsPast s past) (sym c.self.view_is)
     represents in
-    let prepared = subst (λ (s : ArchiveContent). Prepares s.groups past command c.args.next)
+    let prepared = subst (λ (s : ArchiveContent). Prepares s.groups past command c.args.prepared)
     (sym c.self.view_is) prepares in
     let after = c.install.ensures.represents past command before.groups prepared.ready in
     let newest = newest_next c.install.new.self (past_with past command) c.newest.result after
@@ -24,7 +24,7 @@ returns-clause-done c past command represents prepares =
         version = c.version_made.ensures
             ∙ ap (λ b. if b then Some c.newest.result else None)
             c.makes_version-makes_version.ensures
-            ∙ version_is c.self.inside.groups past command.stamp command.body c.args.next.step
+            ∙ version_is c.self.inside.groups past command.stamp command.body c.args.prepared.step
             c.newest.result
             prepared.ready.step
             ∙ ap (version_made command.body) newest;
@@ -39,7 +39,7 @@ returns-clause-represents c =
     let command = c.requires.1 in
     let before = subst (λ (s : ArchiveContent). RepresentsPast s past) (sym c.self.view_is)
     c.requires.2 in
-    let prepared = subst (λ (s : ArchiveContent). Prepares s.groups past command c.args.next)
+    let prepared = subst (λ (s : ArchiveContent). Prepares s.groups past command c.args.prepared)
     (sym c.self.view_is) c.requires.3 in
     let after = c.install.ensures.represents past command before.groups prepared.ready in (
       past_with past command,
@@ -53,7 +53,7 @@ invariant_of-self c =
     let command = c.requires.1 in
     let before = subst (λ (s : ArchiveContent). RepresentsPast s past) (sym c.self.view_is)
     c.requires.2 in
-    let prepared = subst (λ (s : ArchiveContent). Prepares s.groups past command c.args.next)
+    let prepared = subst (λ (s : ArchiveContent). Prepares s.groups past command c.args.prepared)
     (sym c.self.view_is) c.requires.3 in
     let after = c.install.ensures.represents past command before.groups prepared.ready in (
       past_with past command,

@@ -37,12 +37,12 @@ returns-in-Changes-clause-represents c = λ past represents.
     represents_same c.args.self.now c.prepare_changes.new.self c.prepare_changes.ensures.same past
     represents
 
-pub returns-in-Changes-clause-next : goal.returns-in-Changes-clause-next
-returns-in-Changes-clause-next c = λ past represents accepted.
+pub returns-in-Changes-clause-prepared : goal.returns-in-Changes-clause-prepared
+returns-in-Changes-clause-prepared c = λ past represents accepted.
     subst (λ (j : Judged). IfOk c.prepare_changes.result
     (λ next. Prepares c.prepare_changes.new.self past (judged_command j) next))
     (sym c.in-Changes.is)
-    (c.prepare_changes.ensures.next past represents
+    (c.prepare_changes.ensures.prepared past represents
     (subst (λ (j : Judged). command_fault past (judged_command j) ≡ None) c.in-Changes.is
     accepted.accepted))
 
@@ -55,10 +55,10 @@ returns-in-Evolve-clause-represents c = λ past represents.
     represents_same c.args.self.now c.prepare_version.new.self c.prepare_version.ensures.same past
     represents
 
-pub returns-in-Evolve-clause-next : goal.returns-in-Evolve-clause-next
-returns-in-Evolve-clause-next c = λ past represents accepted.
+pub returns-in-Evolve-clause-prepared : goal.returns-in-Evolve-clause-prepared
+returns-in-Evolve-clause-prepared c = λ past represents accepted.
     subst (λ (j : Judged). IfOk c.prepare_version.result
     (λ next. Prepares c.prepare_version.new.self past (judged_command j) next))
     (sym c.in-Evolve.is)
-    (c.prepare_version.ensures.next past represents
+    (c.prepare_version.ensures.prepared past represents
     (subst (IsAccepted past) c.in-Evolve.is accepted))

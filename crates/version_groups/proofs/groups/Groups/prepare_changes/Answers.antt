@@ -89,8 +89,8 @@ returns-clause-same c =
     subst (λ (k : Kept). IsSame k (groups_view b)) c.self.view_is
     (view_same a b refl refl refl c.prepare_tables.ensures.same (omega arith) (omega arith))
 
-pub returns-clause-next : goal.returns-clause-next
-returns-clause-next c = λ past represents accepted.
+pub returns-clause-prepared : goal.returns-clause-prepared
+returns-clause-prepared c = λ past represents accepted.
     let a = c.self.inside in
     let b : Inside = record a { stored = c.prepare_tables.new.tables } in
     let its = changes_of c.args.changes.now in

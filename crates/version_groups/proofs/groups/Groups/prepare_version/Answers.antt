@@ -102,8 +102,8 @@ begin_version-requires-clause-stored c =
 pub returns-in_err-tables-clause-same : goal.returns-in_err-tables-clause-same
 returns-in_err-tables-clause-same c = is_same c.args.self.now
 
-pub returns-clause-next : goal.returns-clause-next
-returns-clause-next c = λ past represents judged.
+pub returns-clause-prepared : goal.returns-clause-prepared
+returns-clause-prepared c = λ past represents judged.
     let a = c.self.inside in
     let version = c.args.version in
     let stamp = version.stamp in

@@ -1,4 +1,4 @@
-use history_store::Prepared;
+use history_store::PreparedTable;
 use smo_ops::Version;
 use std::marker::Model;
 use version_tables::MadeTable;
@@ -7,7 +7,7 @@ use version_tables::MadeTable;
 #[derive(Drop)]
 pub(crate) enum Step<'a> {
     /// A change of each table of the newest version, or none.
-    Changed(Vec<Option<Prepared<'a>>>),
+    Changed(Vec<Option<PreparedTable<'a>>>),
     /// The next version, the tables that begin with it, and the places of its own among all.
     Evolved(Version, Vec<MadeTable>, Vec<usize>),
 }
@@ -15,17 +15,17 @@ pub(crate) enum Step<'a> {
 /// A command that was made ready: it is installed into the groups that prepared it. Texts that it
 /// inserts are borrowed by the command until then.
 #[derive(Drop)]
-pub struct Next<'a> {
+pub struct PreparedGroups<'a> {
     pub(crate) stamp: u64,
     pub(crate) gained: u64,
     pub(crate) lost: u64,
     pub(crate) step: Step<'a>,
 }
 
-impl<'a> Model for Next<'a> {
+impl<'a> Model for PreparedGroups<'a> {
     ghost use Rattle.std.specs.Prelude.{[]};
     ghost use Rattle.version_groups.specs.Steps.{PreparedCommand};
-    ghost use Rattle.version_groups.specs.contracts.next.Step as step_row;
+    ghost use Rattle.version_groups.specs.contracts.prepared_groups.Step as step_row;
     ghost use Rattle.std.specs.Coded.{codes};
     ghost use mir.Syntax;
 
@@ -45,7 +45,7 @@ impl<'a> Model for Next<'a> {
     } };
 }
 
-impl Next<'_> {
+impl PreparedGroups<'_> {
     ghost use Rattle.std.specs.Prelude.{◌≡◌};
     ghost use Rattle.version_groups.specs.Steps.{makes_version};
 
