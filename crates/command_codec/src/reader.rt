@@ -3,7 +3,7 @@
 ghost use Rattle.std.specs.Prelude.{◌≡◌, ◌++◌, ℕ, List};
 ghost use Rattle.command_spelling.specs.Reading.{Parsed, digits};
 
-use prima_base::NoMemory;
+use prima_base::{NoMemory, is_name_byte};
 use std::alloc::{AllocError, AllocFailed};
 
 /// Why nothing was read.
@@ -66,7 +66,7 @@ impl Alphabet {
         ensures { result ≡ may_stand self byte }
     {
         match self {
-            Alphabet::Named => byte.is_ascii_alphanumeric() || byte == b'_',
+            Alphabet::Named => is_name_byte(byte),
             Alphabet::Printed => !(byte < 0x20 || byte == 0x7F),
         }
     }

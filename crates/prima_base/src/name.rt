@@ -59,7 +59,8 @@ impl From<AllocError> for NameFault {
     }
 }
 
-fn is_name_byte(b: u8) -> bool
+/// Whether the byte may stand in a name: an ASCII letter, a digit or `_`. It takes no memory.
+pub fn is_name_byte(b: u8) -> bool
     ensures { result ≡ is_name_byte b }
 {
     matches!(b, b'a'..=b'z' | b'A'..=b'Z' | b'0'..=b'9' | b'_')

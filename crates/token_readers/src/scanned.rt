@@ -7,6 +7,7 @@ ghost use Rattle.prima_base.specs.Bytes as base;
 ghost use Rattle.lexical_grammar.specs.Bytes as spec;
 
 use lexical_grammar::{Scanned, TokenKind};
+use prima_base::is_name_byte;
 use prima_base::limits::MAX_TEXT;
 
 fn is_digit(b: u8) -> bool
@@ -19,12 +20,6 @@ fn is_word_start(b: u8) -> bool
     ensures { result ≡ spec.is_word_start b }
 {
     (b'a' <= b && b <= b'z') || (b'A' <= b && b <= b'Z') || b == b'_'
-}
-
-fn is_name_byte(b: u8) -> bool
-    ensures { result ≡ base.is_name_byte b }
-{
-    (b'a' <= b && b <= b'z') || (b'A' <= b && b <= b'Z') || is_digit(b) || b == b'_'
 }
 
 /// Whether the byte is a blank: a space, a tab, an LF or a CR. It takes no memory.
