@@ -1,5 +1,5 @@
 use crate::acceptance::judge;
-use crate::question::{ask, explain_query};
+use crate::asked_query::{ask, explain_query};
 use crate::{AcceptedCommand, AskFault, CommandFault};
 use answer_text::Listing;
 use piece_texts::Explained;

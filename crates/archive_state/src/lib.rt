@@ -8,8 +8,8 @@
 mod acceptance;
 mod accepted_command;
 mod archive;
+mod asked_query;
 mod fault;
-mod question;
 
 pub use accepted_command::AcceptedCommand;
 pub use archive::{ArchiveState, Done};

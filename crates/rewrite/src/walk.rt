@@ -22,8 +22,8 @@ ghost use Rattle.smo_meaning.specs.ValidValues.{VersionsHold};
 ghost use Rattle.rewrite_chains.specs.Beginnings.{asking, first_piece};
 ghost use Rattle.rewrite_chains.specs.UnfoldedPieces.{MayBeAsked, StandFor};
 
+use crate::first_piece::first_piece;
 use crate::lost_piece::loss_of;
-use crate::question::first_piece;
 use crate::step::{to_next, to_previous};
 use cond_expr::Cond;
 use piece_ir::Piece;

@@ -1,6 +1,6 @@
 use Rattle.query_types.specs.Queries.{query_of}
 use Rattle.archive_state.proofs.QueryFaults.{checked_over}
-use Rattle.archive_state.proofs.question.checked.Goals as goal
+use Rattle.archive_state.proofs.asked_query.checked.Goals as goal
 
 pub returns : goal.returns
 returns c = λ past h. checked_over past (query_of c.args.query.now) c.args.schema.now h

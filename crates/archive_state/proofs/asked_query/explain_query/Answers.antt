@@ -8,7 +8,7 @@ use Rattle.piece_meaning.specs.Books.{book_of}
 use Rattle.piece_texts.specs.ExplainedPieces.{all_explained}
 use Rattle.query_exec.specs.QueryPieces.{ArePieces, living_pieces}
 use Rattle.archive_state.specs.Asking.{IsReady}
-use Rattle.archive_state.proofs.question.explain_query.Goals as goal
+use Rattle.archive_state.proofs.asked_query.explain_query.Goals as goal
 
 pub explain-requires-clause-answerable : goal.explain-requires-clause-answerable
 explain-requires-clause-answerable g c =

@@ -1,4 +1,4 @@
-use Rattle.archive_state.proofs.question.judged.Goals as goal
+use Rattle.archive_state.proofs.asked_query.judged.Goals as goal
 
 pub judge_losses-requires : goal.judge_losses-requires
 judge_losses-requires c = (

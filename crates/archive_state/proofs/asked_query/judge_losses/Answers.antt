@@ -4,7 +4,7 @@ use Rattle.smo_types.specs.declared.version.Version.{Version}
 use Rattle.query_types.specs.Queries.{query_of}
 use Rattle.query_meaning.specs.Accepted.{no_way_back}
 use Rattle.archive_state.proofs.QueryFaults.{none_lost, one_lost, within_kept}
-use Rattle.archive_state.proofs.question.judge_losses.Goals as goal
+use Rattle.archive_state.proofs.asked_query.judge_losses.Goals as goal
 
 pub first_loss_in_slice-requires-clause-asked : goal.first_loss_in_slice-requires-clause-asked
 first_loss_in_slice-requires-clause-asked c = within_kept c.args.groups.now c.requires.0

@@ -13,7 +13,7 @@ use Rattle.query_exec.specs.Accepted.{IsAccepted}
 use Rattle.query_exec.specs.Borrowed.{AreBorrowedBy}
 use Rattle.query_exec.specs.QueryPieces.{ArePieces}
 use Rattle.archive_state.specs.Asking.{IfAccepted, IsReady, query_asked}
-use Rattle.archive_state.proofs.question.ask.Goals as goal
+use Rattle.archive_state.proofs.asked_query.ask.Goals as goal
 
 pub answer-requires-clause-answerable : goal.answer-requires-clause-answerable
 answer-requires-clause-answerable g c =
