@@ -3,14 +3,14 @@ use Rattle.std.specs.Prelude.{◌≡◌, ◌-◌, ◌^◌, ◌<◌, [], length, 
 use Rattle.history_store.specs.declared.table.StoredTable.TheInside.{Inside}
 use Rattle.row_order.specs.Logs.{cells_of, few_of}
 use Rattle.row_writes.specs.Logs.{kinds_of, types_of, spare_rows}
-use Rattle.row_writes.specs.ValueIndexes.{columns_of, least_room, IsIndexed}
+use Rattle.row_writes.specs.ValueIndexes.{indexed_columns, least_room, IsIndexed}
 use Rattle.history_store.specs.Store.{Store, cells_in}
 use Rattle.table_meaning.specs.Kept.{store_of, IsKept}
 
 abbrev pub table_view : Inside → Store
 table_view a = store_of a.columns.items a.keys.items (cells_of a.logs.items)
     (spare_rows (few_of (length a.live.ids)) (least_room a.live.room a.others.items)
-    (vec_capacity a.keys - vec_len a.keys) a.logs.items) (columns_of a.others.items)
+    (vec_capacity a.keys - vec_len a.keys) a.logs.items) (indexed_columns a.others.items)
 
 pub record IsTable (a : Inside) : Type 0 where
   pub kept : IsKept a.columns.items a.keys.items (cells_of a.logs.items) a.live.ids

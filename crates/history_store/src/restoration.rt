@@ -56,7 +56,7 @@ fn column_of(alloc: Global, kind: ColType, cells: Vec<Cell<'_>>) -> Result<Colum
 }
 
 /// These columns with these cells.
-pub(crate) fn columns_of(
+pub(crate) fn restored_columns(
     alloc: Global,
     columns: &[(Name, ColType)],
     cells: Vec<Vec<Cell<'_>>>,

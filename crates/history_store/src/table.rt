@@ -1,4 +1,4 @@
-use crate::restoration::{Cell, check_cells, columns_of};
+use crate::restoration::{Cell, check_cells, restored_columns};
 use crate::scan::KeyScan;
 use crate::table_heading::column_place;
 use column_log::{CellScan, Column};
@@ -6,8 +6,8 @@ use given_row::GivenRow;
 use prima_base::{ColType, Name, NoMemory, Period, Row, Value, copy_columns};
 use row_index::RowIndex;
 use row_order::{
-    After, BorrowedRows, Change, Cut, change_index, copy_rows, count_before, few_of, find_change,
-    place_in, splice, splice_fresh,
+    After, BorrowedRows, Cut, RowChange, change_index, copy_rows, count_before, few_of,
+    find_change, place_in, splice, splice_fresh,
 };
 use row_writes::{
     ValueIndex, carry_out, count_cells, empty_columns, gain_each, index_of, lose_each,
@@ -170,7 +170,7 @@ impl StoredTable {
         ensures valid { IfOk result (λ t. IsStore t) }
     {
         check_cells(&cells)?;
-        let logs = columns_of(alloc, columns, cells)?;
+        let logs = restored_columns(alloc, columns, cells)?;
         Ok(StoredTable {
             alloc,
             columns: copy_columns(alloc, columns)?,
@@ -251,7 +251,7 @@ impl StoredTable {
         if self.keys.len().checked_add(rows.len()).is_none() {
             return Err(NoMemory);
         }
-        let Change {
+        let RowChange {
             lost,
             gained,
             after,

@@ -19,7 +19,7 @@ use Rattle.timed_choices.specs.Blocks.{rows_of}
 use Rattle.timed_choices.proofs.Reordering.{moved}
 use Rattle.join_levels.specs.Sources.{SourcesBorrow}
 use Rattle.joining.specs.Atoms.{AtomsBorrow, atom_rows, block_of, blocks_of}
-use Rattle.joining.specs.Atoms.{IsNumbered, AreNumbered, columns_of}
+use Rattle.joining.specs.Atoms.{IsNumbered, AreNumbered, columns_of_atoms}
 
 pub is_block : (m : ℕ) (a : Atom) → IsBlock (block_of m a)
 is_block m a = record {
@@ -90,12 +90,12 @@ one_moved done left next more i a l e h n r outs c m =
 
 -- the columns and the rows of atoms, one more and all
 pub columns_more : (atoms : List Atom) (a : Atom) (types more : List Column)
-    → types ≡ columns_of atoms → more ≡ types ++ a.columns.items
-    → more ≡ columns_of (atoms ++ a ∷ [])
+    → types ≡ columns_of_atoms atoms → more ≡ types ++ a.columns.items
+    → more ≡ columns_of_atoms (atoms ++ a ∷ [])
 columns_more atoms a types more e f =
     f ∙ ap (λ (cs : List Column). cs ++ a.columns.items) e
     ∙ sym (flat_map-append (λ (x : Atom). x.columns.items) atoms (a ∷ [])
-    ∙ ap (λ (cs : List Column). columns_of atoms ++ cs) (append-nil a.columns.items))
+    ∙ ap (λ (cs : List Column). columns_of_atoms atoms ++ cs) (append-nil a.columns.items))
 
 pub rows_more : (m : ℕ) (atoms : List Atom) (a : Atom) (rows more : List (List (List Value)))
     → rows ≡ rows_of (blocks_of m atoms) → more ≡ rows ++ rows_at a.rows.items m ∷ []
@@ -105,7 +105,7 @@ rows_more m atoms a rows more e f =
     ∙ sym (ap rows_of (map-append (block_of m) atoms (a ∷ []))
     ∙ map-append (λ (b : Block). b.rows) (blocks_of m atoms) (block_of m a ∷ []))
 
-pub types_is : (m : ℕ) (atoms : List Atom) → columns_of atoms ≡ types_of (blocks_of m atoms)
+pub types_is : (m : ℕ) (atoms : List Atom) → columns_of_atoms atoms ≡ types_of (blocks_of m atoms)
 types_is m [] = refl
 types_is m (a ∷ atoms) = ap (λ (cs : List Column). a.columns.items ++ cs) (types_is m atoms)
 

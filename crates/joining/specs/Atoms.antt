@@ -36,8 +36,8 @@ AreNumbered [] = ⊤
 AreNumbered (a ∷ atoms) = IsNumbered a.number atoms × AreNumbered atoms
 
 -- the columns of atoms, one atom's after the other's
-abbrev pub columns_of : List Atom → List AtomColumn
-columns_of atoms = flat_map (λ (a : Atom). a.columns.items) atoms
+abbrev pub columns_of_atoms : List Atom → List AtomColumn
+columns_of_atoms atoms = flat_map (λ (a : Atom). a.columns.items) atoms
 
 -- there is an atom for each list of columns, which has these, as those of its place
 abbrev pub HaveAtoms : ℕ → List (List Column) → List Atom → Type 0

@@ -13,7 +13,7 @@ ghost use Rattle.cond_expr.specs.Seen.{tree, test};
 ghost use Rattle.timed_choices.specs.Blocks.{answered, rows_of};
 ghost use Rattle.join_levels.specs.Sources.{SourcesBorrow, relations_of};
 ghost use Rattle.joining.specs.Atoms.{AtomsBorrow, blocks_of};
-ghost use Rattle.joining.specs.Atoms.{columns_of, AreNumbered};
+ghost use Rattle.joining.specs.Atoms.{columns_of_atoms, AreNumbered};
 
 use crate::atom::Atom;
 use crate::own_part::pruned_atoms;
@@ -148,7 +148,7 @@ fn taken_apart<'a>(
 ) -> Result<(Vec<Column>, VecDeque<Source<'a>>), NoMemory>
     ensures borrowed { (which : BorrowedValues) → AtomsBorrow which atoms.entry.items
         → IfOk result (λ r. SourcesBorrow which r.0.items r.1.items) }
-    ensures types { IfOk result (λ r. r.0.items ≡ columns_of atoms.entry.items) }
+    ensures types { IfOk result (λ r. r.0.items ≡ columns_of_atoms atoms.entry.items) }
     ensures rows { (m : ℕ) → IfOk result (λ r.
         relations_of r.1.items m ≡ rows_of (blocks_of m atoms.entry.items)) }
     ensures widths { IfOk result (λ r. sum_by (λ (s : OneSource). s.width) r.1.items

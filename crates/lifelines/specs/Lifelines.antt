@@ -65,8 +65,8 @@ lifelines_from before k lines (v ∷ versions) =
 abbrev pub lifelines_of : List PlainVersion → List Lifeline
 lifelines_of versions = lifelines_from no_tables 0 [] versions
 
-abbrev pub columns_of : List Lifeline → List (List Column)
-columns_of lines = map (λ (l : Lifeline). l.columns) lines
+abbrev pub lifeline_columns : List Lifeline → List (List Column)
+lifeline_columns lines = map (λ (l : Lifeline). l.columns) lines
 
 -- ---- the lifelines of a version
 

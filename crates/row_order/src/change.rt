@@ -18,7 +18,7 @@ use row_index::RowIndex;
 use std::alloc::Global;
 
 /// A change: the ids of the rows that it loses, the rows that it gains, and the index after it.
-pub struct Change<'a> {
+pub struct RowChange<'a> {
     pub lost: Vec<usize>,
     pub gained: Vec<GivenRow<'a>>,
     pub after: After,
@@ -32,7 +32,7 @@ pub fn find_change<'a>(
     live: &RowIndex,
     next: usize,
     rows: &'a [Row],
-) -> Result<Change<'a>, NoMemory>
+) -> Result<RowChange<'a>, NoMemory>
     requires wide { AllWidth (length columns.now) rows.now }
     requires known { (id : ℕ) → (k : ℕ) (d : Log) → id < length live.now.ids
         → k < length columns.now
@@ -55,7 +55,7 @@ pub fn find_change<'a>(
     } = find_difference(alloc, columns, &live.copy()?, rows)?;
     let ids = next_ids(alloc, &owners, &lost, next)?;
     let after = After::Whole(RowIndex::of(alloc, &ids)?);
-    Ok(Change {
+    Ok(RowChange {
         lost,
         gained,
         after,

@@ -12,7 +12,7 @@ mod cut;
 mod index_splice;
 mod walk;
 
-pub use change::{Change, find_change};
+pub use change::{RowChange, find_change};
 pub use cut::{BorrowedRows, Cut, count_before};
 pub use index_splice::{After, change_index, few_of, splice, splice_fresh};
 pub use walk::{copy_rows, place_in};

@@ -10,7 +10,7 @@ use Rattle.relations.proofs.SetLaws.{in_has, has_in}
 use Rattle.std.specs.Ordering.{nat_cmp}
 use Rattle.column_log.specs.Log.{Log, Write}
 use Rattle.row_order.specs.Logs.{cells_of, few_of}
-use Rattle.row_writes.specs.ValueIndexes.{Indexed, columns_of, is_indexed, indexed_after}
+use Rattle.row_writes.specs.ValueIndexes.{Indexed, indexed_columns, is_indexed, indexed_after}
 use Rattle.row_writes.specs.ValueIndexes.{least_room, IsIndexed, IsReady}
 use Rattle.value_order.specs.ByValue.{by_value, IsWithout}
 use Rattle.row_order.proofs.Cells.{length-cells_of}
@@ -169,7 +169,7 @@ one_pushed P (y ∷ xs) x a p (suc k) d h = one_pushed P xs x (λ j e b. a (suc 
 
 pub same_columns : (xs ys : List Indexed) → length ys ≡ length xs
     → ((k : ℕ) (d : Indexed) → k < length xs → (get_or ys k d).column ≡ (get_or xs k d).column)
-    → columns_of ys ≡ columns_of xs
+    → indexed_columns ys ≡ indexed_columns xs
 same_columns [] [] e f = refl
 same_columns [] (y ∷ ys) e f = absurd (omega arith)
 same_columns (x ∷ xs) [] e f = absurd (omega arith)
@@ -179,32 +179,32 @@ same_columns (x ∷ xs) (y ∷ ys) e f =
     rw (here, rest) refl
 
 pub columns_pushed : (xs : List Indexed) (x : Indexed)
-    → columns_of (xs ++ x ∷ []) ≡ columns_of xs ++ x.column ∷ []
+    → indexed_columns (xs ++ x ∷ []) ≡ indexed_columns xs ++ x.column ∷ []
 columns_pushed [] x = refl
 columns_pushed (y ∷ xs) x = ap (λ cs. y.column ∷ cs) (columns_pushed xs x)
 
 in_columns : (xs : List Indexed) (column k : ℕ) (d : Indexed) → k < length xs
-    → (get_or xs k d).column ≡ column → In column (columns_of xs)
+    → (get_or xs k d).column ≡ column → In column (indexed_columns xs)
 in_columns [] column k d h e = absurd (omega arith)
 in_columns (x ∷ xs) column zero d h e = inl e
 in_columns (x ∷ xs) column (suc k) d h e = inr (in_columns xs column k d (omega arith) e)
 
 pub one_indexed : (xs : List Indexed) (column k : ℕ) (d : Indexed) → k < length xs
-    → (get_or xs k d).column ≡ column → is_indexed column (columns_of xs) ≡ true
-one_indexed xs column k d h e = in_has nat_cmp nat_exact column (columns_of xs)
+    → (get_or xs k d).column ≡ column → is_indexed column (indexed_columns xs) ≡ true
+one_indexed xs column k d h e = in_has nat_cmp nat_exact column (indexed_columns xs)
     (in_columns xs column k d h e)
 
 none_in : (xs : List Indexed) (column : ℕ) → ((k : ℕ) (d : Indexed) → k < length xs
-    → (get_or xs k d).column ≢ column) → In column (columns_of xs) → ⊥
+    → (get_or xs k d).column ≢ column) → In column (indexed_columns xs) → ⊥
 none_in [] column f i = i
 none_in (x ∷ xs) column f (inl e) = f 0 x (omega arith) e
 none_in (x ∷ xs) column f (inr i) = none_in xs column (λ k d h. f (suc k) d (omega arith)) i
 
 pub none_indexed : (xs : List Indexed) (column : ℕ)
     → ((k : ℕ) (d : Indexed) → k < length xs → (get_or xs k d).column ≢ column)
-    → is_indexed column (columns_of xs) ≡ false
-none_indexed xs column f = not_true (is_indexed column (columns_of xs))
-    (λ t. none_in xs column f (has_in nat_cmp nat_exact column (columns_of xs) t))
+    → is_indexed column (indexed_columns xs) ≡ false
+none_indexed xs column f = not_true (is_indexed column (indexed_columns xs))
+    (λ t. none_in xs column f (has_in nat_cmp nat_exact column (indexed_columns xs) t))
 
 -- where none is kept, none is kept after a change
 pub none_after : (rows lost gained : ℕ) → indexed_after rows lost gained [] ≡ []

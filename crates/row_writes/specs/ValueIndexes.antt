@@ -14,8 +14,8 @@ pub record Indexed : Type 0 where
   pub room : ℕ
 
 -- the columns that have an index
-abbrev pub columns_of : List Indexed → List ℕ
-columns_of others = map (λ x. x.column) others
+abbrev pub indexed_columns : List Indexed → List ℕ
+indexed_columns others = map (λ x. x.column) others
 
 -- this column has one
 abbrev pub is_indexed : ℕ → List ℕ → Bool

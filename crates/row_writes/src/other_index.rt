@@ -6,7 +6,8 @@ ghost use Rattle.relations.specs.Sets.{In};
 ghost use Rattle.column_log.specs.Log.{Log};
 ghost use Rattle.row_order.specs.Logs.{cells_of, few_of};
 ghost use Rattle.value_order.specs.ByValue.{Distinct, ids_handed};
-ghost use Rattle.row_writes.specs.ValueIndexes.{Indexed, columns_of, is_indexed, indexed_after};
+ghost use Rattle.row_writes.specs.ValueIndexes.{Indexed, indexed_columns, is_indexed};
+ghost use Rattle.row_writes.specs.ValueIndexes.{indexed_after};
 ghost use Rattle.row_writes.specs.ValueIndexes.{least_room, IsIndexed, IsReady, IsLosing};
 ghost use Rattle.row_writes.specs.ValueIndexes.{IsGaining};
 
@@ -17,7 +18,7 @@ use row_order::few_of;
 
 /// The place of the index of the column at this place, where there is one.
 pub fn index_of(others: &[ValueIndex], column: usize) -> Option<usize>
-    ensures there { is_some result ≡ is_indexed column (columns_of others.now) }
+    ensures there { is_some result ≡ is_indexed column (indexed_columns others.now) }
     ensures at { IfSome result (λ k. (k < length others.now)
         × ((d : Indexed) → (slice_index_or others.now k d).column ≡ column)) }
 {
@@ -76,8 +77,8 @@ pub fn lose_each(
     requires there { All (λ x. (q : ℕ) → In q lost.now → In q x.ids) others.old.items }
     requires distinct { Distinct lost.now }
     requires room { gained ≤ few_of rows → All (λ x. gained ≤ x.room) others.old.items }
-    ensures columns { columns_of others.new.items
-        ≡ indexed_after rows (length lost.now) gained (columns_of others.old.items) }
+    ensures columns { indexed_columns others.new.items
+        ≡ indexed_after rows (length lost.now) gained (indexed_columns others.old.items) }
     ensures room { All (λ x. gained ≤ x.room) others.new.items }
     ensures indexed { (live : List ℕ) → All (IsIndexed (cells_of columns.now) live [])
         others.old.items → All (IsIndexed (cells_of columns.now) live lost.now) others.new.items }

@@ -17,7 +17,7 @@ use Rattle.smo_meaning.specs.InForce.{stamp_of}
 use Rattle.smo_meaning.specs.ValidPast.{IsLater, IsPast}
 use Rattle.smo_meaning.specs.Past.{Past, version_at, database_at}
 use Rattle.smo_meaning.specs.Sizes.{Size, none_written}
-use Rattle.lifelines.specs.Lifelines.{Lifeline, Covers, lifelines_of, columns_of}
+use Rattle.lifelines.specs.Lifelines.{Lifeline, Covers, lifelines_of, lifeline_columns}
 use Rattle.image_spelling.specs.Images.{StoredLine, Image, IsImage, IsStoredLine, IsUpTo, EndsUpTo}
 use Rattle.image_spelling.specs.Images.{lines_in, store_of}
 use Rattle.image_spelling.specs.ShownPast.{cells_written, line_size, image_past}
@@ -86,7 +86,7 @@ enough_lines (d ∷ due) (l ∷ lines) e = let h = enough_lines due lines (let q
 
 pub same_columns : (tables : List Store) (lines : List StoredLine)
     → map bare tables ≡ map store_of lines → store_columns tables
-    ≡ columns_of (map (λ (l : StoredLine). l.line) lines)
+    ≡ lifeline_columns (map (λ (l : StoredLine). l.line) lines)
 same_columns [] [] e = refl
 same_columns [] (l ∷ lines) e = absurd (let q = e in cc)
 same_columns (t ∷ tables) [] e = absurd (let q = e in cc)

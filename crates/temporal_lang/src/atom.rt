@@ -23,7 +23,7 @@ fn push_table(
 }
 
 /// The columns of the items, each as those of the atom that is the item's place.
-pub(crate) fn atom_columns(
+pub(crate) fn columns_of_items(
     alloc: Global,
     schema: &Schema,
     from: &[(Name, Name)],

@@ -15,7 +15,7 @@ ghost use Rattle.temporal_lang.specs.Typings.{IsTyped, IsTypedTest, OutputsTyped
 ghost use Rattle.temporal_lang.specs.Typings.{BranchesTyped};
 
 use crate::arity::check_arities;
-use crate::atom::atom_columns;
+use crate::atom::columns_of_items;
 use crate::list::{push, with_room};
 use crate::{Branch, QueryFault};
 use cond_expr::{Column, Cond, Expr, cond_size, expr_size};
@@ -98,7 +98,7 @@ fn type_branch(
     ensures { BranchTyped (atom_kinds schema.now branch.now.from.items) at (branch_of branch.now)
         result }
 {
-    let columns = atom_columns(alloc, schema, &branch.from)?;
+    let columns = columns_of_items(alloc, schema, &branch.from)?;
     let typed = type_outputs(alloc, &branch.outs, &columns, at)?;
     match type_cond(&branch.cond, &columns, typed.next) {
         Ok(()) => Ok(Typed {

@@ -17,7 +17,7 @@ use Rattle.smo_meaning.specs.ValidValues.{BodyHolds}
 use Rattle.smo_types.specs.Commands.{PlainBody, changing, evolving, PlainVersion, version_of}
 use Rattle.smo_meaning.specs.Past.{Past, next_database, past_with}
 use Rattle.version_tables.specs.declared.made_table.MadeTable.{MadeTable}
-use Rattle.version_tables.specs.Stored.{stored_as, names_of}
+use Rattle.version_tables.specs.Stored.{stored_as, stored_names}
 use Rattle.version_tables.specs.Places.{at_places, AreWithin}
 use Rattle.version_tables.specs.Becoming.{HasRoom, Leads, IsMade, IsAmong, IsMadeBy}
 use Rattle.version_tables.specs.Changing.{HaveRoom}
@@ -174,7 +174,7 @@ pub record IsRoomFor (kept : Kept) (made : Version) (begun : List MadeTable) (pl
     Type 0 where
   pub come : ComeWith kept made begun places
   pub there : AreWithin places (length kept.stored + length begun)
-  pub ordered : Ascends bytes_cmp (names_of (at_places (kept.stored ++ begun) places))
+  pub ordered : Ascends bytes_cmp (stored_names (at_places (kept.stored ++ begun) places))
   pub room : 1 ≤ kept.spare
   pub beginnings : length begun ≤ kept.beginnings
   pub fits : length kept.versions + 1 < 2 ^ 32

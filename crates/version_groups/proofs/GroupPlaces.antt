@@ -18,7 +18,7 @@ use Rattle.smo_meaning.specs.Past.{no_tables, newest_from}
 use Rattle.smo_meaning.specs.Touching.{consumes}
 use Rattle.smo_types.specs.declared.version.Version.{Version}
 use Rattle.version_tables.specs.declared.made_table.MadeTable.{MadeTable}
-use Rattle.version_tables.specs.Stored.{stored_as, names_of}
+use Rattle.version_tables.specs.Stored.{stored_as, stored_names}
 use Rattle.version_tables.specs.Places.{at_places, AreWithin}
 use Rattle.version_tables.specs.Becoming.{IsMade, IsMadeBy, AreMadeBy}
 use Rattle.version_tables.specs.Changing.{AreMade}
@@ -131,12 +131,12 @@ still_within (g ∷ groups) m n l h = (places_within g m n l h.0, still_within g
 
 names_same : (old new : List MadeTable) → length new ≡ length old
     → ((k : ℕ) (d : MadeTable) → k < length old → (get_or new k d).name ≡ (get_or old k d).name)
-    → names_of new ≡ names_of old
+    → stored_names new ≡ stored_names old
 names_same [] [] e h = refl
 names_same [] (u ∷ new) e h = absurd (omega (arith, e))
 names_same (t ∷ old) [] e h = absurd (omega (arith, e))
 names_same (t ∷ old) (u ∷ new) e h =
-    ap (λ n. n ∷ names_of new) (h 0 t (omega arith))
+    ap (λ n. n ∷ stored_names new) (h 0 t (omega arith))
     ∙ ap (λ ns. t.name ∷ ns) (names_same old new (omega (arith, e))
     (λ k d l. h (suc k) d (omega (arith, l))))
 
@@ -156,8 +156,8 @@ abbrev pub KeepNames : List MadeTable → List MadeTable → Type 0
 KeepNames old new = AreAlike (λ t u. u.name ≡ t.name) old new
 
 still_ordered : (old new : List MadeTable) (places : List ℕ) → KeepNames old new
-    → Ascends bytes_cmp (names_of (at_places old places))
-    → Ascends bytes_cmp (names_of (at_places new places))
+    → Ascends bytes_cmp (stored_names (at_places old places))
+    → Ascends bytes_cmp (stored_names (at_places new places))
 still_ordered old new places h o =
     let own = alike_at (λ t u. u.name ≡ t.name) old new h places in
     subst (Ascends bytes_cmp) (sym (names_same (at_places old places) (at_places new places)
@@ -255,7 +255,8 @@ module _ (a b : Inside) (versions : b.versions.list.items ≡ a.versions.list.it
         earlier = subst (λ (e : List (Vec ℕ)). AllInOrder b.stored.items (items_of e)) (sym earlier)
             (all_still_ordered a.stored.items b.stored.items (items_of a.earlier.items) names
             h.earlier);
-        newest = subst (λ (e : List ℕ). Ascends bytes_cmp (names_of (at_places b.stored.items e)))
+        newest = subst (λ (e : List ℕ). Ascends bytes_cmp
+            (stored_names (at_places b.stored.items e)))
             (sym newest) (still_ordered a.stored.items b.stored.items a.newest.items names
             h.newest);
         lifelines = still_of_lifelines (groups_view a) (groups_view b) versions same_places lines
@@ -272,7 +273,8 @@ module _ (a b : Inside) (versions : b.versions.list.items ≡ a.versions.list.it
     versions = versions;
     places = same_places;
     there = subst (λ ps. AreWithin ps (length a.stored.items)) (sym own_places) h.newest_there;
-    ordered = subst (λ (g : List MadeTable). Ascends bytes_cmp (names_of g)) (sym (newest_is a h))
+    ordered = subst (λ (g : List MadeTable). Ascends bytes_cmp (stored_names g))
+        (sym (newest_is a h))
         h.newest;
     stored = by.count;
     lines = lines_made prepared a.stored.items b.stored.items by;
@@ -310,7 +312,8 @@ names_made prepared old new h = record { count = h.count; each = made_names prep
 -- ---- groups with one version more
 
 all_ordered_with : (tables : List MadeTable) (earlier : List (Vec ℕ)) (g : Vec ℕ)
-    → AllInOrder tables (items_of earlier) → Ascends bytes_cmp (names_of (at_places tables g.items))
+    → AllInOrder tables (items_of earlier) → Ascends bytes_cmp
+    (stored_names (at_places tables g.items))
     → AllInOrder tables (items_of (earlier ++ g ∷ []))
 all_ordered_with tables [] g h o = (o, tt)
 all_ordered_with tables (e ∷ earlier) g h o = (h.0, all_ordered_with tables earlier g h.1 o)
@@ -325,7 +328,7 @@ all_ordered_more : (tables more : List MadeTable) (groups : List (List ℕ))
     → AllInOrder (tables ++ more) groups
 all_ordered_more tables more [] w o = tt
 all_ordered_more tables more (g ∷ groups) w o = (
-  subst (λ (ts : List MadeTable). Ascends bytes_cmp (names_of ts))
+  subst (λ (ts : List MadeTable). Ascends bytes_cmp (stored_names ts))
       (sym (at_more tables more g w.0)) o.0,
   all_ordered_more tables more groups w.1 o.1,
 )
@@ -408,7 +411,7 @@ module _ (a b : Inside) (version : Version) (g : Vec ℕ) (begun : List MadeTabl
 
   module _ (come : ComeWith (groups_view a) version begun b.newest.items)
       (there : AreWithin b.newest.items (length a.stored.items + length begun))
-      (ordered : Ascends bytes_cmp (names_of (at_places (a.stored.items ++ begun)
+      (ordered : Ascends bytes_cmp (stored_names (at_places (a.stored.items ++ begun)
       b.newest.items))) where
     abbrev before_it : Tables
     before_it = newest_from no_tables (versions_in (groups_view a))
@@ -529,7 +532,7 @@ module _ (a b : Inside) (version : Version) (g : Vec ℕ) (begun : List MadeTabl
 
   pub are_groups_with : b.nothing ≡ a.nothing → length a.versions.list.items + 1 < 2 ^ 32
       → AreWithin b.newest.items (length a.stored.items + length begun)
-      → Ascends bytes_cmp (names_of (at_places (a.stored.items ++ begun) b.newest.items))
+      → Ascends bytes_cmp (stored_names (at_places (a.stored.items ++ begun) b.newest.items))
       → AreOfLifelines (groups_view b) → AreGroups b
   are_groups_with nothing few there ordered lifelines =
       let n = length b.stored.items in
@@ -557,14 +560,15 @@ module _ (a b : Inside) (version : Version) (g : Vec ℕ) (begun : List MadeTabl
             (all_ordered_more ended begun (items_of a.earlier.items)
             (subst (AllWithin (items_of a.earlier.items)) (sym as_many) h.earlier_there)
             (all_still_ordered a.stored.items ended (items_of a.earlier.items) names h.earlier))
-            (subst (λ (ps : List ℕ). Ascends bytes_cmp (names_of (at_places (ended ++ begun) ps)))
+            (subst (λ (ps : List ℕ). Ascends bytes_cmp
+            (stored_names (at_places (ended ++ begun) ps)))
             (sym before)
-            (subst (λ (ts : List MadeTable). Ascends bytes_cmp (names_of ts))
+            (subst (λ (ts : List MadeTable). Ascends bytes_cmp (stored_names ts))
             (sym (at_more ended begun a.newest.items
             (subst (AreWithin a.newest.items) (sym as_many) h.newest_there)))
             (still_ordered a.stored.items ended a.newest.items names h.newest)))));
         newest = subst (λ (ts : List MadeTable).
-            Ascends bytes_cmp (names_of (at_places ts b.newest.items))) (sym (stored no_tables))
+            Ascends bytes_cmp (stored_names (at_places ts b.newest.items))) (sym (stored no_tables))
             (subst (Ascends bytes_cmp) (sym (names_with consumed number a.stored.items begun
             b.newest.items)) ordered);
         lifelines = lifelines;

@@ -23,7 +23,7 @@ use Rattle.smo_meaning.proofs.CountingLaws.{self_gains_nothing}
 use Rattle.smo_meaning.proofs.DatabaseLaws.{changes_keep}
 use Rattle.smo_meaning.proofs.PastSteps.{stamp_accepted}
 use Rattle.version_tables.specs.declared.made_table.MadeTable.{MadeTable}
-use Rattle.version_tables.specs.Stored.{stored_as, names_of}
+use Rattle.version_tables.specs.Stored.{stored_as, stored_names}
 use Rattle.version_tables.specs.Becoming.{Leads}
 use Rattle.version_tables.specs.Changing.{rows_now, rows_after, AreChangeable, AreReady, all_gained}
 use Rattle.version_tables.specs.Changing.{all_lost}
@@ -71,7 +71,7 @@ module _ (kept : Kept) (past : Past) (stamp : ℕ) (body : PlainBody)
 -- ---- tables that stand for a database
 
 module _ (tables : Tables) (database : Database) (stamp : ℕ) (made : List MadeTable)
-    (ordered : Ascends bytes_cmp (names_of made))
+    (ordered : Ascends bytes_cmp (stored_names made))
     (stored : AreStored tables database stamp made) where
   -- what is stored under a name that has a table
   pub record Stands (name : List ℕ) (store : Store) : Type 0 where

@@ -33,7 +33,7 @@ use Rattle.smo_meaning.specs.Sizes.{Size}
 use Rattle.smo_meaning.proofs.PastSteps.{beginning_is_past, body_accepted}
 use Rattle.smo_meaning.proofs.ValueLaws.{beginning_holds}
 use Rattle.version_tables.specs.declared.made_table.MadeTable.{MadeTable}
-use Rattle.version_tables.specs.Stored.{stored_as, names_of}
+use Rattle.version_tables.specs.Stored.{stored_as, stored_names}
 use Rattle.version_tables.specs.Room.{IsSameTable, AreSameTables}
 use Rattle.version_tables.specs.Changing.{AreChangeable, AreOfSchema, AreReady, all_gained}
 use Rattle.version_tables.specs.Changing.{all_lost}
@@ -196,12 +196,12 @@ is_same kept = record {
 module _ (kept : Kept) (past : Past) (stamp : ℕ) (changes : List PlainChange)
     (represents : Represents kept past) (valid : stamp < forever)
     (accepted : command_fault past (a_command stamp (changing changes)) ≡ None)
-    (ordered : Ascends bytes_cmp (names_of (newest_group kept))) where
+    (ordered : Ascends bytes_cmp (stored_names (newest_group kept))) where
   number : length kept.versions ≡ length past.versions
   number = as_many kept past represents
 
-  in_order : Ascends bytes_cmp (names_of (group_of kept (length past.versions)))
-  in_order = subst (λ j. Ascends bytes_cmp (names_of (group_of kept j))) number ordered
+  in_order : Ascends bytes_cmp (stored_names (group_of kept (length past.versions)))
+  in_order = subst (λ j. Ascends bytes_cmp (stored_names (group_of kept j))) number ordered
 
   pub of_newest_schema : AreOfSchema (newest_tables past) (newest_group kept)
   of_newest_schema =

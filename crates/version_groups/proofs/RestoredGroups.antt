@@ -25,7 +25,7 @@ use Rattle.version_groups.specs.Covering.{line_of}
 use Rattle.version_groups.specs.Groups.{Kept, versions_in, table_in}
 use Rattle.version_groups.specs.Lifelines.{Lifeline, line_after, line_begun, made_tables}
 use Rattle.version_groups.specs.Lifelines.{lifelines_after, lifelines_from, lifelines_of}
-use Rattle.version_groups.specs.Lifelines.{columns_of}
+use Rattle.version_groups.specs.Lifelines.{lifeline_columns}
 use Rattle.version_groups.specs.Restoring.{store_columns, AreRestored}
 use Rattle.version_groups.specs.Representation.{RepresentsEntry, Represents}
 
@@ -116,38 +116,40 @@ begun_apart before (v ∷ versions) more =
     (columns_begun v.tables versions) (columns_begun (newest_from v.tables versions) more))
 
 columns_still : (consumed : List ℕ → Bool) (k : ℕ) (lines : List Lifeline)
-    → columns_of (map (line_after consumed k) lines) ≡ columns_of lines
+    → lifeline_columns (map (line_after consumed k) lines) ≡ lifeline_columns lines
 columns_still consumed k [] = refl
 columns_still consumed k (l ∷ lines) = ap (λ cs. l.columns ∷ cs) (columns_still consumed k lines)
 
-columns_begin : (k : ℕ) (made : List Listed) → columns_of (map (line_begun k) made)
+columns_begin : (k : ℕ) (made : List Listed) → lifeline_columns (map (line_begun k) made)
     ≡ columns_made made
 columns_begin k [] = refl
 columns_begin k (e ∷ made) = ap (λ cs. e.1 ∷ cs) (columns_begin k made)
 
 columns_after : (before : Tables) (k : ℕ) (lines : List Lifeline) (v : PlainVersion)
-    → columns_of (lifelines_after before k lines v) ≡ columns_of lines
+    → lifeline_columns (lifelines_after before k lines v) ≡ lifeline_columns lines
     ++ columns_made (made_tables before v.op v.tables)
 columns_after before k lines v =
     map-append (λ (l : Lifeline). l.columns) (map (line_after (consumes before v.op) k) lines)
     (map (line_begun (k + 1)) (made_tables before v.op v.tables))
-    ∙ ap (λ cs. cs ++ columns_of (map (line_begun (k + 1)) (made_tables before v.op v.tables)))
+    ∙ ap (λ cs. cs ++ lifeline_columns (map (line_begun (k + 1))
+    (made_tables before v.op v.tables)))
     (columns_still (consumes before v.op) k lines)
-    ∙ ap (λ cs. columns_of lines ++ cs) (columns_begin (k + 1) (made_tables before v.op v.tables))
+    ∙ ap (λ cs. lifeline_columns lines ++ cs)
+    (columns_begin (k + 1) (made_tables before v.op v.tables))
 
 columns_from : (before : Tables) (k : ℕ) (lines : List Lifeline) (versions : List PlainVersion)
-    → columns_of (lifelines_from before k lines versions) ≡ columns_of lines
+    → lifeline_columns (lifelines_from before k lines versions) ≡ lifeline_columns lines
     ++ columns_begun before versions
-columns_from before k lines [] = sym (append-nil (columns_of lines))
+columns_from before k lines [] = sym (append-nil (lifeline_columns lines))
 columns_from before k lines (v ∷ versions) =
     columns_from v.tables (k + 1) (lifelines_after before k lines v) versions
     ∙ ap (λ cs. cs ++ columns_begun v.tables versions) (columns_after before k lines v)
-    ∙ append_assoc (columns_of lines) (columns_made (made_tables before v.op v.tables))
+    ∙ append_assoc (lifeline_columns lines) (columns_made (made_tables before v.op v.tables))
     (columns_begun v.tables versions)
 
 -- of versions in two parts
 pub columns_apart : (versions more : List PlainVersion)
-    → columns_of (lifelines_of (versions ++ more)) ≡ columns_of (lifelines_of versions)
+    → lifeline_columns (lifelines_of (versions ++ more)) ≡ lifeline_columns (lifelines_of versions)
     ++ columns_begun (newest_from no_tables versions) more
 columns_apart versions more =
     columns_from no_tables 0 [] (versions ++ more)
@@ -158,7 +160,7 @@ columns_apart versions more =
 -- ---- the stores that are left
 
 columns_stored : (tables : List MadeTable) → store_columns (stores_of tables)
-    ≡ columns_of (map line_of tables)
+    ≡ lifeline_columns (map line_of tables)
 columns_stored [] = refl
 columns_stored (t ∷ tables) = ap (λ cs. t.store.columns ∷ cs) (columns_stored tables)
 
@@ -168,13 +170,13 @@ rest_is {A} (x ∷ xs) ys zs e = rest_is xs ys zs (cc)
 
 pub columns_left : (kept : Kept) → AreRestored kept
     → (rest all : List Store) (left : List PlainVersion) → stores_of kept.stored ++ rest ≡ all
-    → store_columns all ≡ columns_of (lifelines_of (versions_in kept ++ left))
+    → store_columns all ≡ lifeline_columns (lifelines_of (versions_in kept ++ left))
     → store_columns rest ≡ columns_begun (newest_from no_tables (versions_in kept)) left
 columns_left kept h rest all left is e =
-    rest_is (columns_of (lifelines_of (versions_in kept))) (store_columns rest)
+    rest_is (lifeline_columns (lifelines_of (versions_in kept))) (store_columns rest)
     (columns_begun (newest_from no_tables (versions_in kept)) left)
     (ap (λ cs. cs ++ store_columns rest) (sym
-    (columns_stored kept.stored ∙ ap columns_of h.lifelines.lines))
+    (columns_stored kept.stored ∙ ap lifeline_columns h.lifelines.lines))
     ∙ sym (map-append (λ (s : Store). s.columns) (stores_of kept.stored) rest)
     ∙ ap store_columns is ∙ e ∙ columns_apart (versions_in kept) left)
 
@@ -190,7 +192,7 @@ first_have (s ∷ stores) (m ∷ made) more e =
 pub next_due : (kept : Kept) → AreRestored kept
     → (rest all : List Store) (v : PlainVersion) (left : List PlainVersion)
     → stores_of kept.stored ++ rest ≡ all
-    → store_columns all ≡ columns_of (lifelines_of (versions_in kept ++ v ∷ left))
+    → store_columns all ≡ lifeline_columns (lifelines_of (versions_in kept ++ v ∷ left))
     → HaveColumns rest (made_tables (newest_from no_tables (versions_in kept)) v.op v.tables)
 next_due kept h rest all v left is e =
     first_have rest (made_tables (newest_from no_tables (versions_in kept)) v.op v.tables)
@@ -203,10 +205,10 @@ no_columns (s ∷ stores) e = absurd (cc)
 
 pub all_taken : (kept : Kept) → AreRestored kept → (rest all : List Store)
     → stores_of kept.stored ++ rest ≡ all → store_columns all
-    ≡ columns_of (lifelines_of (versions_in kept)) → stores_of kept.stored ≡ all
+    ≡ lifeline_columns (lifelines_of (versions_in kept)) → stores_of kept.stored ≡ all
 all_taken kept h rest all is e =
     sym (append-nil (stores_of kept.stored))
     ∙ ap (λ (ss : List Store). stores_of kept.stored ++ ss)
     (sym (no_columns rest (columns_left kept h rest all [] is
-    (e ∙ ap (λ vs. columns_of (lifelines_of vs)) (sym (append-nil (versions_in kept)))))))
+    (e ∙ ap (λ vs. lifeline_columns (lifelines_of vs)) (sym (append-nil (versions_in kept)))))))
     ∙ is

@@ -6,7 +6,7 @@ use Rattle.relations.specs.Sets.{Ascends}
 use Rattle.prima_base.specs.Order.{bytes_cmp}
 use Rattle.smo_meaning.specs.Past.{no_tables}
 use Rattle.version_tables.specs.declared.made_table.MadeTable.{MadeTable}
-use Rattle.version_tables.specs.Stored.{names_of}
+use Rattle.version_tables.specs.Stored.{stored_names}
 use Rattle.version_tables.specs.Places.{at_places, AreWithin}
 use Rattle.version_groups.specs.declared.groups.Groups.TheInside.{Inside}
 use Rattle.version_groups.specs.Groups.{Kept}
@@ -22,7 +22,7 @@ items_of groups = map (λ g. g.items) groups
 -- each version's tables stand in the order of their names, each once
 abbrev pub AllInOrder : List MadeTable → List (List ℕ) → Type 0
 AllInOrder tables [] = ⊤
-AllInOrder tables (g ∷ groups) = Ascends bytes_cmp (names_of (at_places tables g))
+AllInOrder tables (g ∷ groups) = Ascends bytes_cmp (stored_names (at_places tables g))
     × AllInOrder tables groups
 
 -- and they are there
@@ -49,5 +49,5 @@ pub record AreGroups (a : Inside) : Type 0 where
   pub earlier_there : AllWithin (items_of a.earlier.items) (length a.stored.items)
   pub newest_there : AreWithin a.newest.items (length a.stored.items)
   pub earlier : AllInOrder a.stored.items (items_of a.earlier.items)
-  pub newest : Ascends bytes_cmp (names_of (at_places a.stored.items a.newest.items))
+  pub newest : Ascends bytes_cmp (stored_names (at_places a.stored.items a.newest.items))
   pub lifelines : AreOfLifelines (groups_view a)

@@ -12,7 +12,7 @@ use Rattle.smo_types.specs.Commands.{PlainVersion}
 use Rattle.smo_meaning.specs.Past.{no_tables, newest_from}
 use Rattle.smo_meaning.specs.Touching.{consumes}
 use Rattle.version_tables.specs.declared.made_table.MadeTable.{MadeTable}
-use Rattle.version_tables.specs.Stored.{stored_as, names_of}
+use Rattle.version_tables.specs.Stored.{stored_as, stored_names}
 use Rattle.version_tables.specs.Becoming.{AreMadeBy}
 use Rattle.version_tables.specs.Ending.{AreLiving, table_after}
 use Rattle.version_tables.specs.Changing.{AreMade}
@@ -50,7 +50,7 @@ pub record HasChanges (kept new : Kept) (prepared : List (Option PreparedChange)
   pub versions : new.versions ≡ kept.versions
   pub places : new.places ≡ kept.places
   pub there : AreWithin (newest_places kept) (length kept.stored)
-  pub ordered : Ascends bytes_cmp (names_of (newest_group kept))
+  pub ordered : Ascends bytes_cmp (stored_names (newest_group kept))
   pub stored : length new.stored ≡ length kept.stored
   pub lines : map line_of new.stored ≡ map line_of kept.stored
   pub others : (p : ℕ) → (d : MadeTable) → (In p (newest_places kept) → ⊥)

@@ -19,7 +19,7 @@ use Rattle.smo_meaning.specs.Touching.{makes}
 use Rattle.smo_meaning.specs.Past.{Past, newest_tables, newest_database, next_version}
 use Rattle.smo_meaning.specs.Past.{next_database}
 use Rattle.version_tables.specs.declared.made_table.MadeTable.{MadeTable}
-use Rattle.version_tables.specs.Stored.{stored_as, names_of}
+use Rattle.version_tables.specs.Stored.{stored_as, stored_names}
 use Rattle.version_tables.specs.Beginning.{BeginsWith, BeginInOrder, ArePlaced}
 use Rattle.version_tables.specs.Evolving.{BeginsEntry}
 use Rattle.version_tables.specs.Becoming.{Leads}
@@ -68,7 +68,7 @@ pub record IsNextVersion (kept : Kept) (before : Tables) (due : PlainVersion) (n
   pub placed : ArePlaced kept.stored begun (newest_places kept) (makes before due.op) due.tables
       places
   pub there : AreWithin places (length kept.stored + length begun)
-  pub ordered : Ascends bytes_cmp (names_of (at_places (kept.stored ++ begun) places))
+  pub ordered : Ascends bytes_cmp (stored_names (at_places (kept.stored ++ begun) places))
   pub tables : (name : List ℕ) → BeginsEntry due.stamp (rows_under (get next name))
       (get due.tables name) (stored_as name (at_places (kept.stored ++ begun) places))
   pub room : 1 ≤ kept.spare

@@ -115,7 +115,7 @@ impl Groups {
     ghost use Rattle.smo_meaning.specs.Past.{newest_tables};
     ghost use Rattle.smo_meaning.specs.Sizes.{Size};
     ghost use Rattle.smo_ops.specs.TablePlaces.{StandAt};
-    ghost use Rattle.version_tables.specs.Stored.{names_of};
+    ghost use Rattle.version_tables.specs.Stored.{stored_names};
     ghost use Rattle.version_tables.specs.Places.{at_places, AreWithin};
     ghost use Rattle.version_tables.specs.Changing.{HaveRoom};
     ghost use Rattle.version_tables.specs.Restoring.{stores_of, HaveColumns};
@@ -123,7 +123,7 @@ impl Groups {
     ghost use Rattle.version_groups.specs.Groups.{newest_group};
     ghost use Rattle.version_groups.specs.Installing.{HasEarlier, HasChanges, HasVersion, ComeWith};
     ghost use Rattle.version_groups.specs.Installing.{HasStep};
-    ghost use Rattle.version_groups.specs.Lifelines.{lifelines_of, columns_of, made_tables};
+    ghost use Rattle.version_groups.specs.Lifelines.{lifelines_of, lifeline_columns, made_tables};
     ghost use Rattle.version_groups.specs.Lifelines.{place_in};
     ghost use Rattle.version_groups.specs.Restoring.{AreRestored, store_columns};
     ghost use Rattle.version_groups.specs.Representation.{Represents};
@@ -164,7 +164,7 @@ impl Groups {
         requires versions { AreVersions None no_tables (versions_of versions) }
         requires few { length versions.list.items ≤ max_versions }
         requires stores { store_columns stores.items
-            ≡ columns_of (lifelines_of (versions_of versions)) }
+            ≡ lifeline_columns (lifelines_of (versions_of versions)) }
         ensures versions { IfOk result (λ groups. groups.versions ≡ versions.list.items) }
         ensures stores { IfOk result (λ groups. stores_of groups.stored ≡ stores.items) }
         ensures restored { IfOk result (λ groups. AreRestored groups) }
@@ -381,7 +381,7 @@ impl Groups {
     fn install_version(&mut self, version: Version, begun: Vec<MadeTable>, places: Vec<usize>)
         requires come { ComeWith self.old version begun.items places.items }
         requires there { AreWithin places.items (length self.old.stored + length begun.items) }
-        requires ordered { Ascends bytes_cmp (names_of
+        requires ordered { Ascends bytes_cmp (stored_names
             (at_places (self.old.stored ++ begun.items) places.items)) }
         requires room { 1 ≤ self.old.spare }
         requires beginnings { length begun.items ≤ self.old.beginnings }

@@ -19,7 +19,7 @@ use Rattle.history_store.specs.Store.{Store}
 use Rattle.smo_meaning.specs.OneRow.{same}
 use Rattle.smo_meaning.proofs.NameLaws.{same_itself, same_is, same_not, same_turned}
 use Rattle.version_tables.specs.declared.made_table.MadeTable.{MadeTable}
-use Rattle.version_tables.specs.Stored.{stored_as, names_of, HasEntry}
+use Rattle.version_tables.specs.Stored.{stored_as, stored_names, HasEntry}
 
 abbrev Listed : Type 0
 Listed = List ℕ × List Column
@@ -41,11 +41,11 @@ module _ (Has : List ℕ → List Column → Store → Type 0) where
   begun_more (d ∷ es) (u ∷ begun) e t h n b = (h.0, h.1, begun_more es begun e t h.2 n b)
 
   begun_names : (es : List Listed) (begun : List MadeTable) → AreBegun es begun
-      → names_of begun ≡ map (λ (e : Listed). e.0) es
+      → stored_names begun ≡ map (λ (e : Listed). e.0) es
   begun_names [] [] h = refl
   begun_names [] (t ∷ begun) h = absurd h
   begun_names (e ∷ es) [] h = absurd h
-  begun_names (e ∷ es) (t ∷ begun) h = ap (λ n. n ∷ names_of begun) h.0
+  begun_names (e ∷ es) (t ∷ begun) h = ap (λ n. n ∷ stored_names begun) h.0
       ∙ ap (λ ns. e.0 ∷ ns) (begun_names es begun h.2)
 
   begun_under : (name : List ℕ) (es : List Listed) (begun : List MadeTable) → AreBegun es begun
@@ -147,7 +147,7 @@ module _ (Has : List ℕ → List Column → Store → Type 0) where
       (ap (λ j. take j (entries tables)) all ∙ take-length (entries tables)) h
 
   module _ (tables : Tables) (begun : List MadeTable) (all : AreBegun (entries tables) begun) where
-    pub begun_ordered : Ascends bytes_cmp (names_of begun)
+    pub begun_ordered : Ascends bytes_cmp (stored_names begun)
     begun_ordered = subst (Ascends bytes_cmp) (sym (begun_names (entries tables) begun all))
         (names_rise (entries tables) (entries_sorted tables))
 

@@ -24,7 +24,7 @@ use Rattle.smo_ops.specs.TablePlaces.{StandAt}
 use Rattle.table_changes.specs.Changing.{borrowed_changes}
 use Rattle.version_tables.specs.declared.made_table.MadeTable.{MadeTable}
 use Rattle.version_tables.specs.Grouping.{of_table, by_table, grouped}
-use Rattle.version_tables.specs.Stored.{names_of}
+use Rattle.version_tables.specs.Stored.{stored_names}
 use Rattle.version_tables.proofs.SchemaTables.{names_ascend}
 
 -- ---- a change and the place of its table
@@ -97,7 +97,7 @@ one_more (n ∷ names) before c (suc i) a s =
 
 -- ---- the groups, name by name
 
-names_count : (tables : List MadeTable) → length (names_of tables) ≡ length tables
+names_count : (tables : List MadeTable) → length (stored_names tables) ≡ length tables
 names_count [] = refl
 names_count (t ∷ tables) = ap suc (names_count tables)
 
@@ -108,26 +108,26 @@ as_many names groups changes e =
     ∙ length-map names (λ name. of_table name changes)
 
 pub as_many_tables : (tables : List MadeTable) (groups : List (Vec (Bor Change)))
-    (changes : List PlainChange) → grouped groups ≡ by_table (names_of tables) changes
+    (changes : List PlainChange) → grouped groups ≡ by_table (stored_names tables) changes
     → length groups ≡ length tables
-as_many_tables tables groups changes e = as_many (names_of tables) groups changes e
+as_many_tables tables groups changes e = as_many (stored_names tables) groups changes e
     ∙ names_count tables
 
 -- at the place of a table are the changes of it
 own_at : (tables : List MadeTable) (groups : List (Vec (Bor Change))) (changes : List PlainChange)
     (i : ℕ) (d : MadeTable) (g : Vec (Bor Change))
-    → grouped groups ≡ by_table (names_of tables) changes → i < length tables
+    → grouped groups ≡ by_table (stored_names tables) changes → i < length tables
     → borrowed_changes (get_or groups i g).items ≡ of_table (get_or tables i d).name changes
 own_at [] groups changes i d g e l = absurd (omega (arith, l))
 own_at (t ∷ tables) [] changes i d g e l = absurd (cc)
 own_at (t ∷ tables) (h ∷ groups) changes zero d g e l = cc
 own_at (t ∷ tables) (h ∷ groups) changes (suc i) d g e l =
-    let rest : grouped groups ≡ by_table (names_of tables) changes = cc in
+    let rest : grouped groups ≡ by_table (stored_names tables) changes = cc in
     own_at tables groups changes i d g rest (omega (arith, l))
 
 pub own_changes : (tables : List MadeTable) (groups : List (Vec (Bor Change)))
     (changes : List PlainChange) (i : ℕ) (t : MadeTable) (g : Vec (Bor Change))
-    (own : List (Bor Change)) → grouped groups ≡ by_table (names_of tables) changes
+    (own : List (Bor Change)) → grouped groups ≡ by_table (stored_names tables) changes
     → i < length tables → get_or tables i t ≡ t → g ≡ get_or groups i g → own ≡ g.items
     → borrowed_changes own ≡ of_table t.name changes
 own_changes tables groups changes i t g own e l here at is =

@@ -19,7 +19,7 @@ use Rattle.lifelines.specs.Lifelines.{last_after}
 use Rattle.version_tables.specs.Ending.{table_after, AreEnding, AreLiving}
 use Rattle.version_tables.specs.Places.{with_table, at_places, AreWithin, IsFound}
 use Rattle.version_tables.specs.NewestTables.{is_name}
-use Rattle.version_tables.specs.Stored.{stored_as, names_of}
+use Rattle.version_tables.specs.Stored.{stored_as, stored_names}
 use Rattle.version_tables.proofs.NamedPlaces.{none_named, one_by_name}
 use Rattle.version_tables.proofs.TablesInTurn.{one_place}
 
@@ -67,14 +67,14 @@ module _ (f : MadeTable → MadeTable) (named : (t : MadeTable) → (f t).name �
       ∙ ap (with_table (option_map f (slice_get tables p))) (at_each tables places)
       ∙ with_each (slice_get tables p) (at_places tables places)
 
-  names_each : (tables : List MadeTable) → names_of (map f tables) ≡ names_of tables
+  names_each : (tables : List MadeTable) → stored_names (map f tables) ≡ stored_names tables
   names_each [] = refl
-  names_each (t ∷ tables) = ap (λ n. n ∷ names_of (map f tables)) (named t)
+  names_each (t ∷ tables) = ap (λ n. n ∷ stored_names (map f tables)) (named t)
       ∙ ap (λ ns. t.name ∷ ns) (names_each tables)
 
   names_at : (tables : List MadeTable) (places : List ℕ)
-      → names_of (at_places (map f tables) places) ≡ names_of (at_places tables places)
-  names_at tables places = ap names_of (at_each tables places)
+      → stored_names (at_places (map f tables) places) ≡ stored_names (at_places tables places)
+  names_at tables places = ap stored_names (at_each tables places)
       ∙ names_each (at_places tables places)
 
   each_as : (name : List ℕ) (tables : List MadeTable)
@@ -101,7 +101,7 @@ module _ (consumed : List ℕ → Bool) (k : ℕ) where
 
   -- the names stay, and what is stored under them
   pub names_still : (tables : List MadeTable) (places : List ℕ)
-      → names_of (at_places (map ended tables) places) ≡ names_of (at_places tables places)
+      → stored_names (at_places (map ended tables) places) ≡ stored_names (at_places tables places)
   names_still = names_at ended (λ t. refl) (λ t. refl)
 
   pub stored_still : (name : List ℕ) (tables : List MadeTable) (places : List ℕ)
@@ -117,12 +117,13 @@ module _ (consumed : List ℕ → Bool) (k : ℕ) where
   all_living_on (t ∷ tables) begun = ap (λ ts. living_on t ∷ ts) (all_living_on tables begun)
 
   pub names_with : (tables begun : List MadeTable) (places : List ℕ)
-      → names_of (at_places (map ended tables ++ begun) places)
-      ≡ names_of (at_places (tables ++ begun) places)
+      → stored_names (at_places (map ended tables ++ begun) places)
+      ≡ stored_names (at_places (tables ++ begun) places)
   unfolding living_on
   names_with tables begun places =
       sym (names_at living_on (λ t. refl) (λ t. refl) (map ended tables ++ begun) places)
-      ∙ ap (λ (ts : List MadeTable). names_of (at_places ts places)) (all_living_on tables begun)
+      ∙ ap (λ (ts : List MadeTable). stored_names (at_places ts places))
+      (all_living_on tables begun)
       ∙ names_at living_on (λ t. refl) (λ t. refl) (tables ++ begun) places
 
   pub stored_with : (name : List ℕ) (tables begun : List MadeTable) (places : List ℕ)
@@ -185,7 +186,7 @@ module _ (k : ℕ) (tables : List MadeTable) (places : List ℕ) (name : List �
 
   -- where there is one, its lifeline has ended
   one_ends : AreWithin places (length tables)
-      → Ascends bytes_cmp (names_of (at_places tables places)) → (p : ℕ) (t : MadeTable)
+      → Ascends bytes_cmp (stored_names (at_places tables places)) → (p : ℕ) (t : MadeTable)
       → p < length tables → In p places → (get_or tables p t).name ≡ name
       → set tables p (record {
         name = (get_or tables p t).name;
@@ -232,7 +233,7 @@ module _ (k : ℕ) (tables : List MadeTable) (places : List ℕ) (name : List �
 
   -- as it is found by its name
   pub found_ends : AreWithin places (length tables)
-      → Ascends bytes_cmp (names_of (at_places tables places)) → (p : ℕ) (f t : MadeTable)
+      → Ascends bytes_cmp (stored_names (at_places tables places)) → (p : ℕ) (f t : MadeTable)
       → IsFound tables places name p f
       → set tables p (record {
         name = (get_or tables p t).name;

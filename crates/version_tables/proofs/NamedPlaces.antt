@@ -11,7 +11,7 @@ use Rattle.smo_meaning.specs.OneRow.{same}
 use Rattle.smo_meaning.proofs.NameLaws.{same_itself}
 use Rattle.version_tables.specs.declared.made_table.MadeTable.{MadeTable}
 use Rattle.version_tables.specs.Places.{with_table, at_places, AreWithin}
-use Rattle.version_tables.specs.Stored.{stored_as, names_of}
+use Rattle.version_tables.specs.Stored.{stored_as, stored_names}
 use Rattle.version_tables.proofs.Places.{at_one, named_in, not_before_itself}
 
 -- what stands at one of the places is stored under its name, or another of the same name is
@@ -53,14 +53,15 @@ none_named tables p d places name none l i e =
     absurd (cc)
 
 ascending : (tables : List MadeTable) (r : ℕ) (places : List ℕ) (d : MadeTable) → r < length tables
-    → Ascends bytes_cmp (names_of (at_places tables (r ∷ places)))
-    → Ascends bytes_cmp (names_of (get_or tables r d ∷ at_places tables places))
-ascending tables r places d l a = subst (λ (ts : List MadeTable). Ascends bytes_cmp (names_of ts))
+    → Ascends bytes_cmp (stored_names (at_places tables (r ∷ places)))
+    → Ascends bytes_cmp (stored_names (get_or tables r d ∷ at_places tables places))
+ascending tables r places d l a = subst (λ (ts : List MadeTable).
+    Ascends bytes_cmp (stored_names ts))
     (at_one tables r places d l) a
 
 -- of tables of ascending names two that have one name are one
 pub one_by_name : (tables : List MadeTable) (places : List ℕ) → AreWithin places (length tables)
-    → Ascends bytes_cmp (names_of (at_places tables places))
+    → Ascends bytes_cmp (stored_names (at_places tables places))
     → (p q : ℕ) (d : MadeTable) → In p places → In q places
     → (get_or tables p d).name ≡ (get_or tables q d).name → p ≡ q
 one_by_name tables [] w a p q d i j e = absurd i
@@ -69,16 +70,16 @@ one_by_name tables (r ∷ places) w a p q d i j e =
     (λ m n. one_by_name tables places w.1 (ascending tables r places d w.0 a).1 p q d m n e) i j
   where
     -- the first has another name than those after it
-    apart : BeforeAll bytes_cmp (get_or tables r d).name (names_of (at_places tables places))
+    apart : BeforeAll bytes_cmp (get_or tables r d).name (stored_names (at_places tables places))
         → (x : ℕ) → In x places → (get_or tables r d).name ≡ (get_or tables x d).name → ⊥
     apart before x m f =
         not_before_itself (get_or tables r d).name
         (before_in bytes_cmp (get_or tables r d).name (get_or tables r d).name
-        (names_of (at_places tables places)) before
-        (subst (λ n. In n (names_of (at_places tables places))) (sym f)
+        (stored_names (at_places tables places)) before
+        (subst (λ n. In n (stored_names (at_places tables places))) (sym f)
         (named_in tables places x d w.1 m)))
 
-    step : BeforeAll bytes_cmp (get_or tables r d).name (names_of (at_places tables places))
+    step : BeforeAll bytes_cmp (get_or tables r d).name (stored_names (at_places tables places))
         → (In p places → In q places → p ≡ q) → In p (r ∷ places) → In q (r ∷ places) → p ≡ q
     step before rest (inl f) (inl g) = sym f ∙ g
     step before rest (inl f) (inr n) = absurd

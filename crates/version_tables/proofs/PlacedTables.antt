@@ -22,7 +22,7 @@ use Rattle.version_tables.specs.declared.made_table.MadeTable.{MadeTable}
 use Rattle.version_tables.specs.Evolving.{Comes}
 use Rattle.version_tables.specs.Places.{at_places, AreWithin}
 use Rattle.version_tables.specs.Beginning.{BeginsWith, BeginInOrder, ArePlaced}
-use Rattle.version_tables.specs.Stored.{names_of}
+use Rattle.version_tables.specs.Stored.{stored_names}
 use Rattle.version_tables.proofs.BegunTables.{listed_there}
 use Rattle.version_tables.proofs.NamedPlaces.{one_by_name}
 
@@ -169,7 +169,7 @@ module _ (stored : List MadeTable) (before : List ℕ) (is_made : List ℕ → B
 
   -- one table more
   module _ (within : AreWithin before (length stored))
-      (ordered : Ascends bytes_cmp (names_of (at_places stored before))) where
+      (ordered : Ascends bytes_cmp (stored_names (at_places stored before))) where
     -- by whether it is made
     coming_by : (b : Bool) (listed more : List Listed) (begun new : List MadeTable) (own : List ℕ)
         (place : ℕ) (e : Listed) → AreComing listed begun own → is_made e.0 ≡ b

@@ -15,7 +15,7 @@ use Rattle.history_store.specs.Store.{Store}
 use Rattle.smo_meaning.proofs.NameLaws.{same_itself, same_not}
 use Rattle.smo_meaning.proofs.PastMoments.{before_or_not}
 use Rattle.version_tables.specs.declared.made_table.MadeTable.{MadeTable}
-use Rattle.version_tables.specs.Stored.{names_of}
+use Rattle.version_tables.specs.Stored.{stored_names}
 use Rattle.version_tables.specs.Places.{with_table, at_places, AreWithin}
 use Rattle.version_tables.specs.Room.{IsSameTable, AreSameTables}
 use Rattle.version_tables.proofs.TablesInTurn.{one_place, same_table}
@@ -207,13 +207,13 @@ place_in (p ∷ places) (suc k) d l = inr (place_in places k d (omega (arith, l)
 
 pub named_in : (tables : List MadeTable) (places : List ℕ) (p : ℕ) (d : MadeTable)
     → AreWithin places (length tables) → In p places
-    → In (get_or tables p d).name (names_of (at_places tables places))
+    → In (get_or tables p d).name (stored_names (at_places tables places))
 named_in tables [] p d h m = absurd m
 named_in tables (q ∷ places) p d h (inl e) =
-    subst (λ (ts : List MadeTable). In (get_or tables p d).name (names_of ts))
+    subst (λ (ts : List MadeTable). In (get_or tables p d).name (stored_names ts))
     (sym (at_one tables q places d h.0)) (inl (ap (λ j. (get_or tables j d).name) e))
 named_in tables (q ∷ places) p d h (inr m) =
-    subst (λ (ts : List MadeTable). In (get_or tables p d).name (names_of ts))
+    subst (λ (ts : List MadeTable). In (get_or tables p d).name (stored_names ts))
     (sym (at_one tables q places d h.0)) (inr (named_in tables places p d h.1 m))
 
 pub not_before_itself : (n : List ℕ) → bytes_cmp n n ≡ Less → ⊥
@@ -221,16 +221,16 @@ not_before_itself n e = (let not = same_not n n e in let is = same_itself n in a
 
 -- tables of ascending names stand at places that are apart
 pub apart_by_names : (tables : List MadeTable) (places : List ℕ) → AreWithin places (length tables)
-    → Ascends bytes_cmp (names_of (at_places tables places)) → Apart places
+    → Ascends bytes_cmp (stored_names (at_places tables places)) → Apart places
 apart_by_names tables [] h a = tt
 apart_by_names tables (p ∷ places) h a =
     let d = something_at tables p h.0 in
-    let all : Ascends bytes_cmp (names_of (get_or tables p d ∷ at_places tables places)) =
-    subst (λ (ts : List MadeTable). Ascends bytes_cmp (names_of ts))
+    let all : Ascends bytes_cmp (stored_names (get_or tables p d ∷ at_places tables places)) =
+    subst (λ (ts : List MadeTable). Ascends bytes_cmp (stored_names ts))
     (at_one tables p places d h.0) a in (
       λ m. not_before_itself (get_or tables p d).name
           (before_in bytes_cmp (get_or tables p d).name (get_or tables p d).name
-          (names_of (at_places tables places)) all.0 (named_in tables places p d h.1 m)),
+          (stored_names (at_places tables places)) all.0 (named_in tables places p d h.1 m)),
       apart_by_names tables places h.1 all.1,
     )
 

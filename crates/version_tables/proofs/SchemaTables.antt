@@ -25,7 +25,7 @@ use Rattle.smo_meaning.specs.OneRow.{Relation, same}
 use Rattle.smo_meaning.proofs.NameLaws.{same_turned}
 use Rattle.version_tables.specs.declared.made_table.MadeTable.{MadeTable}
 use Rattle.version_tables.specs.Changing.{AreOfSchema}
-use Rattle.version_tables.specs.Stored.{stored_as, names_of}
+use Rattle.version_tables.specs.Stored.{stored_as, stored_names}
 use Rattle.version_tables.specs.NewestTables.{IsStoredEntry, AreStored}
 use Rattle.version_tables.proofs.BegunTables.{names_rise}
 
@@ -47,13 +47,13 @@ both false b p q = absurd p
 is_less : (o : Ordering) → o ≡ Less → T (is_lt o)
 is_less o e = subst (λ x. T (is_lt x)) (sym e) tt
 
-below : (n : List ℕ) (made : List MadeTable) → BeforeAll bytes_cmp n (names_of made)
+below : (n : List ℕ) (made : List MadeTable) → BeforeAll bytes_cmp n (stored_names made)
     → T (below_all bytes_cmp n (map listed made))
 below n [] h = tt
 below n (t ∷ made) h = both (is_lt (bytes_cmp n t.name)) _ (is_less (bytes_cmp n t.name) h.0)
     (below n made h.1)
 
-sorted : (made : List MadeTable) → Ascends bytes_cmp (names_of made)
+sorted : (made : List MadeTable) → Ascends bytes_cmp (stored_names made)
     → T (is_sorted bytes_cmp (map listed made))
 sorted [] h = tt
 sorted (t ∷ made) h = both (below_all bytes_cmp t.name (map listed made)) _
@@ -86,7 +86,7 @@ stored_columns stamp rows (Some columns) None h = absurd h
 stored_columns stamp rows (Some columns) (Some store) h = ap (λ cs. Some cs) (sym h.columns)
 
 pub of_schema : (tables : Tables) (database : Database) (stamp : ℕ) (made : List MadeTable)
-    → Ascends bytes_cmp (names_of made) → AreStored tables database stamp made
+    → Ascends bytes_cmp (stored_names made) → AreStored tables database stamp made
     → AreOfSchema tables made
 of_schema tables database stamp made ordered stored =
     let es = map listed made in
@@ -100,13 +100,13 @@ of_schema tables database stamp made ordered stored =
     ap (λ (t : Tables). entries t) same_tables ∙ entries-from_sorted bytes_cmp es s
 
 listed_names : (made : List MadeTable)
-    → map (λ (e : Listed). e.0) (map listed made) ≡ names_of made
+    → map (λ (e : Listed). e.0) (map listed made) ≡ stored_names made
 listed_names [] = refl
 listed_names (t ∷ made) = ap (λ ns. t.name ∷ ns) (listed_names made)
 
 module _ (tables : Tables) (made : List MadeTable) (are : AreOfSchema tables made) where
   -- their names
-  pub same_names : table_names tables ≡ names_of made
+  pub same_names : table_names tables ≡ stored_names made
   same_names = ap (map (λ (e : Listed). e.0)) are ∙ listed_names made
 
   -- how many they are

@@ -22,7 +22,7 @@ use Rattle.smo_meaning.specs.OneRow.{Relation, same}
 use Rattle.smo_meaning.proofs.Firsts.{none_of_both, none_of_first}
 use Rattle.smo_meaning.proofs.NameLaws.{same_itself, same_is, same_not, same_turned}
 use Rattle.version_tables.specs.declared.made_table.MadeTable.{MadeTable}
-use Rattle.version_tables.specs.Stored.{stored_as, names_of}
+use Rattle.version_tables.specs.Stored.{stored_as, stored_names}
 use Rattle.version_tables.specs.Grouping.{of_table}
 use Rattle.table_changes.specs.Changing.{AreAccepted}
 
@@ -122,7 +122,7 @@ module _ (tables : Tables) (name : List ℕ) (columns : List Column)
 -- ---- tables in the order of their names
 
 other_name : (t : MadeTable) (tables : List MadeTable) (k : ℕ) (d : MadeTable)
-    → BeforeAll bytes_cmp t.name (names_of tables) → k < length tables
+    → BeforeAll bytes_cmp t.name (stored_names tables) → k < length tables
     → same t.name (get_or tables k d).name ≡ false
 other_name t [] k d b l = absurd (omega (arith, l))
 other_name t (u ∷ tables) zero d b l = same_not t.name u.name b.0
@@ -130,7 +130,7 @@ other_name t (u ∷ tables) (suc k) d b l = other_name t tables k d b.1 (omega (
 
 -- each is what is stored under its name
 pub stored_there : (tables : List MadeTable) (k : ℕ) (d : MadeTable)
-    → Ascends bytes_cmp (names_of tables) → k < length tables
+    → Ascends bytes_cmp (stored_names tables) → k < length tables
     → stored_as (get_or tables k d).name tables ≡ Some (get_or tables k d).store
 stored_there [] k d a l = absurd (omega (arith, l))
 stored_there (t ∷ tables) zero d a l = ap (λ b. cond b (Some t.store) (stored_as t.name tables))

@@ -14,7 +14,7 @@ use Rattle.smo_meaning.specs.OneRow.{Relation, same}
 use Rattle.smo_meaning.proofs.CountingLaws.{gains_nothing, gained_step, lost_with}
 use Rattle.smo_meaning.proofs.NameLaws.{same_is, same_not, same_turned}
 use Rattle.version_tables.specs.declared.made_table.MadeTable.{MadeTable}
-use Rattle.version_tables.specs.Stored.{stored_as, names_of}
+use Rattle.version_tables.specs.Stored.{stored_as, stored_names}
 use Rattle.version_tables.specs.Changing.{rows_now, rows_after, all_gained, all_lost}
 
 module _ (stamp : ℕ) (changes : List PlainChange) where
@@ -31,7 +31,7 @@ module _ (stamp : ℕ) (changes : List PlainChange) where
       × HasNow tables database
 
   still_has : (t : MadeTable) (e : DatabaseEntry) (tables : List MadeTable) (database : Database)
-      → BeforeAll bytes_cmp t.name (names_of tables) → HasNow tables database
+      → BeforeAll bytes_cmp t.name (stored_names tables) → HasNow tables database
       → HasNow tables (insert database t.name e)
   still_has t e [] database b h = tt
   still_has t e (u ∷ tables) database b h = (
@@ -41,7 +41,8 @@ module _ (stamp : ℕ) (changes : List PlainChange) where
     still_has t e tables database b.1 h.1,
   )
 
-  pub counted : (tables : List MadeTable) (old new : Database) → Ascends bytes_cmp (names_of tables)
+  pub counted : (tables : List MadeTable) (old new : Database)
+      → Ascends bytes_cmp (stored_names tables)
       → HasNow tables old → HasNow tables new
       → (gained old (with_after tables new) ≡ gained old new + all_gained stamp changes tables)
       × (lost old (with_after tables new) ≡ lost old new + all_lost stamp changes tables)
@@ -65,14 +66,14 @@ module _ (stamp : ℕ) (changes : List PlainChange) where
       (Some (Rows (rows_after stamp changes t))) (after_entry tables name o)
 
   no_other : (t : MadeTable) (tables : List MadeTable) (o : Option DatabaseEntry)
-      → BeforeAll bytes_cmp t.name (names_of tables) → after_entry tables t.name o ≡ o
+      → BeforeAll bytes_cmp t.name (stored_names tables) → after_entry tables t.name o ≡ o
   no_other t [] o b = refl
   no_other t (u ∷ tables) o b =
       ap (λ x. cond x (Some (Rows (rows_after stamp changes u))) (after_entry tables t.name o))
       (same_turned u.name t.name ∙ same_not t.name u.name b.0) ∙ no_other t tables o b.1
 
   pub got : (tables : List MadeTable) (database : Database) (name : List ℕ)
-      → Ascends bytes_cmp (names_of tables) → get (with_after tables database) name
+      → Ascends bytes_cmp (stored_names tables) → get (with_after tables database) name
       ≡ after_entry tables name (get database name)
   got [] database name a = refl
   got (t ∷ tables) database name a = got tables (insert database t.name e) name a.1

@@ -16,7 +16,7 @@ use Rattle.smo_meaning.specs.OneRow.{Relation}
 use Rattle.smo_meaning.specs.Touching.{makes}
 use Rattle.smo_types.specs.Operators.{Operator}
 use Rattle.version_tables.specs.declared.made_table.MadeTable.{MadeTable}
-use Rattle.version_tables.specs.Stored.{stored_as, names_of, HasEntry}
+use Rattle.version_tables.specs.Stored.{stored_as, stored_names, HasEntry}
 use Rattle.version_tables.specs.NewestTables.{rows_stored}
 use Rattle.version_tables.specs.Becoming.{Begins}
 use Rattle.version_tables.specs.Places.{at_places, AreWithin}
@@ -34,7 +34,7 @@ pub record ComeNext (stored : List MadeTable) (before : List ℕ) (is_made : Lis
       begun
   pub placed : ArePlaced stored begun before is_made next places
   pub there : AreWithin places (length stored + length begun)
-  pub ordered : Ascends bytes_cmp (names_of (at_places (stored ++ begun) places))
+  pub ordered : Ascends bytes_cmp (stored_names (at_places (stored ++ begun) places))
   pub tables : (name : List ℕ) → HasEntry (Has name) (get next name)
       (stored_as name (at_places (stored ++ begun) places))
 

@@ -10,9 +10,9 @@ abbrev pub stored_as : List ℕ → List MadeTable → Option Store
 stored_as name [] = None
 stored_as name (t ∷ tables) = if same t.name name then Some t.store else stored_as name tables
 
-abbrev pub names_of : List MadeTable → List (List ℕ)
-names_of [] = []
-names_of (t ∷ tables) = t.name ∷ names_of tables
+abbrev pub stored_names : List MadeTable → List (List ℕ)
+stored_names [] = []
+stored_names (t ∷ tables) = t.name ∷ stored_names tables
 
 -- a table is stored just where there is one with these columns, and is as it is to be by them
 abbrev pub HasEntry : (List Column → Store → Type 0) → Option (List Column) → Option Store → Type 0

@@ -16,7 +16,7 @@ ghost use Rattle.version_tables.specs.Changing.{IsChangeable, AreChangeable, Are
 ghost use Rattle.version_tables.specs.Changing.{AreMade, rows_now, rows_after_own, all_gained};
 ghost use Rattle.version_tables.specs.Changing.{all_lost, gained_by, lost_by, AreOfSchema};
 ghost use Rattle.version_tables.specs.Room.{IsSameTable, AreSameTables};
-ghost use Rattle.version_tables.specs.Stored.{names_of};
+ghost use Rattle.version_tables.specs.Stored.{stored_names};
 ghost use Rattle.version_tables.specs.Places.{at_places, AreWithin};
 
 use crate::change_group::changes_by_table;
@@ -111,7 +111,7 @@ pub fn prepare_tables<'a>(
     of_changes: &[usize],
 ) -> Result<Changes<'a>, NoMemory>
     requires there { AreWithin places.now (length tables.old.items) }
-    requires ordered { Ascends bytes_cmp (names_of (at_places tables.old.items places.now)) }
+    requires ordered { Ascends bytes_cmp (stored_names (at_places tables.old.items places.now)) }
     requires schema { AreOfSchema schema.now (at_places tables.old.items places.now) }
     requires changes { StandAt schema.now (changes_of changes.now) of_changes.now }
     requires changeable { AreChangeable stamp (changes_of changes.now)
@@ -163,7 +163,7 @@ pub fn install_tables(
     prepared: Vec<Option<PreparedTable<'_>>>,
 )
     requires there { AreWithin places.now (length tables.old.items) }
-    requires ordered { Ascends bytes_cmp (names_of (at_places tables.old.items places.now)) }
+    requires ordered { Ascends bytes_cmp (stored_names (at_places tables.old.items places.now)) }
     requires room { HaveRoom (at_places tables.old.items places.now) prepared.items }
     ensures made { AreMade (at_places tables.old.items places.now) prepared.entry.items
         (at_places tables.new.items places.now) }

@@ -7,7 +7,7 @@ ghost use Rattle.prima_base.specs.Order.{bytes_cmp};
 ghost use Rattle.schema_catalog.specs.Tables.{Tables};
 ghost use Rattle.smo_types.specs.Operators.{operator_of};
 ghost use Rattle.smo_meaning.specs.Touching.{consumes};
-ghost use Rattle.version_tables.specs.Stored.{names_of};
+ghost use Rattle.version_tables.specs.Stored.{stored_names};
 ghost use Rattle.version_tables.specs.Ending.{table_after, AreLiving, AreEnding};
 ghost use Rattle.version_tables.specs.Places.{at_places, AreWithin};
 ghost use Rattle.version_tables.specs.NewestTables.{is_name};
@@ -20,7 +20,7 @@ use smo_ops::{Op, consumed};
 // no memory.
 fn end_named(tables: &mut [MadeTable], places: &[usize], name: Option<&Name>, last: u32)
     requires there { AreWithin places.now (length tables.old) }
-    requires ordered { Ascends bytes_cmp (names_of (at_places tables.old places.now)) }
+    requires ordered { Ascends bytes_cmp (stored_names (at_places tables.old places.now)) }
     requires ending { AreEnding last tables.old places.now }
     ensures { tables.new ≡ map (table_after (is_name (option_copied name.entry)) last) tables.old }
 {
@@ -38,7 +38,7 @@ fn end_named(tables: &mut [MadeTable], places: &[usize], name: Option<&Name>, la
 /// version. It takes no memory.
 pub fn end_consumed(tables: &mut [MadeTable], places: &[usize], op: &Op, last: u32)
     requires there { AreWithin places.now (length tables.old) }
-    requires ordered { Ascends bytes_cmp (names_of (at_places tables.old places.now)) }
+    requires ordered { Ascends bytes_cmp (stored_names (at_places tables.old places.now)) }
     requires living { AreLiving tables.old places.now }
     ensures { (before : Tables) → tables.new ≡ map
         (table_after (consumes before (operator_of op.now)) last) tables.old }

@@ -18,7 +18,7 @@ ghost use Rattle.smo_meaning.specs.OperatorTable.{line, made_names};
 ghost use Rattle.smo_meaning.specs.Touching.{makes};
 ghost use Rattle.smo_maps.specs.Carrying.{Has};
 ghost use Rattle.smo_meaning.specs.OneRow.{Relation};
-ghost use Rattle.version_tables.specs.Stored.{stored_as, names_of};
+ghost use Rattle.version_tables.specs.Stored.{stored_as, stored_names};
 ghost use Rattle.version_tables.specs.Places.{at_places, AreWithin};
 ghost use Rattle.version_tables.specs.Becoming.{Begins};
 ghost use Rattle.version_tables.specs.Beginning.{BeginsWith};
@@ -188,7 +188,7 @@ fn next_tables(
     requires valid { stamp < forever }
     requires schema { IsValid next.now }
     requires there { AreWithin places.now (length tables.now) }
-    requires ordered { Ascends bytes_cmp (names_of (at_places tables.now places.now)) }
+    requires ordered { Ascends bytes_cmp (stored_names (at_places tables.now places.now)) }
     requires relations { FitNext next.now (made_rows names rows.now) stamp
         (at_places tables.now places.now) }
     requires others { OthersStay next.now (made_rows names rows.now) stamp
@@ -250,7 +250,7 @@ pub fn begin_version(
     requires accepted { op_fault before.now (operator_of version.now.op) ≡ None }
     requires next { version.now.schema ≡ schema_after before.now (operator_of version.now.op) }
     requires there { AreWithin places.now (length tables.now) }
-    requires ordered { Ascends bytes_cmp (names_of (at_places tables.now places.now)) }
+    requires ordered { Ascends bytes_cmp (stored_names (at_places tables.now places.now)) }
     requires valid { version.now.stamp < forever }
     requires stored { (database : Database) × IsDatabase before.now database
         × AreStored before.now database version.now.stamp (at_places tables.now places.now) }

@@ -10,7 +10,7 @@ ghost use Rattle.prima_base.specs.Order.{bytes_cmp};
 ghost use Rattle.prima_base.specs.Columns.{Column};
 ghost use Rattle.smo_meaning.specs.After.{IsValid};
 ghost use Rattle.smo_schemas.specs.Names.{is_one_of};
-ghost use Rattle.version_tables.specs.Stored.{stored_as, names_of};
+ghost use Rattle.version_tables.specs.Stored.{stored_as, stored_names};
 ghost use Rattle.version_tables.specs.Places.{at_places, AreWithin};
 ghost use Rattle.version_tables.specs.Evolving.{ComeNext, IsNextTable, IsBegun, Comes};
 ghost use Rattle.version_tables.specs.Restoring.{stores_of, HaveColumns, with_made, BeginsOver};
@@ -109,7 +109,7 @@ pub fn restored_tables(
 ) -> Result<NextTables, NoMemory>
     requires schema { IsValid next.now }
     requires there { AreWithin places.now (length tables.now) }
-    requires ordered { Ascends bytes_cmp (names_of (at_places tables.now places.now)) }
+    requires ordered { Ascends bytes_cmp (stored_names (at_places tables.now places.now)) }
     requires due { HaveColumns (into_iter_items stores.old)
         (filter (λ (e : List ℕ × List Column). is_one_of names e.0) (entries next.now)) }
     requires others { OthersAre next.now (is_one_of names)

@@ -9,7 +9,7 @@ use Rattle.row_writes.proofs.Others.{one_pushed}
 use Rattle.row_order.proofs.Cells.{cells_of-push}
 use Rattle.row_writes.proofs.Rows.{kinds_more}
 use Rattle.table_meaning.proofs.Restored.{valid_cells}
-use Rattle.history_store.proofs.restoration.columns_of.Goals as goal
+use Rattle.history_store.proofs.restoration.restored_columns.Goals as goal
 
 pub column_of-requires-clause-valid : goal.column_of-requires-clause-valid
 column_of-requires-clause-valid c = valid_cells _

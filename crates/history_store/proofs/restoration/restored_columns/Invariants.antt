@@ -6,7 +6,7 @@ use Rattle.row_order.specs.Logs.{cells_of}
 use Rattle.row_writes.specs.Logs.{kinds_of, types_of}
 use Rattle.history_store.specs.Restoring.{entries_of}
 use Rattle.table_meaning.specs.Restoring.{writes_of, AreInTurn, ids_known, AreEntriesOf}
-use Rattle.history_store.proofs.restoration.columns_of.Given as goal
+use Rattle.history_store.proofs.restoration.restored_columns.Given as goal
 
 abbrev pub invariant-loop-list : goal.invariant-loop-list
 invariant-loop-list l =

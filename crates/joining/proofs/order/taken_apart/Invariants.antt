@@ -5,11 +5,11 @@ use Rattle.timed_choices.specs.Blocks.{rows_of}
 use Rattle.timed_choices.specs.BorrowedOutputs.{BorrowedValues}
 use Rattle.joining.proofs.order.taken_apart.Given as goal
 use Rattle.join_levels.specs.Sources.{SourcesBorrow, relations_of}
-use Rattle.joining.specs.Atoms.{AtomsBorrow, columns_of, blocks_of}
+use Rattle.joining.specs.Atoms.{AtomsBorrow, columns_of_atoms, blocks_of}
 
 abbrev pub invariant-loop-atom : goal.invariant-loop-atom
 invariant-loop-atom l = record {
-  types : l.types.items ≡ columns_of l.yielded;
+  types : l.types.items ≡ columns_of_atoms l.yielded;
   rows : (m : ℕ) → relations_of l.sources.items m ≡ rows_of (blocks_of m l.yielded);
   widths : sum_by (λ (s : Source). s.width) l.sources.items ≡ length l.types.items;
   borrowed : (which : BorrowedValues) → AtomsBorrow which l.yielded

@@ -1,7 +1,7 @@
 use Rattle.std.proofs.Common.{◌≡◌, sym, ◌∙◌, get_or, ◌<◌, length, arith, vec_len}
 use Rattle.std.proofs.lemmas.Grind.{common_steps}
 use Rattle.row_order.specs.Logs.{cells_of}
-use Rattle.row_writes.specs.ValueIndexes.{columns_of}
+use Rattle.row_writes.specs.ValueIndexes.{indexed_columns}
 use Rattle.row_writes.proofs.Others.{lost_indexed, same_columns, few_after}
 use Rattle.row_writes.proofs.other_index.lose_each.Goals as goal
 
@@ -22,5 +22,5 @@ returns-clause-columns c =
     (λ k d h. (let b : k < vec_len c.args.others.now = grind (arith, common_steps) in
     (c.lose_all.ensures.each k d b).column)) in
     same ∙ sym (few_after c.args.rows (length c.args.lost.now) c.args.gained
-    (columns_of c.args.others.now.items) (rw c.few_of-few.ensures at c.if-lost-few.false)
+    (indexed_columns c.args.others.now.items) (rw c.few_of-few.ensures at c.if-lost-few.false)
     (rw c.few_of-few.ensures at c.if-gained-few.false))

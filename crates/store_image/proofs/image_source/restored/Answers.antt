@@ -1,7 +1,7 @@
 use Rattle.std.proofs.Common.{◌≡◌, map, ap, sym, subst, ◌∙◌, List}
 use Rattle.smo_types.specs.Commands.{version_of, versions_of}
 use Rattle.smo_types.specs.declared.version.Version.{Version}
-use Rattle.lifelines.specs.Lifelines.{lifelines_of, columns_of}
+use Rattle.lifelines.specs.Lifelines.{lifelines_of, lifeline_columns}
 use Rattle.image_spelling.specs.Images.{IsImage}
 use Rattle.image_spelling.specs.ShownPast.{image_past}
 use Rattle.image_reader.specs.Seen.{image_seen}
@@ -23,7 +23,8 @@ tables_of-requires-clause-enough c = enough_lines (lifelines_of (versions_of c.a
 
 pub restore-requires-clause-stores : goal.restore-requires-clause-stores
 restore-requires-clause-stores c = same_columns c.in_ok-tables.tables.items
-    (image_seen c.args.image).lines c.in_ok-tables.ensures ∙ ap columns_of c.requires.valid.lines
+    (image_seen c.args.image).lines c.in_ok-tables.ensures
+    ∙ ap lifeline_columns c.requires.valid.lines
 
 pub returns-clause-image : goal.returns-clause-image
 returns-clause-image c =

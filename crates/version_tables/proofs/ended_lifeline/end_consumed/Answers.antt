@@ -10,7 +10,7 @@ use Rattle.version_tables.specs.declared.made_table.MadeTable.{MadeTable}
 use Rattle.version_tables.specs.Ending.{AreEnding, table_after}
 use Rattle.version_tables.specs.Places.{at_places}
 use Rattle.version_tables.specs.NewestTables.{is_name}
-use Rattle.version_tables.specs.Stored.{names_of}
+use Rattle.version_tables.specs.Stored.{stored_names}
 use Rattle.version_tables.proofs.LifelinesEnded.{names_still, are_ending, still_ending, among_these}
 use Rattle.version_tables.proofs.LifelinesEnded.{both_end}
 use Rattle.version_tables.proofs.ended_lifeline.end_consumed.Goals as goal
@@ -23,7 +23,7 @@ pub end_named-requires-2-clause-ordered : goal.end_named-requires-2-clause-order
 end_named-requires-2-clause-ordered c =
     let first = is_name (option_copied c.consumed-names.result.first) in
     subst (Ascends bytes_cmp)
-    (sym (ap (λ (ts : List MadeTable). names_of (at_places ts c.args.places.now))
+    (sym (ap (λ (ts : List MadeTable). stored_names (at_places ts c.args.places.now))
     c.end_named.ensures ∙ names_still first c.args.last c.args.tables.now c.args.places.now))
     c.requires.ordered
 

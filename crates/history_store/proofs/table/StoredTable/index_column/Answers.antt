@@ -1,6 +1,6 @@
 use Rattle.std.proofs.Common.{◌≡◌, false, ◌<◌, ◌≤◌, ◌-◌, length, sym, ap, ◌∙◌, subst, vec_len}
 use Rattle.std.proofs.Common.{vec_capacity, [], ◌∷◌, ◌++◌}
-use Rattle.row_writes.specs.ValueIndexes.{columns_of, is_indexed, least_room, IsIndexed}
+use Rattle.row_writes.specs.ValueIndexes.{indexed_columns, is_indexed, least_room, IsIndexed}
 use Rattle.row_order.specs.Logs.{cells_of, few_of}
 use Rattle.row_writes.specs.Logs.{with_index}
 use Rattle.value_order.specs.ByValue.{Distinct}
@@ -73,9 +73,9 @@ returns-clause-spare c =
 pub returns-clause-done : goal.returns-clause-done
 returns-clause-done c =
     let a = c.self.inside in
-    let none : is_indexed c.args.column (columns_of a.others.items) ≡ false =
+    let none : is_indexed c.args.column (indexed_columns a.others.items) ≡ false =
     sym (rw c.deref.ensures.value at c.index_of.ensures.there) ∙ sym c.is_some.ensures
     ∙ c.if-is_some.false in
     rw (← c.self.view_is, c.in_ok-push.ensures.items, none)
     (columns_pushed a.others.items c.in_ok-index.index
-    ∙ ap (λ k. columns_of a.others.items ++ k ∷ []) c.in_ok-index.ensures.column)
+    ∙ ap (λ k. indexed_columns a.others.items ++ k ∷ []) c.in_ok-index.ensures.column)

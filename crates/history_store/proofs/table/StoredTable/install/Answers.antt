@@ -12,7 +12,7 @@ use Rattle.row_order.specs.Indexes.{index_of}
 use Rattle.row_writes.specs.RowRoom.{rows_room}
 use Rattle.row_order.specs.Logs.{cells_of, few_of}
 use Rattle.row_writes.specs.Logs.{AreRowsOf}
-use Rattle.row_writes.specs.ValueIndexes.{columns_of, indexed_after, least_room}
+use Rattle.row_writes.specs.ValueIndexes.{indexed_columns, indexed_after, least_room}
 use Rattle.row_order.proofs.Places.{few_placed}
 use Rattle.row_writes.proofs.Carry.{known, spare_least, spare_each, key_room, index_room}
 use Rattle.row_writes.proofs.Carry.{few_are_few}
@@ -327,4 +327,5 @@ returns-clause-indexed c =
     rw (← c.self.view_is, ← c.prepared.view_is)
     (same ∙ (rw (c.deref-2.ensures.value, count) at c.lose_each.ensures.columns)
     ∙ ap (λ m. indexed_after m (length c.prepared.inside.lost.items)
-    (length c.prepared.inside.gained.items) (columns_of a.others.items)) (c.len.ensures ∙ rows))
+    (length c.prepared.inside.gained.items) (indexed_columns a.others.items))
+    (c.len.ensures ∙ rows))

@@ -2,7 +2,7 @@ use Rattle.std.proofs.Common.{rules, ◌≡◌, length, refl, sym, ap, subst, �
 use Rattle.std.proofs.Math.Nat.{le_trans}
 use Rattle.row_order.specs.Rows.{AllWidth}
 use Rattle.row_order.specs.Logs.{cells_of}
-use Rattle.row_writes.specs.ValueIndexes.{columns_of}
+use Rattle.row_writes.specs.ValueIndexes.{indexed_columns}
 use Rattle.table_meaning.specs.Kept.{store_of}
 use Rattle.row_order.proofs.Cells.{length-cells_of}
 use Rattle.row_writes.proofs.Room.{least_rows_room}
@@ -35,7 +35,7 @@ returns-clause-fits c =
     let gained = rw c.deref.ensures.value at c.in_ok-lost.ensures.gained in
     let after = rw (c.deref.ensures.value, n) at c.in_ok-lost.ensures.after in
     let e : c.make_ready.new.self ≡ store_of a.columns.items a.keys.items (cells_of a.logs.items)
-    c.make_ready.new.self.spare (columns_of a.others.items) =
+    c.make_ready.new.self.spare (indexed_columns a.others.items) =
     rw (← c.self.view_is) at c.in_ok-prepared.ensures.same in
     let room = rw gained at c.in_ok-prepared.ensures.room in
     rw (c.in_ok-prepared.ensures.made, e, lost, gained, after)
@@ -57,7 +57,7 @@ returns-clause-leads c =
     let gained = rw c.deref.ensures.value at c.in_ok-lost.ensures.gained in
     let after = rw (c.deref.ensures.value, n) at c.in_ok-lost.ensures.after in
     let e : c.make_ready.new.self ≡ store_of a.columns.items a.keys.items (cells_of a.logs.items)
-    c.make_ready.new.self.spare (columns_of a.others.items) =
+    c.make_ready.new.self.spare (indexed_columns a.others.items) =
     rw (← c.self.view_is) at c.in_ok-prepared.ensures.same in
     rw (c.in_ok-prepared.ensures.made, e, lost, gained, after)
     (made_leads a.columns.items a.keys.items (cells_of a.logs.items) a.live.ids _

@@ -3,7 +3,7 @@ use Rattle.std.proofs.Math.Nat.{le_trans}
 use Rattle.relations.specs.Sets.{In}
 use Rattle.row_order.specs.Rows.{AllWidth}
 use Rattle.row_order.specs.Logs.{cells_of}
-use Rattle.row_writes.specs.ValueIndexes.{columns_of}
+use Rattle.row_writes.specs.ValueIndexes.{indexed_columns}
 use Rattle.table_meaning.specs.Kept.{store_of}
 use Rattle.row_order.proofs.Cells.{length-cells_of}
 use Rattle.row_writes.proofs.Room.{least_rows_room}
@@ -68,7 +68,7 @@ returns-clause-fits c =
     let p = c.in_ok-found.ensures.placed in
     let m = rw c.deref-2.ensures.value at c.in_ok-found.ensures.more in
     let e : c.make_ready.new.self ≡ store_of a.columns.items a.keys.items (cells_of a.logs.items)
-    c.make_ready.new.self.spare (columns_of a.others.items) =
+    c.make_ready.new.self.spare (indexed_columns a.others.items) =
     rw (← c.self.view_is) at c.in_ok-prepared.ensures.same in
     rw (c.in_ok-prepared.ensures.made, e) (change_fits a.columns.items a.keys.items
     (cells_of a.logs.items) a.live.ids _ c.self.invariant.kept c.args.stamp b c.requires.valid
@@ -92,7 +92,7 @@ returns-clause-leads c =
     let p = c.in_ok-found.ensures.placed in
     let m = rw c.deref-2.ensures.value at c.in_ok-found.ensures.more in
     let e : c.make_ready.new.self ≡ store_of a.columns.items a.keys.items (cells_of a.logs.items)
-    c.make_ready.new.self.spare (columns_of a.others.items) =
+    c.make_ready.new.self.spare (indexed_columns a.others.items) =
     rw (← c.self.view_is) at c.in_ok-prepared.ensures.same in
     rw (← c.self.view_is, c.in_ok-prepared.ensures.made, e)
     (change_leads a.columns.items a.keys.items (cells_of a.logs.items) a.live.ids _

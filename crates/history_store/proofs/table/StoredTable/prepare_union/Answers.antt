@@ -3,7 +3,7 @@ use Rattle.std.proofs.Math.Nat.{le_trans}
 use Rattle.row_order.specs.Rows.{AllWidth}
 use Rattle.row_order.specs.Handing.{only_in}
 use Rattle.row_order.specs.Logs.{cells_of}
-use Rattle.row_writes.specs.ValueIndexes.{columns_of}
+use Rattle.row_writes.specs.ValueIndexes.{indexed_columns}
 use Rattle.history_store.specs.Store.{IsRelation}
 use Rattle.table_meaning.specs.Kept.{store_of}
 use Rattle.row_order.proofs.Cells.{length-cells_of}
@@ -42,7 +42,7 @@ returns-clause-fits c =
     (only_relation a.columns.items c.args.rows.items _ r) in
     let s = rw (c.deref.ensures.value, n) at c.in_ok-gained.ensures.spliced in
     let e : c.make_ready.new.self ≡ store_of a.columns.items a.keys.items (cells_of a.logs.items)
-    c.make_ready.new.self.spare (columns_of a.others.items) =
+    c.make_ready.new.self.spare (indexed_columns a.others.items) =
     rw (← c.self.view_is) at c.in_ok-prepared.ensures.same in
     rw (c.in_ok-prepared.ensures.made, e, c.new-lost.ensures.items)
     (change_fits a.columns.items a.keys.items (cells_of a.logs.items) a.live.ids _
@@ -81,7 +81,7 @@ returns-clause-leads c =
     (only_relation a.columns.items c.args.rows.items _ r) in
     let s = rw (c.deref.ensures.value, n) at c.in_ok-gained.ensures.spliced in
     let e : c.make_ready.new.self ≡ store_of a.columns.items a.keys.items (cells_of a.logs.items)
-    c.make_ready.new.self.spare (columns_of a.others.items) =
+    c.make_ready.new.self.spare (indexed_columns a.others.items) =
     rw (← c.self.view_is) at c.in_ok-prepared.ensures.same in
     rw (← c.self.view_is, c.in_ok-prepared.ensures.made, e, c.new-lost.ensures.items)
     (change_leads a.columns.items a.keys.items (cells_of a.logs.items) a.live.ids _

@@ -8,15 +8,16 @@ use Rattle.table_meaning.proofs.Restored.{all_written, turns, counts, entries_re
 use Rattle.table_meaning.proofs.Restored.{restored_kept}
 use Rattle.history_store.proofs.table.StoredTable.restore.Goals as goal
 
-pub columns_of-requires-clause-turn : goal.columns_of-requires-clause-turn
-columns_of-requires-clause-turn c = turns c.args.columns.now c.args.keys.items
+pub restored_columns-requires-clause-turn : goal.restored_columns-requires-clause-turn
+restored_columns-requires-clause-turn c = turns c.args.columns.now c.args.keys.items
     (entries_of c.args.cells.items) c.requires.store
 
-pub columns_of-requires-clause-width : goal.columns_of-requires-clause-width
-columns_of-requires-clause-width c = sym (length-map c.args.cells.items _) ∙ c.requires.store.width
+pub restored_columns-requires-clause-width : goal.restored_columns-requires-clause-width
+restored_columns-requires-clause-width c = sym (length-map c.args.cells.items _)
+    ∙ c.requires.store.width
 
-pub columns_of-requires-clause-typed : goal.columns_of-requires-clause-typed
-columns_of-requires-clause-typed c = entries_typed c.args.columns.now c.args.keys.items
+pub restored_columns-requires-clause-typed : goal.restored_columns-requires-clause-typed
+restored_columns-requires-clause-typed c = entries_typed c.args.columns.now c.args.keys.items
     (entries_of c.args.cells.items) c.requires.store
 
 pub invariant_of-result : goal.invariant_of-result

@@ -3,7 +3,7 @@ use Rattle.std.specs.Prelude.{List, ℕ, length}
 use Rattle.relations.specs.Sets.{In, Ascends}
 use Rattle.prima_base.specs.Order.{bytes_cmp}
 use Rattle.version_tables.specs.declared.made_table.MadeTable.{MadeTable}
-use Rattle.version_tables.specs.Stored.{names_of}
+use Rattle.version_tables.specs.Stored.{stored_names}
 use Rattle.version_tables.specs.Places.{at_places, AreWithin}
 use Rattle.version_tables.specs.Changing.{HaveRoom, AreMade}
 use Rattle.version_groups.specs.declared.groups.Groups.TheInside.{Inside}
@@ -21,7 +21,7 @@ install_tables-requires-clause-there c = subst
 
 pub install_tables-requires-clause-ordered : goal.install_tables-requires-clause-ordered
 install_tables-requires-clause-ordered c = subst
-    (λ ps. Ascends bytes_cmp (names_of (at_places c.self.inside.stored.items ps)))
+    (λ ps. Ascends bytes_cmp (stored_names (at_places c.self.inside.stored.items ps)))
     (sym c.deref.ensures.value) c.self.invariant.newest
 
 pub install_tables-requires-clause-room : goal.install_tables-requires-clause-room

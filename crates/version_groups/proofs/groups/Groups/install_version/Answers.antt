@@ -5,7 +5,7 @@ use Rattle.relations.specs.Sets.{Ascends}
 use Rattle.prima_base.specs.Order.{bytes_cmp}
 use Rattle.smo_types.specs.Operators.{operator_of}
 use Rattle.version_tables.specs.declared.made_table.MadeTable.{MadeTable}
-use Rattle.version_tables.specs.Stored.{names_of}
+use Rattle.version_tables.specs.Stored.{stored_names}
 use Rattle.version_tables.specs.Places.{at_places, AreWithin}
 use Rattle.version_tables.specs.Ending.{AreLiving}
 use Rattle.version_groups.specs.declared.groups.Groups.TheInside.{Inside}
@@ -27,9 +27,9 @@ end_consumed-requires-clause-there c =
 pub end_consumed-requires-clause-ordered : goal.end_consumed-requires-clause-ordered
 end_consumed-requires-clause-ordered c =
     let a = c.self.inside in
-    subst (λ ts. Ascends bytes_cmp (names_of (at_places ts c.deref.result.now)))
+    subst (λ ts. Ascends bytes_cmp (stored_names (at_places ts c.deref.result.now)))
     (sym c.deref_mut.ensures.value)
-    (subst (λ ps. Ascends bytes_cmp (names_of (at_places a.stored.items ps)))
+    (subst (λ ps. Ascends bytes_cmp (stored_names (at_places a.stored.items ps)))
     (sym c.deref.ensures.value) c.self.invariant.newest)
 
 pub end_consumed-requires-clause-living : goal.end_consumed-requires-clause-living
@@ -64,13 +64,13 @@ invariant_of-self c =
     (sym c.replace-before.ensures.after)
     (subst (λ (ts : List MadeTable). AreWithin c.args.places.items
     (length ts + length c.args.begun.items)) (sym kept) c.requires.there) in
-    let ordered : Ascends bytes_cmp (names_of
+    let ordered : Ascends bytes_cmp (stored_names
     (at_places (a.stored.items ++ c.args.begun.items) b.newest.items)) =
-    subst (λ (v : Vec ℕ). Ascends bytes_cmp (names_of
+    subst (λ (v : Vec ℕ). Ascends bytes_cmp (stored_names
     (at_places (a.stored.items ++ c.args.begun.items) v.items)))
     (sym c.replace-before.ensures.after)
     (subst (λ (ts : List MadeTable). Ascends bytes_cmp
-    (names_of (at_places (ts ++ c.args.begun.items) c.args.places.items))) (sym kept)
+    (stored_names (at_places (ts ++ c.args.begun.items) c.args.places.items))) (sym kept)
     c.requires.ordered) in
     let come : ComeWith (groups_view a) c.args.version c.args.begun.items b.newest.items =
     subst (λ (v : Vec ℕ). ComeWith (groups_view a) c.args.version c.args.begun.items v.items)
@@ -112,13 +112,13 @@ returns c =
     (sym c.replace-before.ensures.after)
     (subst (λ (ts : List MadeTable). AreWithin c.args.places.items
     (length ts + length c.args.begun.items)) (sym kept) c.requires.there) in
-    let ordered : Ascends bytes_cmp (names_of
+    let ordered : Ascends bytes_cmp (stored_names
     (at_places (a.stored.items ++ c.args.begun.items) b.newest.items)) =
-    subst (λ (v : Vec ℕ). Ascends bytes_cmp (names_of
+    subst (λ (v : Vec ℕ). Ascends bytes_cmp (stored_names
     (at_places (a.stored.items ++ c.args.begun.items) v.items)))
     (sym c.replace-before.ensures.after)
     (subst (λ (ts : List MadeTable). Ascends bytes_cmp
-    (names_of (at_places (ts ++ c.args.begun.items) c.args.places.items))) (sym kept)
+    (stored_names (at_places (ts ++ c.args.begun.items) c.args.places.items))) (sym kept)
     c.requires.ordered) in
     let come : ComeWith (groups_view a) c.args.version c.args.begun.items b.newest.items =
     subst (λ (v : Vec ℕ). ComeWith (groups_view a) c.args.version c.args.begun.items v.items)

@@ -5,7 +5,7 @@ use Rattle.schema_catalog.specs.Tables.{Tables}
 use Rattle.smo_types.specs.Changes.{changes_of}
 use Rattle.smo_ops.specs.TablePlaces.{StandAt}
 use Rattle.version_tables.specs.declared.made_table.MadeTable.{MadeTable}
-use Rattle.version_tables.specs.Stored.{names_of}
+use Rattle.version_tables.specs.Stored.{stored_names}
 use Rattle.std.specs.Prelude.{List, length}
 use Rattle.version_tables.specs.Changing.{AreChangeable, AreOfSchema, AreReady, all_gained}
 use Rattle.version_tables.specs.Changing.{all_lost}
@@ -27,7 +27,7 @@ prepare_tables-requires-clause-there c = subst
 
 pub prepare_tables-requires-clause-ordered : goal.prepare_tables-requires-clause-ordered
 prepare_tables-requires-clause-ordered c = subst
-    (λ ps. Ascends bytes_cmp (names_of (at_places c.self.inside.stored.items ps)))
+    (λ ps. Ascends bytes_cmp (stored_names (at_places c.self.inside.stored.items ps)))
     (sym c.deref.ensures.value) c.self.invariant.newest
 
 pub prepare_tables-requires-clause-schema : goal.prepare_tables-requires-clause-schema
@@ -38,8 +38,8 @@ prepare_tables-requires-clause-schema c =
     ap newest_group (sym c.self.view_is) ∙ newest_is a c.self.invariant in
     let group : newest_group c.args.self.now ≡ at_places a.stored.items c.deref.result.now = own
     ∙ ap (at_places a.stored.items) (sym c.deref.ensures.value) in
-    let ordered : Ascends bytes_cmp (names_of (newest_group c.args.self.now)) =
-    subst (λ (ts : List MadeTable). Ascends bytes_cmp (names_of ts)) (sym own)
+    let ordered : Ascends bytes_cmp (stored_names (newest_group c.args.self.now)) =
+    subst (λ (ts : List MadeTable). Ascends bytes_cmp (stored_names ts)) (sym own)
     c.self.invariant.newest in
     let schema = c.newest_schema-schema.ensures
     ∙ schema_is c.args.self.now h.0 h.1 a.nothing a.versions.list.items c.self.invariant.nothing
@@ -67,8 +67,8 @@ prepare_tables-requires-clause-changeable c =
     ap newest_group (sym c.self.view_is) ∙ newest_is a c.self.invariant in
     let group : newest_group c.args.self.now ≡ at_places a.stored.items c.deref.result.now = own
     ∙ ap (at_places a.stored.items) (sym c.deref.ensures.value) in
-    let ordered : Ascends bytes_cmp (names_of (newest_group c.args.self.now)) =
-    subst (λ (ts : List MadeTable). Ascends bytes_cmp (names_of ts)) (sym own)
+    let ordered : Ascends bytes_cmp (stored_names (newest_group c.args.self.now)) =
+    subst (λ (ts : List MadeTable). Ascends bytes_cmp (stored_names ts)) (sym own)
     c.self.invariant.newest in
     subst (AreChangeable c.args.stamp (changes_of c.args.changes.now)) group
     (changeable_now c.args.self.now h.0 c.args.stamp (changes_of c.args.changes.now) h.1
@@ -98,8 +98,8 @@ returns-clause-prepared c = λ past represents accepted.
     ap newest_group (sym c.self.view_is) ∙ newest_is a c.self.invariant in
     let group : newest_group c.args.self.now ≡ at_places a.stored.items c.deref.result.now = own
     ∙ ap (at_places a.stored.items) (sym c.deref.ensures.value) in
-    let ordered : Ascends bytes_cmp (names_of (newest_group c.args.self.now)) =
-    subst (λ (ts : List MadeTable). Ascends bytes_cmp (names_of ts)) (sym own)
+    let ordered : Ascends bytes_cmp (stored_names (newest_group c.args.self.now)) =
+    subst (λ (ts : List MadeTable). Ascends bytes_cmp (stored_names ts)) (sym own)
     c.self.invariant.newest in
     let same : IsSame c.args.self.now (groups_view b) =
     subst (λ (k : Kept). IsSame k (groups_view b)) c.self.view_is

@@ -7,7 +7,7 @@ use Rattle.smo_meaning.specs.After.{op_fault, schema_after, IsValid}
 use Rattle.smo_types.specs.Commands.{version_of}
 use Rattle.smo_types.specs.Operators.{operator_of, operators_of}
 use Rattle.smo_meaning.specs.Past.{newest_tables, newest_database}
-use Rattle.version_tables.specs.Stored.{names_of}
+use Rattle.version_tables.specs.Stored.{stored_names}
 use Rattle.version_tables.specs.Evolving.{IsEvolved}
 use Rattle.version_tables.specs.NewestTables.{AreStored}
 use Rattle.version_tables.specs.Places.{at_places, AreWithin}
@@ -73,9 +73,9 @@ begin_version-requires-clause-there c =
 pub begin_version-requires-clause-ordered : goal.begin_version-requires-clause-ordered
 begin_version-requires-clause-ordered c =
     let a = c.self.inside in
-    subst (λ ts. Ascends bytes_cmp (names_of (at_places ts c.deref-2.result.now)))
+    subst (λ ts. Ascends bytes_cmp (stored_names (at_places ts c.deref-2.result.now)))
     (sym c.deref.ensures.value)
-    (subst (λ ps. Ascends bytes_cmp (names_of (at_places a.stored.items ps)))
+    (subst (λ ps. Ascends bytes_cmp (stored_names (at_places a.stored.items ps)))
     (sym c.deref-2.ensures.value) c.self.invariant.newest)
 
 pub begin_version-requires-clause-stored : goal.begin_version-requires-clause-stored

@@ -10,7 +10,7 @@ use Rattle.smo_meaning.specs.ValidPast.{AreVersions}
 use Rattle.smo_meaning.specs.Past.{no_tables, newest_from}
 use Rattle.version_tables.specs.Restoring.{stores_of}
 use Rattle.version_groups.specs.Groups.{versions_in}
-use Rattle.version_groups.specs.Lifelines.{lifelines_of, columns_of}
+use Rattle.version_groups.specs.Lifelines.{lifelines_of, lifeline_columns}
 use Rattle.version_groups.proofs.RestoredGroups.{no_versions, nothing_stored, nothing_restored}
 use Rattle.version_groups.proofs.RestoredGroups.{newest_is_last, next_valid, rest_accepted}
 use Rattle.version_groups.proofs.RestoredGroups.{next_due, none_left, all_taken}
@@ -49,9 +49,10 @@ restore_version-requires-clause-due c =
     ∙ ap (λ (vs : List Version). kept.versions ++ vs) c.in-Some.ensures.steps.0 in
     next_due kept h.restored (into_iter_items c.loop-version.left) c.args.stores.items
     (version_of c.in-Some.version) (map version_of rest) h.taken
-    (c.requires.stores ∙ ap (λ (vs : List Version). columns_of (lifelines_of (map version_of vs)))
+    (c.requires.stores ∙ ap (λ (vs : List Version).
+    lifeline_columns (lifelines_of (map version_of vs)))
     all
-    ∙ ap (λ vs. columns_of (lifelines_of vs))
+    ∙ ap (λ vs. lifeline_columns (lifelines_of vs))
     (map-append version_of kept.versions (c.in-Some.version ∷ rest)))
 
 pub loop-version-preserved : goal.loop-version-preserved
@@ -91,5 +92,6 @@ returns-clause-stores c =
     none_left kept.versions (into_iter_items c.loop-version.version-iterator)
     c.args.versions.list.items (omega (arith, ended, ok)) h.done in
     all_taken kept h.restored (into_iter_items c.loop-version.left) c.args.stores.items h.taken
-    (c.requires.stores ∙ ap (λ (vs : List Version). columns_of (lifelines_of (map version_of vs)))
+    (c.requires.stores ∙ ap (λ (vs : List Version).
+    lifeline_columns (lifelines_of (map version_of vs)))
     (sym all))
