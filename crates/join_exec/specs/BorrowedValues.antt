@@ -1,16 +1,11 @@
 -- That values are valid, and that they are borrowed, is no data: there is at most one proof of it.
 use Rattle.std.specs.Prelude.{List, [], ◌∷◌}
 use Rattle.std.proofs.Props.{props}
-use Rattle.prima_base.specs.declared.value.Value.{Value}
-use Rattle.prima_base.specs.declared.value.Value.TheVariants.{Int, Text}
 use Rattle.prima_base.specs.declared.value.Val.{Val}
 use Rattle.prima_base.specs.declared.value.Val.TheVariants.{Int as ValInt, Slice, Own}
 use Rattle.prima_base.specs.Order.{shown, IsBorrowed}
-use Rattle.cond_expr.specs.Rows.{IsValid, AreValid, AreBorrowed}
-
-valid_once : (v : Value) → IsProp (IsValid v)
-valid_once (Int n) = hlevel props
-valid_once (Text t) = hlevel props
+use Rattle.cond_expr.specs.Rows.{AreValid, AreBorrowed}
+use Rattle.timed_choices.specs.Fitting.{valid_once}
 
 pub all_valid_once : (values : List Val) → IsProp (AreValid values)
 all_valid_once [] = hlevel props

@@ -12,7 +12,7 @@ use Rattle.timed_choices.specs.Keeping.{IsValidRow}
 abbrev pub Fit : ℕ → List (Entry (List Value)) → Type 0
 Fit n entries = (e : Entry (List Value)) → In e entries → (length e.item ≡ n) × IsValidRow e.item
 
-valid_once : (v : Value) → IsProp (IsValid v)
+pub valid_once : (v : Value) → IsProp (IsValid v)
 valid_once (Int n) = hlevel props
 valid_once (Text t) = hlevel props
 
