@@ -5,12 +5,9 @@ use Rattle.std.specs.Prelude.{◌&&◌, ◌==◌, ◌⊎◌, Option, Some, None}
 use Rattle.std.specs.Option.{option_or}
 use Rattle.std.proofs.lemmas.Bool.Decides.{nat_tests}
 use Rattle.std.proofs.lemmas.List.{drop_more}
-use Rattle.std.specs.declared.cmp.Ordering.{Ordering}
-use Rattle.std.specs.declared.cmp.Ordering.TheVariants.{Less, Equal, Greater}
-use Rattle.std.specs.Ordering.{is_eq}
 use Rattle.prima_base.specs.declared.value.Value.{Value}
-use Rattle.prima_base.specs.Order.{value_cmp, bytes_cmp, same}
-use Rattle.prima_base.specs.OrderLaws.{bytes_exact}
+use Rattle.prima_base.specs.Order.{value_cmp, same}
+use Rattle.prima_base.specs.OrderLaws.{same_is}
 use Rattle.cond_expr.specs.declared.expr.Whose.TheVariants.{Free, Alias, Atom}
 use Rattle.cond_expr.specs.declared.expr.CmpOp.{CmpOp}
 use Rattle.cond_expr.specs.declared.expr.Column.{Column}
@@ -32,14 +29,6 @@ both false b e = absurd (cc)
 
 same_atom : (i j : ℕ) → (i == j) ≡ true → i ≡ j
 same_atom i j e = grind (arith, nat_tests)
-
-same_name : (a b : List ℕ) → same a b ≡ true → a ≡ b
-same_name a b e = step (bytes_cmp a b) refl e
-  where
-    step : (o : Ordering) → bytes_cmp a b ≡ o → is_eq o ≡ true → a ≡ b
-    step Less q h = absurd (cc)
-    step Equal q h = bytes_exact.same a b q
-    step Greater q h = absurd (cc)
 
 is_constant : (at : Cells) (t : Tree) (v : Value) → constant_of t ≡ Some v → value at t ≡ v
 is_constant at (column w n) v e = absurd (cc)
@@ -66,7 +55,7 @@ module _ (at : Cells) (c : Column) where
   column_value (column (Atom i) n) e =
       let b = both (c.atom == i) (same n c.name) e in
       ap (λ (j : ℕ). at (Atom j) n) (sym (same_atom c.atom i b.0))
-      ∙ ap (at (Atom c.atom)) (same_name n c.name b.1)
+      ∙ ap (at (Atom c.atom)) (same_is n c.name b.1)
   column_value (constant v) e = absurd (cc)
   column_value (length_of t) e = absurd (cc)
   column_value (joined ts) e = absurd (cc)

@@ -2,14 +2,11 @@
 use Rattle.std.proofs.Common.{◌≡◌, ℕ, true, false, List, refl, sym, ap, subst, ◌∙◌}
 use Rattle.std.specs.Prelude.{◌==◌, Option, Some, None}
 use Rattle.std.proofs.lemmas.Bool.{cond-true, cond-false, and_parts, eqb-true}
-use Rattle.std.specs.declared.cmp.Ordering.{Ordering}
-use Rattle.std.specs.declared.cmp.Ordering.TheVariants.{Less, Equal, Greater}
-use Rattle.std.specs.Ordering.{is_eq}
 use Rattle.prima_base.specs.declared.value.Value.{Value}
 use Rattle.prima_base.specs.declared.value.ColType.{ColType}
 use Rattle.prima_base.specs.declared.value.ColType.TheVariants.{Int as INT, Text as TEXT}
-use Rattle.prima_base.specs.Order.{value_cmp, same, bytes_cmp}
-use Rattle.prima_base.specs.OrderLaws.{value_total, bytes_exact}
+use Rattle.prima_base.specs.Order.{value_cmp, same}
+use Rattle.prima_base.specs.OrderLaws.{value_total, same_is}
 use Rattle.cond_expr.specs.declared.expr.Whose.TheVariants.{Free, Alias, Atom}
 use Rattle.cond_expr.specs.declared.expr.CmpOp.{CmpOp}
 use Rattle.cond_expr.specs.Trees.{Tree, column, constant, length_of, joined, choose, Test, never}
@@ -80,18 +77,10 @@ bound_truth at t b (on_right o i n v) =
     sym (agrees_reversed o (value_cmp v (at (Atom i) n)))
     ∙ ap (agrees (turned o)) (sym (value_total.antisymm (at (Atom i) n) v))
 
-same_names : (n m : List ℕ) → same n m ≡ true → n ≡ m
-same_names n m h = step (bytes_cmp n m) refl h
-  where
-    step : (r : Ordering) → bytes_cmp n m ≡ r → is_eq r ≡ true → n ≡ m
-    step Less e k = absurd (cc)
-    step Equal e k = bytes_exact.same n m e
-    step Greater e k = absurd (cc)
-
 pub on_column : (i : ℕ) (n : List ℕ) (b : Bound) → is_on i n (Some b) ≡ true → (b.atom ≡ i)
     × (b.name ≡ n)
 on_column i n b h = let k = and_parts (b.atom == i) (same b.name n) h in
-    (eqb-true b.atom i k.0, same_names b.name n k.1)
+    (eqb-true b.atom i k.0, same_is b.name n k.1)
 
 -- where the column has the value, a part of it lets it just where it agrees
 pub lets_bound : (i : ℕ) (n : List ℕ) (v : Value) (t : Test) (b : Bound) → bound_of t ≡ Some b

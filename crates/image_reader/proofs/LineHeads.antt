@@ -1,8 +1,8 @@
 -- The versions and the table that are read are those of the lifeline that is due.
 use Rattle.std.proofs.Common.{◌≡◌, ℕ, ◌==◌, eqb-true, true, List, ap, ◌∙◌}
 use Rattle.std.specs.Prelude.{◌&&◌}
+use Rattle.prima_base.specs.OrderLaws.{same_is}
 use Rattle.smo_meaning.specs.OneRow.{same}
-use Rattle.smo_meaning.proofs.NameLaws.{same_is}
 use Rattle.command_spelling.proofs.Numbers.{of_both}
 use Rattle.lifelines.specs.Lifelines.{Lifeline}
 use Rattle.image_spelling.specs.Judged.{is_line}

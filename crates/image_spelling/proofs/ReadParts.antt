@@ -10,6 +10,7 @@ use Rattle.relations.specs.Spans.{Span, span}
 use Rattle.prima_base.specs.Bytes.{IsName}
 use Rattle.prima_base.specs.Columns.{Column}
 use Rattle.prima_base.specs.declared.value.ColType.{ColType}
+use Rattle.prima_base.specs.OrderLaws.{same_is}
 use Rattle.schema_catalog.specs.Tables.{Tables}
 use Rattle.table_histories.specs.Store.{Cell}
 use Rattle.smo_types.specs.Commands.{PlainVersion}
@@ -17,7 +18,7 @@ use Rattle.smo_types.specs.Operators.{Operator}
 use Rattle.smo_meaning.specs.After.{schema_after}
 use Rattle.smo_meaning.specs.OneRow.{same}
 use Rattle.smo_meaning.specs.Past.{no_tables}
-use Rattle.smo_meaning.proofs.NameLaws.{same_itself, same_is}
+use Rattle.smo_meaning.proofs.NameLaws.{same_itself}
 use Rattle.command_spelling.specs.Reading.{Out, Parsed, Unexpected, and_then, bind, byte, map_to}
 use Rattle.command_spelling.specs.Reading.{pair, digits, items}
 use Rattle.command_spelling.specs.Reader.{up_to, number_64, name, value, operator, operators}

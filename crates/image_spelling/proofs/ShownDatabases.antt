@@ -11,6 +11,7 @@ use Rattle.relations.specs.Sets.{In}
 use Rattle.relations.proofs.SetLaws.{in_map, from_map, from_filter}
 use Rattle.prima_base.specs.Order.{bytes_cmp}
 use Rattle.prima_base.specs.Columns.{Column}
+use Rattle.prima_base.specs.OrderLaws.{same_is}
 use Rattle.schema_catalog.specs.Tables.{Tables}
 use Rattle.schema_catalog.specs.Databases.{DatabaseEntry, Rows, Lost, IsEntry, IsDatabase}
 use Rattle.table_histories.specs.Store.{relation_at}
@@ -18,7 +19,7 @@ use Rattle.smo_meaning.specs.Effects.{rows_under}
 use Rattle.smo_meaning.specs.ValidValues.{EntryHolds, HoldsValues}
 use Rattle.smo_meaning.specs.OneRow.{same}
 use Rattle.smo_meaning.specs.Past.{no_tables, tables_from, begun_at}
-use Rattle.smo_meaning.proofs.NameLaws.{same_itself, same_is}
+use Rattle.smo_meaning.proofs.NameLaws.{same_itself}
 use Rattle.smo_meaning.proofs.PastMoments.{few_begun}
 use Rattle.lifelines.specs.Lifelines.{Lifeline, is_up_to, IsUpTo, Covers, AreApart, HaveTables}
 use Rattle.lifelines.proofs.NamedEntries.{in_found}

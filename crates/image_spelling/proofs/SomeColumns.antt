@@ -13,7 +13,7 @@ use Rattle.relations.specs.Sets.{In, placed, put_in, set_of}
 use Rattle.relations.proofs.SetLaws.{in_filter, in_left, has_in, in_has}
 use Rattle.prima_base.specs.declared.refusal.OpRefusal.TheVariants.{LastColumn, BadCover, NoColumn}
 use Rattle.prima_base.specs.Order.{bytes_cmp}
-use Rattle.prima_base.specs.OrderLaws.{bytes_exact}
+use Rattle.prima_base.specs.OrderLaws.{bytes_exact, same_is}
 use Rattle.prima_base.specs.Columns.{Column, names_of, AreColumns}
 use Rattle.schema_catalog.specs.Tables.{Tables}
 use Rattle.smo_types.specs.Operators.{Operator, nop, create_table, drop_table, rename_table}
@@ -27,7 +27,7 @@ use Rattle.smo_meaning.specs.Making.{column_cmp, in_order, named, without, type_
 use Rattle.smo_meaning.specs.OperatorTable.{line}
 use Rattle.smo_meaning.specs.After.{op_fault, schema_after, IsValid}
 use Rattle.smo_meaning.proofs.Firsts.{met, none_mapped}
-use Rattle.smo_meaning.proofs.NameLaws.{same_is, same_not, same_turned}
+use Rattle.smo_meaning.proofs.NameLaws.{same_not, same_turned}
 use Rattle.smo_meaning.proofs.StepLaws.{AllMet}
 use Rattle.smo_meaning.proofs.NextSchemas.{all_preconditions, is_table, Each, EachMade, each_after}
 use Rattle.smo_meaning.proofs.NextSchemas.{ordered_columns}

@@ -9,9 +9,9 @@ use Rattle.std.specs.FinMap.{FinMap, get, entries, find, is_sorted, entries_sort
 use Rattle.std.specs.FinMap.Entries.{below_all}
 use Rattle.relations.specs.Sets.{In}
 use Rattle.prima_base.specs.Order.{bytes_cmp}
-use Rattle.prima_base.specs.OrderLaws.{bytes_exact}
+use Rattle.prima_base.specs.OrderLaws.{bytes_exact, same_is}
 use Rattle.smo_meaning.specs.OneRow.{same}
-use Rattle.smo_meaning.proofs.NameLaws.{same_itself, same_is}
+use Rattle.smo_meaning.proofs.NameLaws.{same_itself}
 
 first : (a b : Bool) → T (a && b) → T a
 first true b p = tt

@@ -2,11 +2,12 @@
 use Rattle.std.specs.Prelude.{◌≡◌, ℕ, List, [], ◌∷◌, ◌++◌, Bool, true, false, ◌||◌, ◌&&◌, ◌==◌, ◌↔◌}
 use Rattle.std.specs.Prelude.{IsTrue}
 use Rattle.std.proofs.Common.{refl, ap, sym, ◌∙◌, inl, inr, arith}
+use Rattle.prima_base.specs.OrderLaws.{same_is}
 use Rattle.cond_expr.specs.declared.expr.ColRef.{ColRef}
 use Rattle.cond_expr.specs.declared.expr.Whose.{Whose}
 use Rattle.cond_expr.specs.declared.expr.Whose.TheVariants.{Free, Alias, Atom}
 use Rattle.smo_meaning.specs.OneRow.{same}
-use Rattle.smo_meaning.proofs.NameLaws.{same_is, same_itself}
+use Rattle.smo_meaning.proofs.NameLaws.{same_itself}
 use Rattle.plain_answers.specs.Naming.{is_atom, is_to, IsNamed}
 use Rattle.piece_ir.specs.Substituting.{is_column, names_column}
 

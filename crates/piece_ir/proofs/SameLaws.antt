@@ -8,7 +8,7 @@ use Rattle.std.specs.declared.cmp.Ordering.{Ordering}
 use Rattle.std.specs.declared.cmp.Ordering.TheVariants.{Less, Equal, Greater}
 use Rattle.std.specs.Ordering.{is_eq}
 use Rattle.prima_base.specs.Order.{same, row_cmp, value_cmp, value_eq}
-use Rattle.prima_base.specs.OrderLaws.{value_total, row_exact}
+use Rattle.prima_base.specs.OrderLaws.{value_total, row_exact, same_is}
 use Rattle.prima_base.specs.declared.value.Value.{Value}
 use Rattle.cond_expr.specs.declared.expr.Whose.{Whose}
 use Rattle.cond_expr.specs.declared.expr.Whose.TheVariants.{Free, Alias, Atom}
@@ -22,7 +22,7 @@ use Rattle.cond_expr.specs.Trees.{Tree, column, constant, length_of, joined, cho
 use Rattle.cond_expr.specs.Trees.{no_trees, a_tree, Test, never, always, compared, all_of, some_of}
 use Rattle.cond_expr.specs.Trees.{fails, Tests, no_tests, a_test}
 use Rattle.cond_expr.specs.Seen.{tree, test, trees_of, tests_of}
-use Rattle.smo_meaning.proofs.NameLaws.{same_itself, same_is}
+use Rattle.smo_meaning.proofs.NameLaws.{same_itself}
 use Rattle.piece_meaning.specs.Pieces.{PlainPiece}
 use Rattle.piece_ir.specs.Sameness.{same_whose, same_tree, same_trees, same_test, same_tests}
 use Rattle.piece_ir.specs.Sameness.{same_names, same_outs, same_piece, same_pieces}

@@ -1,11 +1,11 @@
 -- The laws of the order of values and of what `Val`s show.
-use Rattle.std.specs.Prelude.{◌≡◌, Some, refl}
+use Rattle.std.specs.Prelude.{◌≡◌, ℕ, List, true, Some, refl}
 use Rattle.std.proofs.Common.{ap, ◌∙◌}
-use Rattle.std.specs.declared.cmp.Ordering.TheVariants.{Less, Equal}
+use Rattle.std.specs.declared.cmp.Ordering.TheVariants.{Less, Equal, Greater}
 use Rattle.std.specs.Cmp.{IsTotalOrder, IsPartialOrder, IsEquivalence, IsPartialEquivalence}
 use Rattle.std.specs.Cmp.{on_total, on_equiv, partial_equiv_from_equiv, partial_order_from_total}
 use Rattle.std.specs.Cmp.Lexicographic.{nat_list_cmp_total, lists_total}
-use Rattle.std.specs.Ordering.{eq_by_cmp, ordering_reverse}
+use Rattle.std.specs.Ordering.{eq_by_cmp, is_eq, ordering_reverse}
 use Rattle.std.specs.declared.cmp.Ordering.{Ordering}
 use Rattle.std.specs.FinMap.{IsAntisymmetric, nat_cmp-IsAntisymmetric, int_cmp-IsAntisymmetric}
 use Rattle.std.specs.FinMap.{slice_cmp-IsAntisymmetric}
@@ -13,7 +13,7 @@ use Rattle.std.proofs.lemmas.Cmp.{int_cmp_total, eq_by_cmp_equiv, tied_itself}
 use Rattle.prima_base.specs.declared.value.Value.{Value}
 use Rattle.prima_base.specs.declared.value.Value.TheVariants.{Int, Text}
 use Rattle.relations.specs.Sets.{IsExact}
-use Rattle.prima_base.specs.Order.{value_cmp, row_cmp, bytes_cmp, value_eq, shown}
+use Rattle.prima_base.specs.Order.{value_cmp, row_cmp, bytes_cmp, same, value_eq, shown}
 
 pub value_total : IsTotalOrder value_cmp
 value_total = record { antisymm = antisymm; trans = trans; congr = congr }
@@ -87,3 +87,12 @@ row_exact = exact_from row_total (slice_cmp-IsAntisymmetric value_apart)
 
 pub bytes_exact : IsExact bytes_cmp
 bytes_exact = exact_from nat_list_cmp_total (slice_cmp-IsAntisymmetric nat_cmp-IsAntisymmetric)
+
+-- names that are told to be one are
+pub same_is : (a b : List ℕ) → same a b ≡ true → a ≡ b
+same_is a b e = step (bytes_cmp a b) refl e
+  where
+    step : (o : Ordering) → bytes_cmp a b ≡ o → is_eq o ≡ true → a ≡ b
+    step Less q h = absurd (cc)
+    step Equal q h = bytes_exact.same a b q
+    step Greater q h = absurd (cc)

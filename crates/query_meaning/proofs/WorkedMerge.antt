@@ -38,11 +38,11 @@ use Rattle.prima_base.specs.declared.refusal.What.TheVariants.{Tables as TABLES}
 use Rattle.prima_base.specs.declared.refusal.OpRefusal.{OpRefusal}
 use Rattle.prima_base.specs.declared.refusal.OpRefusal.TheVariants.{Exists, TooMany, NoTable}
 use Rattle.prima_base.specs.Limits.{max_tables}
+use Rattle.prima_base.specs.OrderLaws.{same_is}
 use Rattle.smo_meaning.specs.First.{unless, first_refusal}
 use Rattle.smo_meaning.specs.Preconditions.{among, differ, alike, test_known_in, test_typed_in}
 use Rattle.smo_meaning.specs.Inverses.{inverse_tests, inverse_fault}
 use Rattle.smo_meaning.proofs.InverseLaws.{accepted_so}
-use Rattle.smo_meaning.proofs.NameLaws.{same_is}
 use Rattle.smo_meaning.proofs.CountingLaws.{gained_step, lost_with}
 use Rattle.version_ways.specs.Migration.{migrated}
 use Rattle.version_ways.proofs.WorkedWords.{a, r, s, t, int, a_columns, t_there, s_there, r_there}

@@ -5,13 +5,13 @@ use Rattle.std.specs.Prelude.{◌==◌, ◌&&◌, Some, None, is_none}
 use Rattle.std.proofs.lemmas.Bool.Decides.{nat_tests}
 use Rattle.relations.specs.Sets.{In}
 use Rattle.prima_base.specs.Columns.{Column, names_of}
+use Rattle.prima_base.specs.OrderLaws.{same_is}
 use Rattle.cond_expr.specs.declared.expr.Column.{Column as AtomColumn}
 use Rattle.cond_expr.specs.declared.expr.ColRef.{ColRef}
 use Rattle.cond_expr.specs.declared.expr.Whose.TheVariants.{Atom}
 use Rattle.cond_expr.specs.Kinds.{Kinds, kinds_of}
 use Rattle.cond_expr.specs.Faults.{first_unknown}
 use Rattle.smo_meaning.specs.OneRow.{same}
-use Rattle.smo_meaning.proofs.NameLaws.{same_is}
 use Rattle.cond_expr.specs.AtomColumns.{columns_at, atoms_from}
 
 -- each of these references names something

@@ -10,6 +10,7 @@ use Rattle.prima_base.specs.declared.value.ColType.{ColType}
 use Rattle.prima_base.specs.declared.value.ColType.TheVariants.{Int as INT, Text as TEXT}
 use Rattle.prima_base.specs.Order.{value_eq}
 use Rattle.prima_base.specs.Columns.{Column, names_of, AreColumns}
+use Rattle.prima_base.specs.OrderLaws.{same_is}
 use Rattle.schema_catalog.specs.Databases.{cell}
 use Rattle.cond_expr.specs.declared.expr.Whose.{Whose}
 use Rattle.cond_expr.specs.declared.expr.Whose.TheVariants.{Atom}
@@ -22,7 +23,7 @@ use Rattle.cond_expr.proofs.KindLaws.{typed_fill}
 use Rattle.smo_meaning.specs.OneRow.{Row, same, own_kinds, own_cells, meets}
 use Rattle.smo_meaning.specs.Preconditions.{among, type_in}
 use Rattle.smo_meaning.specs.Making.{joined_columns, agree, joined_value, joined_row}
-use Rattle.smo_meaning.proofs.NameLaws.{same_turned, same_is, in_among, among_in, in_names}
+use Rattle.smo_meaning.proofs.NameLaws.{same_turned, in_among, among_in, in_names}
 use Rattle.smo_meaning.proofs.NameLaws.{own_type}
 use Rattle.smo_meaning.proofs.TypeLaws.{own_atom}
 use Rattle.smo_meaning.proofs.MadeRows.{from_in_order, column_named, one_kind, each_is, Joinable}

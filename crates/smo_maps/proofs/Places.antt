@@ -9,11 +9,12 @@ use Rattle.prima_base.specs.declared.value.Value.TheVariants.{Int}
 use Rattle.prima_base.specs.declared.value.ColType.{ColType}
 use Rattle.prima_base.specs.Order.{row_cmp}
 use Rattle.prima_base.specs.Columns.{Column, names_of}
+use Rattle.prima_base.specs.OrderLaws.{same_is}
 use Rattle.schema_catalog.specs.Databases.{cell}
 use Rattle.smo_meaning.specs.OneRow.{Row, Relation, same}
 use Rattle.smo_meaning.specs.Preconditions.{among}
 use Rattle.smo_meaning.specs.Making.{image, joined_value, joined_columns, joined_row}
-use Rattle.smo_meaning.proofs.NameLaws.{same_turned, same_is}
+use Rattle.smo_meaning.proofs.NameLaws.{same_turned}
 use Rattle.smo_maps.specs.declared.source.Source.{Source}
 use Rattle.smo_maps.specs.Picking.{place_of, source_of, value_at, picked, picked_row}
 

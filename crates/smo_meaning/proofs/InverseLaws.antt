@@ -17,7 +17,7 @@ use Rattle.prima_base.specs.declared.value.ColType.TheVariants.{Int, Text}
 use Rattle.prima_base.specs.declared.refusal.OpRefusal.{OpRefusal}
 use Rattle.prima_base.specs.declared.refusal.Refusal.TheVariants.{InverseMisses, InverseOp}
 use Rattle.prima_base.specs.Order.{bytes_cmp}
-use Rattle.prima_base.specs.OrderLaws.{bytes_exact}
+use Rattle.prima_base.specs.OrderLaws.{bytes_exact, same_is}
 use Rattle.prima_base.specs.Columns.{Column}
 use Rattle.schema_catalog.specs.Tables.{Tables}
 use Rattle.schema_catalog.specs.Differences.{IsFirstDifference}
@@ -31,7 +31,7 @@ use Rattle.smo_meaning.specs.Inverses.{same_table, first_difference, way_back, i
 use Rattle.smo_meaning.specs.Inverses.{schema_after_each, AllOperatorsAccepted, IsFirstRefused}
 use Rattle.smo_meaning.specs.Inverses.{IsMissed}
 use Rattle.smo_meaning.proofs.Firsts.{first_at, first_later, first_alone}
-use Rattle.smo_meaning.proofs.NameLaws.{same_itself, same_is}
+use Rattle.smo_meaning.proofs.NameLaws.{same_itself}
 
 -- columns are compared one by one
 type_is : (x y : ColType) → same_type x y ≡ true → x ≡ y

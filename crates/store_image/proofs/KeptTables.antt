@@ -8,11 +8,11 @@ use Rattle.std.proofs.lemmas.Bool.Decides.{nat_tests}
 use Rattle.std.proofs.lemmas.List.{get_or_default}
 use Rattle.relations.specs.Sets.{In}
 use Rattle.relations.specs.Spans.{Span, forever}
+use Rattle.prima_base.specs.OrderLaws.{same_is}
 use Rattle.table_histories.specs.Store.{Cell, Store, IsBefore, AllBefore, relation_at}
 use Rattle.smo_meaning.specs.ValidPast.{IsLater}
 use Rattle.smo_meaning.specs.OneRow.{same}
 use Rattle.smo_meaning.specs.Sizes.{Written, Size}
-use Rattle.smo_meaning.proofs.NameLaws.{same_is}
 use Rattle.lifelines.specs.Lifelines.{Lifeline, covers, is_up_to, Covers, IsUpTo as GoesTo}
 use Rattle.image_spelling.specs.Images.{StoredLine, IsUpTo, EndsUpTo, store_of}
 use Rattle.image_spelling.specs.ShownPast.{cells_written, line_size}

@@ -8,11 +8,12 @@ use Rattle.relations.specs.Sets.{put_in, set_of}
 use Rattle.prima_base.specs.declared.value.ColType.{ColType}
 use Rattle.prima_base.specs.declared.value.ColType.TheVariants.{Int as INT, Text as TEXT}
 use Rattle.prima_base.specs.Columns.{Column}
+use Rattle.prima_base.specs.OrderLaws.{same_is}
 use Rattle.cond_expr.specs.Kinds.{same_type}
 use Rattle.smo_meaning.specs.OneRow.{same}
 use Rattle.smo_meaning.specs.Preconditions.{among, same_columns}
 use Rattle.smo_meaning.specs.Making.{column_cmp, named, joined_columns, in_order}
-use Rattle.smo_meaning.proofs.NameLaws.{same_itself, same_is, same_types}
+use Rattle.smo_meaning.proofs.NameLaws.{same_itself, same_types}
 use Rattle.table_columns.proofs.LeftColumns.{kept_one}
 
 -- columns are the same where the lists are one

@@ -4,8 +4,6 @@ use Rattle.std.proofs.Common.{cond, List, [], ◌∷◌, ◌++◌, append_assoc,
 use Rattle.std.proofs.Common.{refl, sym, ap, ◌∙◌, subst, inl, inr}
 use Rattle.std.specs.Prelude.{◌&&◌, ◌==◌, pos, negsuc}
 use Rattle.std.specs.Ordering.{is_eq}
-use Rattle.std.specs.declared.cmp.Ordering.{Ordering}
-use Rattle.std.specs.declared.cmp.Ordering.TheVariants.{Less, Equal, Greater}
 use Rattle.std.proofs.lemmas.Bool.Decides.{nat_tests}
 use Rattle.std.proofs.lemmas.Cmp.{tied_itself}
 use Rattle.std.proofs.lemmas.List.{map-append, take_more, length-map}
@@ -16,8 +14,8 @@ use Rattle.relations.specs.Sets.{In}
 use Rattle.prima_base.specs.declared.value.Val.{Val}
 use Rattle.prima_base.specs.declared.value.Val.TheVariants.{Int as ValInt, Slice, Own}
 use Rattle.prima_base.specs.declared.timed_row.TimedRow.{TimedRow}
-use Rattle.prima_base.specs.Order.{shown, IsBorrowed, is_borrowed, same, bytes_cmp, value_eq}
-use Rattle.prima_base.specs.OrderLaws.{bytes_exact, value_total}
+use Rattle.prima_base.specs.Order.{shown, IsBorrowed, is_borrowed, same, value_eq}
+use Rattle.prima_base.specs.OrderLaws.{same_is, value_total}
 use Rattle.prima_base.specs.Timed.{entry_of, entries_of}
 use Rattle.prima_base.proofs.BorrowedVals.{stays_borrowed}
 use Rattle.cond_expr.specs.declared.expr.Whose.{Whose}
@@ -51,15 +49,7 @@ named_borrowed which (Atom i) n c e l =
     let both = both_true (c.atom == i) (same n c.name) e in
     let own : i ≡ c.atom = (let h = both.0 in grind (arith, nat_tests)) in
     subst (λ (j : ℕ). which (Atom j) c.name ≡ true) own
-    (subst (λ (name : List ℕ). which (Atom i) name ≡ true) (same_name n c.name both.1) l)
-  where
-    same_name : (a b : List ℕ) → same a b ≡ true → a ≡ b
-    same_name a b e = step (bytes_cmp a b) refl e
-      where
-        step : (o : Ordering) → bytes_cmp a b ≡ o → is_eq o ≡ true → a ≡ b
-        step Less q h = absurd (cc)
-        step Equal q h = bytes_exact.same a b q
-        step Greater q h = absurd (cc)
+    (subst (λ (name : List ℕ). which (Atom i) name ≡ true) (same_is n c.name both.1) l)
 
 -- ---- what is chosen
 

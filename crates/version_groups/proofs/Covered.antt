@@ -9,12 +9,13 @@ use Rattle.std.proofs.lemmas.List.{length-map}
 use Rattle.std.proofs.lemmas.Option.{slice_get-get_or, slice_get_within, get_or_from_slice_get}
 use Rattle.relations.specs.Sets.{In}
 use Rattle.prima_base.specs.Columns.{Column}
+use Rattle.prima_base.specs.OrderLaws.{same_is}
 use Rattle.schema_catalog.specs.Tables.{Tables}
 use Rattle.smo_types.specs.declared.version.Version.{Version}
 use Rattle.smo_types.specs.Commands.{PlainVersion, version_of}
 use Rattle.smo_meaning.specs.OneRow.{same}
 use Rattle.smo_meaning.specs.Past.{no_tables, newest_from}
-use Rattle.smo_meaning.proofs.NameLaws.{same_is, same_itself}
+use Rattle.smo_meaning.proofs.NameLaws.{same_itself}
 use Rattle.smo_meaning.proofs.PastMoments.{before_or_not}
 use Rattle.version_tables.specs.declared.made_table.MadeTable.{MadeTable}
 use Rattle.version_tables.specs.Ending.{table_after, AreLiving}

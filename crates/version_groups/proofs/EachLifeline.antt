@@ -10,6 +10,7 @@ use Rattle.relations.specs.Sets.{In}
 use Rattle.relations.proofs.SetLaws.{in_left, in_right, in_map, in_filter, from_map}
 use Rattle.prima_base.specs.Columns.{Column}
 use Rattle.prima_base.specs.Order.{bytes_cmp}
+use Rattle.prima_base.specs.OrderLaws.{same_is}
 use Rattle.schema_catalog.specs.Tables.{Tables}
 use Rattle.smo_types.specs.Commands.{PlainVersion}
 use Rattle.smo_meaning.specs.After.{schema_after}
@@ -17,7 +18,7 @@ use Rattle.smo_meaning.specs.ValidPast.{AreVersions}
 use Rattle.smo_meaning.specs.OneRow.{same}
 use Rattle.smo_meaning.specs.Past.{no_tables, tables_from, newest_from}
 use Rattle.smo_meaning.specs.Touching.{makes, consumes}
-use Rattle.smo_meaning.proofs.NameLaws.{same_is, same_itself}
+use Rattle.smo_meaning.proofs.NameLaws.{same_itself}
 use Rattle.smo_meaning.proofs.PastLaws.{newest_added}
 use Rattle.smo_meaning.proofs.PastMoments.{newest_tables_from, tables_still, tables_added}
 use Rattle.smo_meaning.proofs.PastMoments.{before_or_not}

@@ -2,8 +2,8 @@
 use Rattle.std.proofs.Common.{◌≡◌, ◌<◌, ℕ, suc, Bool, true, false, cond, List, [], ◌∷◌, length}
 use Rattle.std.proofs.Common.{get_or, refl, ap, ◌∙◌, arith, inl, inr}
 use Rattle.std.specs.Prelude.{Some, None, ◌⊎◌}
+use Rattle.prima_base.specs.OrderLaws.{same_is}
 use Rattle.smo_meaning.specs.OneRow.{same}
-use Rattle.smo_meaning.proofs.NameLaws.{same_is}
 use Rattle.version_tables.specs.declared.made_table.MadeTable.{MadeTable}
 use Rattle.version_tables.specs.Stored.{stored_as}
 

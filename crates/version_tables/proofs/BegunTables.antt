@@ -14,10 +14,11 @@ use Rattle.std.proofs.Math.Seq.{take-length}
 use Rattle.relations.specs.Sets.{BeforeAll, Ascends}
 use Rattle.prima_base.specs.Order.{bytes_cmp}
 use Rattle.prima_base.specs.Columns.{Column}
+use Rattle.prima_base.specs.OrderLaws.{same_is}
 use Rattle.schema_catalog.specs.Tables.{Tables}
 use Rattle.history_store.specs.Store.{Store}
 use Rattle.smo_meaning.specs.OneRow.{same}
-use Rattle.smo_meaning.proofs.NameLaws.{same_itself, same_is, same_not, same_turned}
+use Rattle.smo_meaning.proofs.NameLaws.{same_itself, same_not, same_turned}
 use Rattle.version_tables.specs.declared.made_table.MadeTable.{MadeTable}
 use Rattle.version_tables.specs.Stored.{stored_as, stored_names, HasEntry}
 

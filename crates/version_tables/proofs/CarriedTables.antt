@@ -6,6 +6,7 @@ use Rattle.std.specs.List.{filter}
 use Rattle.std.specs.FinMap.{get, entries}
 use Rattle.relations.proofs.SetLaws.{from_filter}
 use Rattle.prima_base.specs.Columns.{Column, IsRelation}
+use Rattle.prima_base.specs.OrderLaws.{same_is}
 use Rattle.schema_catalog.specs.Tables.{Tables, IsSchema}
 use Rattle.schema_catalog.specs.Databases.{Database, DatabaseEntry, Rows, Lost, IsEntry, IsDatabase}
 use Rattle.history_store.specs.Store.{Store}
@@ -16,7 +17,7 @@ use Rattle.smo_meaning.specs.Effects.{rows_under}
 use Rattle.smo_meaning.specs.OneRow.{Relation, same}
 use Rattle.smo_meaning.specs.Preconditions.{among}
 use Rattle.smo_meaning.specs.Touching.{makes, consumes, these_names}
-use Rattle.smo_meaning.proofs.NameLaws.{same_is, same_turned}
+use Rattle.smo_meaning.proofs.NameLaws.{same_turned}
 use Rattle.smo_meaning.proofs.TouchedTables.{table_stays, entry_stays, table_gone}
 use Rattle.smo_meaning.proofs.CarriedDatabases.{carried_database}
 use Rattle.smo_maps.specs.Carrying.{Has}

@@ -9,11 +9,12 @@ use Rattle.std.proofs.Math.ListN.{set, length-set}
 use Rattle.std.proofs.Math.Seq.{ext_get_or}
 use Rattle.relations.specs.Sets.{In, Ascends}
 use Rattle.prima_base.specs.Order.{bytes_cmp}
+use Rattle.prima_base.specs.OrderLaws.{same_is}
 use Rattle.history_store.specs.Store.{Store}
 use Rattle.smo_meaning.specs.OneRow.{same}
 use Rattle.smo_meaning.specs.Preconditions.{among}
 use Rattle.smo_meaning.specs.Touching.{these_names}
-use Rattle.smo_meaning.proofs.NameLaws.{same_itself, same_is, same_turned}
+use Rattle.smo_meaning.proofs.NameLaws.{same_itself, same_turned}
 use Rattle.version_tables.specs.declared.made_table.MadeTable.{MadeTable}
 use Rattle.lifelines.specs.Lifelines.{last_after}
 use Rattle.version_tables.specs.Ending.{table_after, AreEnding, AreLiving}

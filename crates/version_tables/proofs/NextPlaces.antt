@@ -6,9 +6,9 @@ use Rattle.std.specs.Prelude.{Option, Some, None, IsSome, slice_get}
 use Rattle.std.proofs.lemmas.Option.{slice_get_within}
 use Rattle.relations.specs.Sets.{In}
 use Rattle.prima_base.specs.Columns.{Column}
+use Rattle.prima_base.specs.OrderLaws.{same_is}
 use Rattle.history_store.specs.Store.{Store}
 use Rattle.smo_meaning.specs.OneRow.{Relation, same}
-use Rattle.smo_meaning.proofs.NameLaws.{same_is}
 use Rattle.version_tables.specs.declared.made_table.MadeTable.{MadeTable}
 use Rattle.version_tables.specs.Becoming.{Begins}
 use Rattle.version_tables.specs.Evolving.{IsNextTable}

@@ -13,10 +13,10 @@ use Rattle.relations.specs.Sets.{In, Ascends}
 use Rattle.relations.proofs.SetLaws.{in_left, in_right, in_append}
 use Rattle.prima_base.specs.Order.{bytes_cmp}
 use Rattle.prima_base.specs.Columns.{Column}
+use Rattle.prima_base.specs.OrderLaws.{same_is}
 use Rattle.schema_catalog.specs.Tables.{Tables}
 use Rattle.history_store.specs.Handing.{written}
 use Rattle.smo_meaning.specs.OneRow.{Relation, same}
-use Rattle.smo_meaning.proofs.NameLaws.{same_is}
 use Rattle.smo_meaning.proofs.PastMoments.{before_or_not}
 use Rattle.version_tables.specs.declared.made_table.MadeTable.{MadeTable}
 use Rattle.version_tables.specs.Evolving.{Comes}

@@ -9,6 +9,7 @@ use Rattle.std.specs.FinMap.{get, insert, get-insert}
 use Rattle.relations.specs.Sets.{BeforeAll, Ascends}
 use Rattle.prima_base.specs.Order.{bytes_cmp}
 use Rattle.prima_base.specs.Columns.{Column}
+use Rattle.prima_base.specs.OrderLaws.{same_is}
 use Rattle.schema_catalog.specs.Tables.{Tables}
 use Rattle.schema_catalog.specs.Databases.{Database, DatabaseEntry, Rows}
 use Rattle.smo_meaning.specs.First.{first_refusal}
@@ -20,7 +21,7 @@ use Rattle.smo_meaning.specs.Effects.{database_after, after_each}
 use Rattle.smo_meaning.specs.Inserting.{relation_after_each}
 use Rattle.smo_meaning.specs.OneRow.{Relation, same}
 use Rattle.smo_meaning.proofs.Firsts.{none_of_both, none_of_first}
-use Rattle.smo_meaning.proofs.NameLaws.{same_itself, same_is, same_not, same_turned}
+use Rattle.smo_meaning.proofs.NameLaws.{same_itself, same_not, same_turned}
 use Rattle.version_tables.specs.declared.made_table.MadeTable.{MadeTable}
 use Rattle.version_tables.specs.Stored.{stored_as, stored_names}
 use Rattle.version_tables.specs.Grouping.{of_table}

@@ -6,13 +6,14 @@ use Rattle.std.specs.FinMap.{get, insert, get-insert}
 use Rattle.std.specs.Cmp.Lexicographic.{nat_list_cmp_total}
 use Rattle.relations.specs.Sets.{BeforeAll, Ascends}
 use Rattle.prima_base.specs.Order.{bytes_cmp}
+use Rattle.prima_base.specs.OrderLaws.{same_is}
 use Rattle.schema_catalog.specs.Databases.{Database, DatabaseEntry, Rows}
 use Rattle.history_store.specs.Store.{Store}
 use Rattle.smo_types.specs.Changes.{PlainChange}
 use Rattle.smo_meaning.specs.Effects.{gained, lost, gained_rows}
 use Rattle.smo_meaning.specs.OneRow.{Relation, same}
 use Rattle.smo_meaning.proofs.CountingLaws.{gains_nothing, gained_step, lost_with}
-use Rattle.smo_meaning.proofs.NameLaws.{same_is, same_not, same_turned}
+use Rattle.smo_meaning.proofs.NameLaws.{same_not, same_turned}
 use Rattle.version_tables.specs.declared.made_table.MadeTable.{MadeTable}
 use Rattle.version_tables.specs.Stored.{stored_as, stored_names}
 use Rattle.version_tables.specs.Changing.{rows_now, rows_after, all_gained, all_lost}
