@@ -3,6 +3,7 @@
 ghost use Rattle.std.specs.Prelude.{◌≡◌, ◌<◌, ◌^◌, ◌++◌, ◌∷◌, [], length, OnOk};
 ghost use Rattle.std.specs.List.{flat_map, AllByRecursion};
 ghost use Rattle.prima_base.specs.Bytes.{IsName};
+ghost use Rattle.prima_base.specs.Columns.{IsValid};
 ghost use Rattle.cond_expr.specs.Seen.{test};
 ghost use Rattle.smo_types.specs.Changes.{change_of, changes_of, set_of_expr, sets_of, insertion};
 ghost use Rattle.smo_types.specs.Changes.{deletion, update};
@@ -10,7 +11,7 @@ ghost use Rattle.smo_types.specs.Commands.{changing, evolving};
 ghost use Rattle.smo_types.specs.Operators.{operator_of, operators_of};
 ghost use Rattle.command_spelling.specs.Spelling.{cell_bytes, set_bytes, list_bytes, change_bytes};
 ghost use Rattle.command_spelling.specs.Spelling.{body_bytes, name_bytes, test_bytes};
-ghost use Rattle.command_spelling.specs.Valid.{IsValue, IsWritableTree, TestFits, TreeNamed};
+ghost use Rattle.command_spelling.specs.Valid.{IsWritableTree, TestFits, TreeNamed};
 ghost use Rattle.command_spelling.specs.Valid.{TestNamed, IsWritableChange, IsWritableBody};
 ghost use Rattle.command_spelling.specs.Valid.{ChangeNamed, BodyNamed};
 
@@ -25,7 +26,7 @@ use smo_types::{Change, Op};
 fn write_cell(out: &mut Vec<u8>, cell: &(Name, Value)) -> Result<(), NoMemory>
     ensures ok { OnOk result (out.new.items ≡ out.old.items ++ cell_bytes cell.now) }
     ensures name { OnOk result (IsName cell.now.0) }
-    ensures value { OnOk result (IsValue cell.now.1) }
+    ensures value { OnOk result (IsValid cell.now.1) }
 {
     write_name(out, &cell.0)?;
     write_value(out, &cell.1)?;
@@ -35,7 +36,7 @@ fn write_cell(out: &mut Vec<u8>, cell: &(Name, Value)) -> Result<(), NoMemory>
 // Cells, one after the other.
 fn write_each_cell(out: &mut Vec<u8>, cells: &[(Name, Value)]) -> Result<(), NoMemory>
     ensures ok { OnOk result (out.new.items ≡ out.old.items ++ flat_map cell_bytes cells.now) }
-    ensures named { OnOk result (AllByRecursion (λ c. IsName c.0 × IsValue c.1) cells.now) }
+    ensures named { OnOk result (AllByRecursion (λ c. IsName c.0 × IsValid c.1) cells.now) }
 {
     for cell in cells {
         write_cell(out, cell)?;

@@ -7,7 +7,6 @@ ghost use Rattle.prima_base.specs.Order.{shown};
 ghost use Rattle.prima_base.specs.declared.value.Value.TheVariants.{Int as IntValue};
 ghost use Rattle.prima_base.specs.declared.value.Value.TheVariants.{Text as TextValue};
 ghost use Rattle.command_spelling.specs.Found.{Appends, SpellsName, SpellsValue};
-ghost use Rattle.command_spelling.specs.Valid.{IsValue};
 ghost use Rattle.command_spelling.specs.Spelling.{number, name_bytes, value_bytes};
 
 use prima_base::{Name, NoMemory, Val, Value};
@@ -96,7 +95,6 @@ fn write_text(out: &mut Vec<u8>, bytes: &[u8]) -> Result<(), NoMemory>
 #[tactic(auto, unfolding(command_spelling::specs::Spelling::number))]
 fn write_int(out: &mut Vec<u8>, value: i64) -> Result<(), NoMemory>
     ensures ok { OnOk result (out.new.items ≡ out.old.items ++ value_bytes (IntValue value)) }
-    ensures valid { IsValue (IntValue value) }
     ensures err { OnErr result (out.new.items ≡ out.old.items) }
 {
     put_both(out, &[0], &value.to_be_bytes())
@@ -105,7 +103,7 @@ fn write_int(out: &mut Vec<u8>, value: i64) -> Result<(), NoMemory>
 /// Writes the spelling of a value after what is there.
 pub(crate) fn write_value(out: &mut Vec<u8>, value: &Value) -> Result<(), NoMemory>
     ensures ok { OnOk result (out.new.items ≡ out.old.items ++ value_bytes value.now) }
-    ensures named { IsValue value.now }
+    ensures named { IsValid value.now }
     ensures err { OnErr result (out.new.items ≡ out.old.items) }
 {
     write_borrowed(out, &value.lend())
@@ -116,7 +114,7 @@ pub(crate) fn write_value(out: &mut Vec<u8>, value: &Value) -> Result<(), NoMemo
 pub fn write_borrowed(out: &mut Vec<u8>, value: &Val<'_>) -> Result<(), NoMemory>
     requires { IsValid (shown value.now) }
     ensures ok { OnOk result (out.new.items ≡ out.old.items ++ value_bytes (shown value.now)) }
-    ensures named { IsValue (shown value.now) }
+    ensures named { IsValid (shown value.now) }
     ensures err { OnErr result (out.new.items ≡ out.old.items) }
 {
     match value {

@@ -4,7 +4,7 @@ use Rattle.std.proofs.Common.{length, refl, arith}
 use Rattle.std.specs.List.{AllByRecursion}
 use Rattle.std.proofs.lemmas.Bool.{leb-true}
 use Rattle.prima_base.specs.Bytes.{IsName}
-use Rattle.prima_base.specs.Columns.{Column}
+use Rattle.prima_base.specs.Columns.{Column, IsValid}
 use Rattle.prima_base.specs.declared.value.Value.{Value}
 use Rattle.cond_expr.specs.Trees.{Tree, Test}
 use Rattle.smo_types.specs.Operators.{Operator, nop, create_table, drop_table, rename_table}
@@ -18,7 +18,7 @@ use Rattle.command_spelling.specs.Spelling.{number, name_bytes, type_tag, value_
 use Rattle.command_spelling.specs.Spelling.{test_bytes, list_bytes, column_bytes, operator_bytes}
 use Rattle.command_spelling.specs.Spelling.{cell_bytes, set_bytes, change_bytes, body_bytes}
 use Rattle.command_spelling.specs.Spelling.{command_bytes}
-use Rattle.command_spelling.specs.Valid.{IsValue, IsWritableTree, IsWritableOperator}
+use Rattle.command_spelling.specs.Valid.{IsWritableTree, IsWritableOperator}
 use Rattle.command_spelling.specs.Valid.{IsWritableChange, TreeNamed, OperatorNamed, ChangeNamed}
 use Rattle.command_spelling.specs.Valid.{IsTree, IsTest, IsOperator, IsChange, IsBody, IsCommand}
 use Rattle.command_spelling.specs.Reader.{up_to, name, value, column_type, outermost, column_of}
@@ -307,12 +307,12 @@ operators_correct = many_correct operator IsOperator operator_bytes 4 4294967295
 -- ---- changes
 
 abbrev Cells : List (List ℕ × Value) → Type 0
-Cells l = (length l ≤ 4294967295) × AllByRecursion (λ c. IsName c.0 × IsValue c.1) l
+Cells l = (length l ≤ 4294967295) × AllByRecursion (λ c. IsName c.0 × IsValid c.1) l
 
 cells_correct : IsCorrectParser cells Cells (list_bytes 4 cell_bytes)
 unfolding cells cell
-cells_correct = many_correct (pair name value) (λ c. IsName c.0 × IsValue c.1) cell_bytes 4
-    4294967295 (omega arith) (pair_correct name IsName name_bytes value IsValue value_bytes
+cells_correct = many_correct (pair name value) (λ c. IsName c.0 × IsValid c.1) cell_bytes 4
+    4294967295 (omega arith) (pair_correct name IsName name_bytes value IsValid value_bytes
     name_correct value_correct)
 
 abbrev IsSet : List ℕ × Tree → Type 0

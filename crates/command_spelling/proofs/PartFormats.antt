@@ -1,16 +1,18 @@
 -- The readers of names, texts, values, types, signs and lists are good for their formats.
 use Rattle.std.proofs.Common.{◌≡◌, ℕ, zero, suc, ◌+◌, ◌*◌, ◌^◌, ◌<◌, ◌≤◌, ℤ, pos, Bool, true, false}
 use Rattle.std.proofs.Common.{cond, not, nat_lt, nat_le, List, [], ◌∷◌, ◌++◌, length, drop, Some}
-use Rattle.std.proofs.Common.{None, refl, sym, ap, ◌∙◌, subst, arith}
+use Rattle.std.proofs.Common.{None, T, negsuc, refl, sym, ap, ◌∙◌, subst, arith}
 use Rattle.std.specs.Int.{w64, cast_signed, cast_unsigned}
 use Rattle.std.specs.Int.RustNames.{FitsSigned}
 use mir.Val.{Fits}
 use Rattle.std.specs.List.{flat_map, AllByRecursion}
 use Rattle.std.proofs.Math.Facts.{sfits_to_z, to_z-of_z, of_z-to_z, Fits-of_z}
 use Rattle.std.proofs.lemmas.Bool.{leb-true, lt-ltb, le-leb}
+use Rattle.std.proofs.lemmas.Int.{ints}
 use Rattle.std.proofs.lemmas.List.Concat.{flat_map-cons}
 use Rattle.prima_base.specs.Bytes.{is_control, is_digit, is_name_byte, first_from, first_bad, IsTxt}
 use Rattle.prima_base.specs.Bytes.{is_text_byte, IsName}
+use Rattle.prima_base.specs.Columns.{IsValid}
 use Rattle.prima_base.specs.declared.value.ColType.{ColType}
 use Rattle.prima_base.specs.declared.value.ColType.TheVariants.{Int as IntType, Text as TextType}
 use Rattle.prima_base.specs.declared.value.Value.{Value}
@@ -21,7 +23,6 @@ use Rattle.command_spelling.specs.Reading.{Parsed, Parser, IsCorrectParser, pure
 use Rattle.command_spelling.specs.Reading.{tagged, run, digits, items, listed}
 use Rattle.command_spelling.specs.Spelling.{number, name_bytes, type_tag, value_bytes, sign_tag}
 use Rattle.command_spelling.specs.Spelling.{list_bytes}
-use Rattle.command_spelling.specs.Valid.{IsValue}
 use Rattle.command_spelling.specs.Reader.{up_to, is_name_start, is_name_length, name_text, name}
 use Rattle.command_spelling.specs.Reader.{text, number_64, value_arm, value}
 use Rattle.command_spelling.specs.Reader.{type_of_tag, column_type, sign_of_tag, sign}
@@ -30,6 +31,10 @@ use Rattle.command_spelling.proofs.Correctness.{mapped_correct, then_correct, by
 use Rattle.command_spelling.proofs.Correctness.{run_correct, ArmCorrect, parts_correct, parts_read}
 use Rattle.command_spelling.proofs.Correctness.{tagged_correct}
 use Rattle.command_spelling.proofs.Numbers.{number_correct, both_true, of_both}
+
+is_true : (b : Bool) → T b → b ≡ true
+is_true true t = refl
+is_true false t = absurd t
 
 -- ---- where each byte is taken, no first byte is refused
 
@@ -174,39 +179,53 @@ pub number_64_correct : IsCorrectParser number_64 (λ n. n ≤ 18446744073709551
 unfolding number_64
 number_64_correct = number_correct 18446744073709551615 8 (omega arith)
 
-made_int : (n : ℕ) → n ≤ 18446744073709551615 → IsValue (Int (cast_signed w64 n))
+-- an INT is valid just where it is a signed number of 64 bits
+int_valid : (z : ℤ) → FitsSigned w64 z → IsValid (Int z)
+int_valid z h = (let f = h.sfits in (omega (arith, ints, f), omega (arith, ints, f)))
+
+int_fits : (z : ℤ) → IsValid (Int z) → FitsSigned w64 z
+int_fits (pos n) h = record {
+  sfits =
+      (let s = leb-true n 9223372036854775807 (is_true _ h.1.le) in omega (arith, s));
+}
+int_fits (negsuc n) h = record {
+  sfits =
+      (let s = leb-true n 9223372036854775807 (is_true _ h.0.le) in omega (arith, s));
+}
+
+pub zero_valid : IsValid (Int (pos 0))
+zero_valid = int_valid (pos 0) (record { sfits = omega arith })
+
+made_int : (n : ℕ) → n ≤ 18446744073709551615 → IsValid (Int (cast_signed w64 n))
     × (value_bytes (Int (cast_signed w64 n)) ≡ 0 ∷ number 8 n)
 made_int n h =
     let f : Fits w64 n = record { fits = omega (arith, h) } in
-    (sfits_to_z f, ap (λ m. 0 ∷ number 8 m) (of_z-to_z f))
+    (int_valid (cast_signed w64 n) (sfits_to_z f), ap (λ m. 0 ∷ number 8 m) (of_z-to_z f))
 
 small : (z : ℤ) → FitsSigned w64 z → cast_unsigned w64 z ≤ 18446744073709551615
 small z h = let f = (Fits-of_z h).fits in omega (arith, f)
 
-pub value_correct : IsCorrectParser value IsValue value_bytes
+pub value_correct : IsCorrectParser value IsValid value_bytes
 unfolding value
-value_correct = tagged_correct (up_to 1) value_arm IsValue value_bytes (Int (pos 0)) (sfits_zero)
-    each complete
+value_correct = tagged_correct (up_to 1) value_arm IsValid value_bytes (Int (pos 0)) zero_valid each
+    complete
   where
-    sfits_zero : FitsSigned w64 (pos 0)
-    sfits_zero = record { sfits = omega arith }
-
-    each : (x : ℕ) → up_to 1 x ≡ true → ArmCorrect IsValue value_bytes x (value_arm x)
+    each : (x : ℕ) → up_to 1 x ≡ true → ArmCorrect IsValid value_bytes x (value_arm x)
     each zero e = parts_correct number_64 (λ n. n ≤ 18446744073709551615) (λ n. number 8 n)
-        number_64_correct (λ n. Int (cast_signed w64 n)) IsValue value_bytes 0 made_int
+        number_64_correct (λ n. Int (cast_signed w64 n)) IsValid value_bytes 0 made_int
     each (suc zero) e = parts_correct text IsTxt (λ t. number 2 (length t) ++ t) text_correct Text
-        IsValue value_bytes 1 (λ t h. (h, refl))
+        IsValid value_bytes 1 (λ t h. (h, refl))
     each (suc (suc n)) e = absurd (omega (arith, leb-true (suc (suc n)) 1 e))
 
-    complete : (v : Value) → IsValue v → (rest : List ℕ)
+    complete : (v : Value) → IsValid v → (rest : List ℕ)
         → tagged (up_to 1) value_arm (value_bytes v ++ rest) ≡ Parsed v rest
     complete (Int z) h rest =
         parts_read number_64 (λ n. n ≤ 18446744073709551615) (λ n. number 8 n) number_64_correct
-        (λ n. Int (cast_signed w64 n)) IsValue value_bytes 0 made_int (cast_unsigned w64 z)
-        (small z h) rest
-        ∙ ap (λ x. Parsed (Int x) rest) (to_z-of_z h)
+        (λ n. Int (cast_signed w64 n)) IsValid value_bytes 0 made_int (cast_unsigned w64 z)
+        (small z (int_fits z h)) rest
+        ∙ ap (λ x. Parsed (Int x) rest) (to_z-of_z (int_fits z h))
     complete (Text t) h rest = parts_read text IsTxt (λ t. number 2 (length t) ++ t) text_correct
-        Text IsValue value_bytes 1 (λ t h. (h, refl)) t h rest
+        Text IsValid value_bytes 1 (λ t h. (h, refl)) t h rest
 
 -- ---- types and signs
 

@@ -6,6 +6,7 @@ use Rattle.std.specs.List.{flat_map, AllByRecursion}
 use Rattle.std.proofs.lemmas.Bool.{leb-true, ltb-false}
 use Rattle.std.proofs.lemmas.List.Concat.{flat_map-cons}
 use Rattle.prima_base.specs.Bytes.{IsName}
+use Rattle.prima_base.specs.Columns.{IsValid}
 use Rattle.prima_base.specs.declared.value.Value.{Value}
 use Rattle.prima_base.specs.declared.value.Value.TheVariants.{Int}
 use Rattle.cond_expr.specs.declared.expr.Whose.TheVariants.{Atom}
@@ -20,7 +21,7 @@ use Rattle.command_spelling.specs.Reading.{and_then, pair, tagged, items, listed
 use Rattle.command_spelling.specs.Spelling.{number, name_bytes, value_bytes, sign_tag, number_of}
 use Rattle.command_spelling.specs.Spelling.{tree_bytes, trees_bytes, test_bytes, tests_bytes}
 use Rattle.command_spelling.specs.Spelling.{list_bytes}
-use Rattle.command_spelling.specs.Valid.{IsValue, TreeFits, TreesFit, TestFits, TestsFit, TreeNamed}
+use Rattle.command_spelling.specs.Valid.{TreeFits, TreesFit, TestFits, TestsFit, TreeNamed}
 use Rattle.command_spelling.specs.Valid.{TreesNamed, TestNamed, TestsNamed, IsTree, IsTest}
 use Rattle.command_spelling.specs.Reader.{name, value, sign, Level, most_parts, is_expr_tag}
 use Rattle.command_spelling.specs.Reader.{expr_arm, expr, is_cond_tag, cond_arm, cond, nothing}
@@ -32,6 +33,7 @@ use Rattle.command_spelling.proofs.Correctness.{tagged_correct}
 use Rattle.command_spelling.proofs.Numbers.{of_both}
 use Rattle.command_spelling.proofs.PartFormats.{name_correct, value_correct, sign_correct, Counted}
 use Rattle.command_spelling.proofs.PartFormats.{no_items_correct, items_correct, list_correct}
+use Rattle.command_spelling.proofs.PartFormats.{zero_valid}
 
 -- a tree of at most so many levels that has a spelling
 abbrev pub TreeWithin : ℕ → Tree → Type 0
@@ -260,7 +262,7 @@ module _ (deeper : Bool) (e : ℕ) (inside : Level) (deep : deeper ≡ true → 
       × (tree_bytes (column (Atom 0) n) ≡ 0 ∷ name_bytes n)
   a_column n h = (((refl, omega arith), h), refl)
 
-  a_constant : (v : Value) → IsValue v → TreeWithin D (constant v)
+  a_constant : (v : Value) → IsValid v → TreeWithin D (constant v)
       × (tree_bytes (constant v) ≡ 1 ∷ value_bytes v)
   a_constant v h = (((tt, omega arith), h), refl)
 
@@ -295,7 +297,7 @@ module _ (deeper : Bool) (e : ℕ) (inside : Level) (deep : deeper ≡ true → 
   expr_arms : (x : ℕ) → is_expr_tag deeper x ≡ true → tree_at x (expr_arm deeper inside x)
   expr_arms zero t = parts_correct name IsName name_bytes name_correct (λ n. column (Atom 0) n)
       (TreeWithin D) tree_bytes 0 a_column
-  expr_arms (suc zero) t = parts_correct value IsValue value_bytes value_correct constant
+  expr_arms (suc zero) t = parts_correct value IsValid value_bytes value_correct constant
       (TreeWithin D) tree_bytes 1 a_constant
   expr_arms (suc (suc zero)) t = parts_correct inside.expr (TreeWithin e) tree_bytes
       (deep (length_deeper deeper t)).expr length_of (TreeWithin D) tree_bytes 2 a_length
@@ -335,7 +337,7 @@ module _ (deeper : Bool) (e : ℕ) (inside : Level) (deep : deeper ≡ true → 
   expr_again (constant v) h rest =
       tag_read (is_expr_tag deeper) (expr_arm deeper inside) 1 (value_bytes v ++ rest)
       (always_expr deeper).1
-      ∙ parts_read value IsValue value_bytes value_correct constant (TreeWithin D) tree_bytes 1
+      ∙ parts_read value IsValid value_bytes value_correct constant (TreeWithin D) tree_bytes 1
       a_constant v h.1 rest
   expr_again (length_of t) h rest =
       let b : depth_of t ≤ e = omega (arith, h.0.1) in
@@ -362,7 +364,7 @@ module _ (deeper : Bool) (e : ℕ) (inside : Level) (deep : deeper ≡ true → 
   expr_correct : IsCorrectParser (expr deeper inside) (TreeWithin D) tree_bytes
   unfolding expr
   expr_correct = tagged_correct (is_expr_tag deeper) (expr_arm deeper inside) (TreeWithin D)
-      tree_bytes (constant (Int (pos 0))) ((tt, omega arith), record { sfits = omega arith })
+      tree_bytes (constant (Int (pos 0))) ((tt, omega arith), zero_valid)
       expr_arms expr_again
 
   -- ---- the parts after each tag of a condition

@@ -1,11 +1,12 @@
 -- What bytes are: the spelling of a command or of a part of one, or where the first fault stands.
 use Rattle.std.specs.Prelude.{◌≡◌, ℕ, ◌+◌, ◌-◌, ◌<◌, ◌≤◌, List, ◌++◌, length, take, drop}
 use Rattle.prima_base.specs.Bytes.{IsName}
+use Rattle.prima_base.specs.Columns.{IsValid}
 use Rattle.prima_base.specs.declared.value.Value.{Value}
 use Rattle.smo_types.specs.Operators.{Operator}
 use Rattle.smo_types.specs.Commands.{PlainCommand}
 use Rattle.command_spelling.specs.Spelling.{name_bytes, value_bytes, operator_bytes, command_bytes}
-use Rattle.command_spelling.specs.Valid.{IsValue, IsOperator, IsCommand}
+use Rattle.command_spelling.specs.Valid.{IsOperator, IsCommand}
 
 -- ---- spellings
 
@@ -17,7 +18,7 @@ abbrev pub SpellsName : List ℕ → List ℕ → Type 0
 SpellsName n bytes = IsName n × (bytes ≡ name_bytes n)
 
 abbrev pub SpellsValue : Value → List ℕ → Type 0
-SpellsValue v bytes = IsValue v × (bytes ≡ value_bytes v)
+SpellsValue v bytes = IsValid v × (bytes ≡ value_bytes v)
 
 abbrev pub SpellsOperator : Operator → List ℕ → Type 0
 SpellsOperator op bytes = IsOperator op × (bytes ≡ operator_bytes op)

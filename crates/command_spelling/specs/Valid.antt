@@ -1,12 +1,9 @@
 -- Which commands have a spelling.
 use Rattle.std.specs.Prelude.{◌≡◌, ℕ, ◌<◌, ◌≤◌, ◌^◌, length, ⊤}
-use Rattle.std.specs.Int.{w64}
-use Rattle.std.specs.Int.RustNames.{FitsSigned}
 use Rattle.std.specs.List.{AllByRecursion}
 use Rattle.relations.specs.Spans.{forever}
-use Rattle.prima_base.specs.Bytes.{IsName, IsTxt}
-use Rattle.prima_base.specs.declared.value.Value.{Value}
-use Rattle.prima_base.specs.declared.value.Value.TheVariants.{Int, Text}
+use Rattle.prima_base.specs.Bytes.{IsName}
+use Rattle.prima_base.specs.Columns.{IsValid}
 use Rattle.prima_base.specs.Limits.{max_depth}
 use Rattle.cond_expr.specs.declared.expr.Whose.TheVariants.{Atom}
 use Rattle.cond_expr.specs.Trees.{Tree, column, constant, length_of, joined, choose, Trees}
@@ -85,14 +82,10 @@ IsWritable c = IsWritableBody c.body
 
 -- ---- what the types of names, texts, numbers and commands keep: each is a valid one
 
-abbrev pub IsValue : Value → Type 0
-IsValue (Int z) = FitsSigned w64 z
-IsValue (Text t) = IsTxt t
-
 abbrev mutual
   pub TreeNamed : Tree → Type 0
   TreeNamed (column w n) = IsName n
-  TreeNamed (constant v) = IsValue v
+  TreeNamed (constant v) = IsValid v
   TreeNamed (length_of t) = TreeNamed t
   TreeNamed (joined ts) = TreesNamed ts
   TreeNamed (choose c a b) = TestNamed c × TreeNamed a × TreeNamed b
@@ -129,7 +122,7 @@ OperatorNamed (drop_column c r) = IsName r × IsName c
 OperatorNamed (rename_column b r c) = IsName r × IsName b × IsName c
 
 abbrev pub ChangeNamed : PlainChange → Type 0
-ChangeNamed (insertion t cells) = IsName t × AllByRecursion (λ c. IsName c.0 × IsValue c.1) cells
+ChangeNamed (insertion t cells) = IsName t × AllByRecursion (λ c. IsName c.0 × IsValid c.1) cells
 ChangeNamed (deletion t c) = IsName t × TestNamed c
 ChangeNamed (update t sets c) = IsName t × AllByRecursion (λ s. IsName s.0 × TreeNamed s.1) sets
     × TestNamed c

@@ -9,11 +9,12 @@ ghost use Rattle.smo_meaning.specs.Past.{Past, newest_tables};
 ghost use Rattle.smo_meaning.specs.ValidPast.{IsPast};
 ghost use Rattle.smo_meaning.specs.Accepts.{command_fault};
 ghost use Rattle.prima_base.specs.Bytes.{IsName};
+ghost use Rattle.prima_base.specs.Columns.{IsValid as IsValidValue};
 ghost use Rattle.command_spelling.specs.Reading.{IsCorrectParser};
 ghost use Rattle.command_spelling.specs.Reader as spec;
 ghost use Rattle.command_spelling.specs.Spelling.{name_bytes, value_bytes, operator_bytes};
 ghost use Rattle.command_spelling.specs.Spelling.{command_bytes};
-ghost use Rattle.command_spelling.specs.Valid.{IsValue, IsOperator, IsCommand, IsWritable};
+ghost use Rattle.command_spelling.specs.Valid.{IsOperator, IsCommand, IsWritable};
 ghost use Rattle.command_spelling.specs.Found.{Spells, SpellsName, SpellsValue, SpellsOperator};
 ghost use Rattle.command_spelling.specs.Found.{Decoding, IsDecoding};
 
@@ -48,7 +49,7 @@ pub fn bytes_are_one_thing()
 /// byte with which no spelling goes on.
 pub fn parts_are_read()
     ensures name { IsCorrectParser spec.name IsName name_bytes }
-    ensures value { IsCorrectParser spec.value IsValue value_bytes }
+    ensures value { IsCorrectParser spec.value IsValidValue value_bytes }
     ensures operator { IsCorrectParser spec.operator IsOperator operator_bytes }
     ensures command { IsCorrectParser spec.command IsCommand command_bytes }
 {}

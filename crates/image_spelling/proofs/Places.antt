@@ -5,7 +5,7 @@ use Rattle.std.proofs.Common.{arith}
 use Rattle.std.specs.Prelude.{Option, Some, None, if◌then◌else◌}
 use Rattle.relations.specs.Spans.{Span, span}
 use Rattle.prima_base.specs.Bytes.{IsName}
-use Rattle.prima_base.specs.Columns.{Column}
+use Rattle.prima_base.specs.Columns.{Column, IsValid}
 use Rattle.prima_base.specs.declared.value.ColType.{ColType}
 use Rattle.schema_catalog.specs.Tables.{Tables}
 use Rattle.table_histories.specs.Store.{Cell}
@@ -16,7 +16,7 @@ use Rattle.command_spelling.specs.Reading.{Explains, and_then, bind, byte, pure,
 use Rattle.command_spelling.specs.Reading.{digits, items}
 use Rattle.command_spelling.specs.Reader.{up_to, number_64, name, value, operator, operators}
 use Rattle.command_spelling.specs.Spelling.{number, name_bytes, value_bytes, operator_bytes}
-use Rattle.command_spelling.specs.Valid.{IsValue, IsOperator}
+use Rattle.command_spelling.specs.Valid.{IsOperator}
 use Rattle.command_spelling.proofs.Correctness.{byte_correct}
 use Rattle.command_spelling.proofs.Numbers.{number_correct}
 use Rattle.command_spelling.proofs.PartFormats.{name_correct, value_correct}
@@ -200,7 +200,7 @@ entry_leaves last type id left = item_leaves (judged (is_due last type id left)
     (map_leaves cell_of (pair (pair number_64 value) period)
     (pair_leaves (pair number_64 value) period
     (pair_leaves number_64 value number_64_leaves
-    (correct_leaves value IsValue value_bytes value_correct)) period_leaves)))
+    (correct_leaves value IsValid value_bytes value_correct)) period_leaves)))
 
 entries_leave : (last : Option ℕ) (type : ColType) (n id : ℕ) (due : List Span)
     → LeavesEnds (entries last type n id due)

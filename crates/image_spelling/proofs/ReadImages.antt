@@ -24,7 +24,6 @@ use Rattle.image_spelling.proofs.Filling.{from_first, to_first, IsWell, run_well
 use Rattle.image_spelling.proofs.DueEntries.{Last, fills_run}
 use Rattle.image_spelling.proofs.FittingRows.{Typed, AllFilled, rows_fit, entries_typed}
 use Rattle.image_spelling.proofs.Apartness.{apart_at_starts, apart_always}
-use Rattle.image_spelling.proofs.SpelledValues.{value_valid, valid_value}
 use Rattle.image_spelling.proofs.DueLifelines.{IsLifeline, EndsBy, due_lifelines}
 use Rattle.image_spelling.proofs.ValidVersions.{read_valid, valid_read, none_is_valid}
 
@@ -156,7 +155,7 @@ line_is last n due l d ((fits, (is_due, keys_are, cells_are)), apart_are) = reco
         (are_typed last l.keys l.line.columns l.cells are) filled m id holds;
     apart = λ m i j hi hj e. apart_always l.keys l.cells filled some apart_are m i j hi hj e;
   };
-  values = λ cells i c j. (let r = each cells i in value_valid c.value ((r.1.well c j).fits.0.1));
+  values = λ cells i c j. (let r = each cells i in (r.1.well c j).fits.0.1);
   keys = key_up_to last l.keys keys_are;
   entries = λ cells i c j. (let r = each cells i in
       period_up_to last c.period ((r.1.well c j).period));
@@ -217,7 +216,7 @@ line_read last n l few d h = (
         let end = lasts.1 in
         let few = h.few_keys in (
           (
-            (omega (arith, known, few), valid_value c.value (h.values x i c j)),
+            (omega (arith, known, few), h.values x i c j),
             (omega (arith, start, end), end),
           ),
           is_period_so last c.period lasts (h.entries x i c j),

@@ -8,7 +8,7 @@ use Rattle.std.specs.List.{flat_map, AllByRecursion}
 use Rattle.std.proofs.lemmas.Bool.{leb-true}
 use Rattle.relations.specs.Spans.{Span, span}
 use Rattle.prima_base.specs.Bytes.{IsName}
-use Rattle.prima_base.specs.Columns.{Column}
+use Rattle.prima_base.specs.Columns.{Column, IsValid}
 use Rattle.prima_base.specs.declared.value.ColType.{ColType}
 use Rattle.prima_base.specs.OrderLaws.{same_is}
 use Rattle.schema_catalog.specs.Tables.{Tables}
@@ -24,7 +24,7 @@ use Rattle.command_spelling.specs.Reading.{pair, digits, items}
 use Rattle.command_spelling.specs.Reader.{up_to, number_64, name, value, operator, operators}
 use Rattle.command_spelling.specs.Spelling.{number, name_bytes, value_bytes, operator_bytes}
 use Rattle.command_spelling.specs.Spelling.{list_bytes}
-use Rattle.command_spelling.specs.Valid.{IsValue, IsOperator}
+use Rattle.command_spelling.specs.Valid.{IsOperator}
 use Rattle.command_spelling.proofs.Correctness.{byte_correct}
 use Rattle.command_spelling.proofs.Numbers.{both_true, of_both}
 use Rattle.command_spelling.proofs.PartFormats.{name_correct, value_correct, items_correct}
@@ -259,16 +259,16 @@ reads_keys last = reads_counted (item number_64) 8 most_64 reads_count span_byte
 -- ---- entries
 
 abbrev pub CellFits : Cell → Type 0
-CellFits c = ((c.id ≤ most_64) × IsValue c.value) × Fits c.period
+CellFits c = ((c.id ≤ most_64) × IsValid c.value) × Fits c.period
 
 reads_cell : Reads (map_to cell_of (pair (pair number_64 value) period)) CellFits cell_bytes
 reads_cell = reads_map (pair (pair number_64 value) period)
-    (λ x. ((x.0.0 ≤ most_64) × IsValue x.0.1) × Fits x.1)
+    (λ x. ((x.0.0 ≤ most_64) × IsValid x.0.1) × Fits x.1)
     (λ x. (number 8 x.0.0 ++ value_bytes x.0.1) ++ span_bytes x.1)
-    (reads_pair (pair number_64 value) (λ x. (x.0 ≤ most_64) × IsValue x.1)
+    (reads_pair (pair number_64 value) (λ x. (x.0 ≤ most_64) × IsValid x.1)
     (λ x. number 8 x.0 ++ value_bytes x.1) period Fits span_bytes
-    (reads_pair number_64 (λ n. n ≤ most_64) (λ n. number 8 n) value IsValue value_bytes reads_64
-    (reads_correct value IsValue value_bytes value_correct)) reads_period)
+    (reads_pair number_64 (λ n. n ≤ most_64) (λ n. number 8 n) value IsValid value_bytes reads_64
+    (reads_correct value IsValid value_bytes value_correct)) reads_period)
     cell_of CellFits cell_bytes (λ x h. (h, refl)) (λ c h. (((c.id, c.value), c.period), h, refl))
 
 abbrev pub IsEntry : Option ℕ → ColType → ℕ → Span → Cell → Type 0

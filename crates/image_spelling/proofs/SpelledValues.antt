@@ -1,13 +1,6 @@
--- Values that can be spelled are those that are valid, and operators that can be spelled hold valid
--- constants.
-use Rattle.std.proofs.Common.{◌≡◌, pos, Bool, true, false, T, List, [], ◌∷◌, refl, sym, subst}
-use Rattle.std.proofs.Common.{arith}
-use Rattle.std.specs.Prelude.{negsuc}
+-- Operators that can be spelled hold valid constants.
+use Rattle.std.proofs.Common.{List, [], ◌∷◌}
 use Rattle.std.specs.List.{AllByRecursion}
-use Rattle.std.proofs.lemmas.Bool.{leb-true, le-leb}
-use Rattle.prima_base.specs.Columns.{IsValid}
-use Rattle.prima_base.specs.declared.value.Value.{Value}
-use Rattle.prima_base.specs.declared.value.Value.TheVariants.{Int, Text}
 use Rattle.cond_expr.specs.Trees.{Tree, column, constant, length_of, joined, choose, Trees}
 use Rattle.cond_expr.specs.Trees.{no_trees, a_tree}
 use Rattle.cond_expr.specs.Constants.{HasValid, HaveValid}
@@ -16,45 +9,13 @@ use Rattle.smo_types.specs.Operators.{copy_table, merge_table, partition_table, 
 use Rattle.smo_types.specs.Operators.{join_table, add_column, drop_column, rename_column}
 use Rattle.smo_types.specs.Commands.{PlainVersion}
 use Rattle.smo_meaning.specs.ValidValues.{OperatorHolds, OperatorsHold, VersionsHold}
-use Rattle.command_spelling.specs.Valid.{IsValue, TreeNamed, TreesNamed, OperatorNamed}
+use Rattle.command_spelling.specs.Valid.{TreeNamed, TreesNamed, OperatorNamed}
 use Rattle.image_spelling.specs.Images.{VersionsNamed}
-
-of_true : (b : Bool) → b ≡ true → T b
-of_true b e = subst T (sym e) tt
-
-is_true : (b : Bool) → T b → b ≡ true
-is_true true t = refl
-is_true false t = absurd t
-
-pub value_valid : (v : Value) → IsValue v → IsValid v
-value_valid (Int (pos n)) h = (
-  record { le = tt },
-  record { le = of_true _ (le-leb n 9223372036854775807 (let s = h.sfits in omega (arith, s))) },
-)
-value_valid (Int (negsuc n)) h = (
-  record {
-    le =
-        of_true _ (le-leb n 9223372036854775807 (let s = h.sfits in omega (arith, s)));
-  },
-  record { le = tt },
-)
-value_valid (Text t) h = h
-
-pub valid_value : (v : Value) → IsValid v → IsValue v
-valid_value (Int (pos n)) h = record {
-  sfits =
-      (let s = leb-true n 9223372036854775807 (is_true _ h.1.le) in omega (arith, s));
-}
-valid_value (Int (negsuc n)) h = record {
-  sfits =
-      (let s = leb-true n 9223372036854775807 (is_true _ h.0.le) in omega (arith, s));
-}
-valid_value (Text t) h = h
 
 mutual
   tree_holds : (t : Tree) → TreeNamed t → HasValid t
   tree_holds (column w n) h = tt
-  tree_holds (constant v) h = value_valid v h
+  tree_holds (constant v) h = h
   tree_holds (length_of t) h = tree_holds t h
   tree_holds (joined ts) h = trees_hold ts h
   tree_holds (choose c a b) h = (tree_holds a h.1, tree_holds b h.2)

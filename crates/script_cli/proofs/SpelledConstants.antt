@@ -1,11 +1,7 @@
 -- The constants of a command that has a spelling are valid, and so are those of an image's
 -- versions.
-use Rattle.std.proofs.Common.{List, [], ◌∷◌, arith}
-use Rattle.std.proofs.lemmas.Int.{ints}
+use Rattle.std.proofs.Common.{List, [], ◌∷◌}
 use Rattle.std.specs.List.{AllByRecursion}
-use Rattle.prima_base.specs.Columns.{IsValid}
-use Rattle.prima_base.specs.declared.value.Value.{Value}
-use Rattle.prima_base.specs.declared.value.Value.TheVariants.{Int, Text}
 use Rattle.cond_expr.specs.Trees.{Tree, column, constant, length_of, joined, choose, Trees}
 use Rattle.cond_expr.specs.Trees.{no_trees, a_tree, Test, never, always, compared, all_of, some_of}
 use Rattle.cond_expr.specs.Trees.{fails, Tests, no_tests, a_test}
@@ -17,17 +13,13 @@ use Rattle.piece_meaning.specs.Constants.{ValidInTree, ValidInTrees, ValidInTest
 use Rattle.piece_meaning.specs.Constants.{ValidInOperator, ValidInOperators, ValidInEvolution}
 use Rattle.piece_meaning.specs.Constants.{ValidInVersions}
 use Rattle.image_spelling.specs.Images.{VersionsNamed}
-use Rattle.command_spelling.specs.Valid.{IsValue, TreeNamed, TreesNamed, TestNamed, TestsNamed}
+use Rattle.command_spelling.specs.Valid.{TreeNamed, TreesNamed, TestNamed, TestsNamed}
 use Rattle.command_spelling.specs.Valid.{OperatorNamed, BodyNamed}
-
-value_valid : (v : Value) → IsValue v → IsValid v
-value_valid (Int z) h = (let f = h.sfits in (omega (arith, ints, f), omega (arith, ints, f)))
-value_valid (Text t) h = h
 
 mutual
   tree_valid : (t : Tree) → TreeNamed t → ValidInTree t
   tree_valid (column w n) h = tt
-  tree_valid (constant v) h = value_valid v h
+  tree_valid (constant v) h = h
   tree_valid (length_of t) h = tree_valid t h
   tree_valid (joined ts) h = trees_valid ts h
   tree_valid (choose c a b) h = (test_valid c h.0, tree_valid a h.1, tree_valid b h.2)

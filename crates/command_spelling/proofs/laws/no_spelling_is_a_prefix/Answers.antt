@@ -1,6 +1,7 @@
 use Rattle.prima_base.specs.Bytes.{IsName}
+use Rattle.prima_base.specs.Columns.{IsValid}
 use Rattle.command_spelling.specs.Spelling.{name_bytes, value_bytes, operator_bytes, command_bytes}
-use Rattle.command_spelling.specs.Valid.{IsValue, IsOperator, IsCommand}
+use Rattle.command_spelling.specs.Valid.{IsOperator, IsCommand}
 use Rattle.command_spelling.specs.Reader.{name, value, operator, command}
 use Rattle.command_spelling.proofs.PartFormats.{name_correct, value_correct}
 use Rattle.command_spelling.proofs.CommandFormats.{operator_correct, command_correct}
@@ -11,6 +12,6 @@ pub returns : goal.returns
 returns c = record {
   command = no_prefix command IsCommand command_bytes command_correct;
   name = no_prefix name IsName name_bytes name_correct;
-  value = no_prefix value IsValue value_bytes value_correct;
+  value = no_prefix value IsValid value_bytes value_correct;
   operator = no_prefix operator IsOperator operator_bytes operator_correct;
 }
