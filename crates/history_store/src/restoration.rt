@@ -24,7 +24,8 @@ pub struct Cell<'a> {
     pub period: Period,
 }
 
-/// Whether the cells can be counted: no machine has memory for more.
+/// Whether the cells can be counted. A table has fewer than 2^64 cells: more are refused as out of
+/// memory.
 pub(crate) fn check_cells(cells: &[Vec<Cell<'_>>]) -> Result<(), NoMemory>
     ensures { OnOk result (cells_in (entries_of cells.now) < 2 ^ 64) }
 {

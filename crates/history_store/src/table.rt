@@ -248,6 +248,7 @@ impl StoredTable {
         ensures room { IfOk result (λ p. length p.gained ≤ self.new.spare) }
         ensures spare { self.old.spare ≤ self.new.spare }
     {
+        // A table has fewer than 2^64 keys: more are refused as out of memory.
         if self.keys.len().checked_add(rows.len()).is_none() {
             return Err(NoMemory);
         }
@@ -289,6 +290,7 @@ impl StoredTable {
         ensures room { IfOk result (λ p. length p.gained ≤ self.new.spare) }
         ensures spare { self.old.spare ≤ self.new.spare }
     {
+        // A table has fewer than 2^64 keys: more are refused as out of memory.
         if self.keys.len().checked_add(gained.len()).is_none() {
             return Err(NoMemory);
         }
@@ -327,6 +329,7 @@ impl StoredTable {
         ensures room { IfOk result (λ p. length p.gained ≤ self.new.spare) }
         ensures spare { self.old.spare ≤ self.new.spare }
     {
+        // A table has fewer than 2^64 keys: more are refused as out of memory.
         if self.keys.len().checked_add(rows.len()).is_none() {
             return Err(NoMemory);
         }

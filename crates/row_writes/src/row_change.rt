@@ -130,7 +130,8 @@ pub fn carry_out(
     hand_rows(keys, columns, lost, gained, stamp);
 }
 
-// How many units of room the row takes.
+// How many units of room the row takes. A change takes fewer than 2^64 units: more are refused as
+// out of memory.
 fn row_room(row: &GivenRow<'_>) -> Result<usize, NoMemory>
     ensures { IfOk result (λ n. n ≡ row_room row.now) }
 {
@@ -145,7 +146,7 @@ fn row_room(row: &GivenRow<'_>) -> Result<usize, NoMemory>
 }
 
 /// How many units of room the rows take: each takes one, and one more for each 32 bytes of a text
-/// of it.
+/// of it. A change takes fewer than 2^64 units: more are refused as out of memory.
 pub fn rows_room(rows: &[GivenRow<'_>]) -> Result<usize, NoMemory>
     ensures { IfOk result (λ n. n ≡ rows_room rows.now) }
 {
@@ -188,8 +189,8 @@ pub fn count_cells(columns: &[Column]) -> u64
     cells
 }
 
-// Whether the cells could still be counted with this many rows more: no machine has memory for so
-// many.
+// Whether the cells could still be counted with this many rows more. A table has fewer than 2^64
+// cells: more are refused as out of memory.
 fn check_count(columns: &[Column], more: usize) -> Result<(), NoMemory>
     requires counted { cells_in (cells_of columns.now) < 2 ^ 64 }
     ensures { OnOk result (more ≤ countable_rows (cells_of columns.now)) }

@@ -85,8 +85,7 @@ fn lost_by(change: &Option<PreparedTable<'_>>) -> u64
     }
 }
 
-// The sum of two counts. No table has so many rows that it would not fit: there is no memory for
-// them.
+// The sum of two counts. A change has fewer than 2^64 rows: more are refused as out of memory.
 fn sum(a: u64, b: u64) -> Result<u64, NoMemory>
     ensures { IfOk result (λ n. n ≡ a + b) }
 {
