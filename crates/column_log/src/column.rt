@@ -70,14 +70,14 @@ impl Column {
         ensures spare { self.old.spare ≤ self.new.spare }
         ensures room { OnOk result (more ≤ self.new.spare) }
     {
-        // No machine has memory for more.
+        // A column has fewer than 2^32 cells: more are refused as out of memory.
         if more > MOST_WRITES.saturating_sub(self.writes.len()) {
             return Err(NoMemory);
         }
         self.writes.reserve(more)?;
         self.first.reserve(more)?;
         self.last.reserve(more)?;
-        self.values.reserve(more)
+        self.values.reserve(more as u32)
     }
 
     // Room for one write of this value: one place, and the bytes of its text.
@@ -89,6 +89,7 @@ impl Column {
         ensures place { OnOk result (1 ≤ self.new.places) }
         ensures room { OnOk result (length (bytes_of (shown value.now)) ≤ self.new.bytes) }
     {
+        // A column has fewer than 2^32 cells: more are refused as out of memory.
         if self.writes.len() >= MOST_WRITES {
             return Err(NoMemory);
         }

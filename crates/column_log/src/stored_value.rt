@@ -58,7 +58,7 @@ impl StoredValues {
     }
 
     /// Room for this many values more, with as many units of text.
-    pub(crate) fn reserve(&mut self, more: usize) -> Result<(), NoMemory>
+    pub(crate) fn reserve(&mut self, more: u32) -> Result<(), NoMemory>
         ensures kind { kind_of self.new ≡ kind_of self.old }
         ensures values { values_in self.new ≡ values_in self.old }
         ensures spare { spare_in self.old ≤ spare_in self.new }
@@ -66,15 +66,10 @@ impl StoredValues {
     {
         match self {
             StoredValues::Numbers(numbers) => {
-                numbers.reserve(more)?;
+                numbers.reserve(more as usize)?;
                 Ok(())
             }
-            StoredValues::Texts(texts) => {
-                let Some(bytes) = more.checked_mul(ROOM_UNIT) else {
-                    return Err(NoMemory);
-                };
-                texts.reserve(more, bytes)
-            }
+            StoredValues::Texts(texts) => texts.reserve(more as usize, more as usize * ROOM_UNIT),
         }
     }
 
