@@ -46,7 +46,8 @@ pub enum After {
     Moved(Vec<usize>, Vec<(usize, usize)>),
 }
 
-// The place of the id whose row this is.
+// The place of the id whose row this is: of one of them it is, as `there` says, so that the search
+// finds it.
 fn found_place(columns: &[Column], ids: &[usize], row: &GivenRow<'_>) -> usize
     requires width { length row.now ≡ length columns.now }
     requires known { (id : ℕ) → In id ids.now → (k : ℕ) (d : Log) → k < length columns.now
@@ -57,13 +58,12 @@ fn found_place(columns: &[Column], ids: &[usize], row: &GivenRow<'_>) -> usize
     ensures row { row_now (slice_index ids.now result) (cells_of columns.now) ≡ row.now }
 {
     match place_of(columns, ids, row) {
-        Ok(at) => at,
-        // The row is that of one of the ids, as `there` says.
-        Err(_) => unreachable!(),
+        Ok(at) | Err(at) => at,
     }
 }
 
-// The place where the row would stand.
+// The place where the row would stand: of none of the ids it is, as `fresh` says, so that the
+// search ends at that place.
 fn free_place(columns: &[Column], ids: &[usize], row: &GivenRow<'_>) -> usize
     requires width { length row.now ≡ length columns.now }
     requires known { (id : ℕ) → In id ids.now → (k : ℕ) (d : Log) → k < length columns.now
@@ -77,9 +77,7 @@ fn free_place(columns: &[Column], ids: &[usize], row: &GivenRow<'_>) -> usize
         → row_cmp (row_now (slice_index ids.now k) (cells_of columns.now)) row.now ≡ Greater }
 {
     match place_of(columns, ids, row) {
-        // The row is that of none of the ids, as `fresh` says.
-        Ok(_) => unreachable!(),
-        Err(at) => at,
+        Ok(at) | Err(at) => at,
     }
 }
 
@@ -94,9 +92,7 @@ fn found_in(columns: &[Column], index: &RowIndex, row: &GivenRow<'_>) -> usize
     ensures row { row_now (slice_index index.now.ids result) (cells_of columns.now) ≡ row.now }
 {
     match place_in(columns, index, row) {
-        Ok(at) => at,
-        // The row is that of one of the ids, as `there` says.
-        Err(_) => unreachable!(),
+        Ok(at) | Err(at) => at,
     }
 }
 
@@ -114,9 +110,7 @@ fn free_in(columns: &[Column], index: &RowIndex, row: &GivenRow<'_>) -> usize
         → row_cmp (row_now (slice_index index.now.ids k) (cells_of columns.now)) row.now ≡ Greater }
 {
     match place_in(columns, index, row) {
-        // The row is that of none of the ids, as `fresh` says.
-        Ok(_) => unreachable!(),
-        Err(at) => at,
+        Ok(at) | Err(at) => at,
     }
 }
 
