@@ -12,11 +12,11 @@ pub returns-in-Ok-clause-row : goal.returns-in-Ok-clause-row
 returns-in-Ok-clause-row c = exact_rows _ c.args.row.now c.in-Ok.ensures.found.1
 
 pub returns-in-Ok-2-clause-within : goal.returns-in-Ok-2-clause-within
-returns-in-Ok-2-clause-within c = absurd (no_place (cells_of c.args.columns.now) c.args.index.now.ids
-    c.args.row.now _ c.requires.there c.in-Ok.ensures.before
+returns-in-Ok-2-clause-within c = absurd (no_place (cells_of c.args.columns.now)
+    c.args.index.now.ids c.args.row.now _ c.requires.there c.in-Ok.ensures.before
     c.in-Ok.ensures.after)
 
 pub returns-in-Ok-2-clause-row : goal.returns-in-Ok-2-clause-row
-returns-in-Ok-2-clause-row c = absurd (no_place (cells_of c.args.columns.now) c.args.index.now.ids
-    c.args.row.now _ c.requires.there c.in-Ok.ensures.before
+returns-in-Ok-2-clause-row c = absurd (no_place (cells_of c.args.columns.now)
+    c.args.index.now.ids c.args.row.now _ c.requires.there c.in-Ok.ensures.before
     c.in-Ok.ensures.after)
