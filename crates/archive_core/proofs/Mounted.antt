@@ -1,138 +1,26 @@
 -- From the records of a file to what mounting it says.
 use Rattle.std.proofs.Common.{◌≡◌, inl, inr, ℕ, ◌+◌, ◌-◌, ◌<◌, ◌≤◌, ◌^◌, List, [], ◌∷◌, ◌++◌}
-use Rattle.std.proofs.Common.{length, get_or, take, drop, map, refl, sym, subst, ap, ◌∙◌, arith}
-use Rattle.std.proofs.Common.{Some, None, length-append, append_assoc}
+use Rattle.std.proofs.Common.{length, refl, sym, subst, ap, ◌∙◌, arith}
+use Rattle.std.proofs.Common.{Some, None}
 use Rattle.std.specs.Prelude.{Option, nat_le, false, if◌then◌else◌}
 use Rattle.std.proofs.lemmas.Bool.Decides.{nat_tests}
-use Rattle.std.proofs.lemmas.List.{length-map, map-append, get_or-drop}
-use Rattle.smo_types.specs.Commands.{PlainCommand, command_of}
-use Rattle.smo_meaning.specs.Accepts.{command_fault}
+use Rattle.std.proofs.lemmas.List.{length-map}
 use Rattle.disk_model.specs.Meaning.{Meaning, Tells, Told}
 use Rattle.journal.specs.Records.{Record, StandsFor, before_gate, empty_journal, opened_file}
 use Rattle.journal.specs.Reading.{records_in, record_of as plain_record, IsOpened}
 use Rattle.journal.specs.MountLaws.{opened_stands, opened_records}
 use Rattle.journal.specs.JournalFiles.{Stands}
 use Rattle.journal.specs.declared.rec.Rec.{Rec}
-use Rattle.archive_file.specs.LogRecords.{LogRecord, logged, record_of, records_of, gate_after}
-use Rattle.archive_file.specs.LogRecords.{AreSpelled, past_recorded, replayed_of}
+use Rattle.archive_file.specs.LogRecords.{LogRecord, logged, records_of, gate_after}
+use Rattle.archive_file.specs.LogRecords.{replayed_of}
 use Rattle.archive_file.specs.Opening.{HasFaultAt, Damages, Opens}
-use Rattle.archive_file.proofs.Records.{no_images}
-use Rattle.archive_state.specs.ArchiveContents.{ArchiveContent, RepresentsPast}
-use Rattle.archive_core.specs.declared.archive.Opened.{Opened}
-use Rattle.archive_core.specs.declared.record_reader.ReadRecords.{ReadRecords}
-use Rattle.archive_core.specs.Reading.{AreInPlace, AreKept, commands_kept}
-use Rattle.archive_core.specs.Replaying.{IsStoppedAt, IsReplayed}
-use Rattle.archive_core.specs.Mounting.{IsRestored, IsMounted}
+use Rattle.archive_state.specs.ArchiveContents.{ArchiveContent}
+use Rattle.archive_replay.specs.declared.opened.Opened.{Opened}
+use Rattle.archive_replay.specs.Reading.{AreInPlace}
+use Rattle.archive_replay.specs.Restoring.{IsRestored}
+use Rattle.archive_core.specs.Mounting.{IsMounted}
 use Rattle.archive_core.specs.Holding.{HoldsAt}
-use Rattle.archive_core.proofs.Gates.{gate_of}
 use Rattle.archive_core.proofs.Held.{held_opened}
-use Rattle.archive_core.proofs.ReadRecords.{replayed_are, all_accepted, past_after_them}
-
--- ---- restored
-
-pub restored : (records : List Record) (kept : ReadRecords) (archive : ArchiveContent)
-    (opened : Opened) → (is : AreKept records kept)
-    → IsReplayed (past_recorded is.prefix) (commands_kept kept) archive
-    → opened.commands ≡ kept.count → opened.replayed ≡ length kept.commands.items
-    → IsRestored records archive opened
-restored records kept archive opened is replayed count after = record {
-  log = is.prefix ++ map logged (commands_kept kept);
-  spelled = is.spelled;
-  records_are = is.records_are;
-  accepted = all_accepted is.prefix is.ends (commands_kept kept) replayed.accepted;
-  represents = subst (RepresentsPast archive) (sym (past_after_them is.prefix (commands_kept kept)))
-      replayed.represents;
-  counted = record {
-    commands = count ∙ is.counted;
-    replayed = after ∙ sym (length-map kept.commands.items command_of)
-        ∙ ap (λ (l : List PlainCommand). length l)
-        (sym (replayed_are is.prefix is.ends (commands_kept kept)));
-  };
-}
-
--- ---- stopped
-
-records_before : (before after : List LogRecord)
-    → take (length before) (records_of (before ++ after)) ≡ records_of before
-records_before [] after = refl
-records_before (r ∷ before) after = ap (λ (l : List Record). record_of r ∷ l)
-    (records_before before after)
-
-gate_at : (recs : List Rec) (before after : List LogRecord) (r : LogRecord) (place : ℕ)
-    → AreInPlace recs → records_in recs ≡ records_of (before ++ r ∷ after)
-    → ((d : Rec) → place ≡ (get_or recs (length before) d).at) → place ≡ gate_after before
-gate_at [] before after r place places same at =
-    absurd (omega (
-      arith,
-      ap (λ (l : List Record). length l) same,
-      length-map (before ++ r ∷ after) record_of,
-      length-append before (r ∷ after),
-    ))
-gate_at (x ∷ recs) before after r place places same at =
-    let inside : length before < length (x ∷ recs) =
-    omega (
-      arith,
-      ap (λ (l : List Record). length l) same,
-      length-map (before ++ r ∷ after) record_of,
-      length-append before (r ∷ after),
-      length-map (x ∷ recs) plain_record,
-    ) in
-    at x ∙ gate_of (x ∷ recs) (length before) x inside places.places
-    ∙ ap (λ (l : List Record). length (before_gate l))
-    (ap (λ (l : List Record). take (length before) l) same ∙ records_before before (r ∷ after))
-
-pub stopped_fault : (recs : List Rec) (kept : ReadRecords) (place : ℕ)
-    → (is : AreKept (records_in recs) kept)
-    → IsStoppedAt (past_recorded is.prefix) (commands_kept kept)
-    (drop (length recs - length kept.commands.items) recs) place → AreInPlace recs
-    → HasFaultAt (records_in recs) place
-stopped_fault recs kept place is stops places =
-    let before : List LogRecord = is.prefix ++ map logged stops.before in
-    let log : is.prefix ++ map logged (commands_kept kept) ≡ before ++ logged stops.command
-    ∷ map logged stops.after =
-    ap (λ (l : List PlainCommand). is.prefix ++ map logged l) stops.are
-    ∙ ap (λ (l : List LogRecord). is.prefix ++ l)
-    (map-append logged stops.before (stops.command ∷ stops.after))
-    ∙ sym (append_assoc is.prefix (map logged stops.before)
-    (logged stops.command ∷ map logged stops.after)) in
-    let records_are : records_in recs ≡ records_of
-    (before ++ logged stops.command ∷ map logged stops.after) = is.records_are
-    ∙ ap records_of log in
-    let skipped : length recs - length kept.commands.items ≡ length is.prefix = omega (
-      arith,
-      ap (λ (l : List Record). length l) is.records_are,
-      length-map recs plain_record,
-      length-map (is.prefix ++ map logged (commands_kept kept)) record_of,
-      length-append is.prefix (map logged (commands_kept kept)),
-      length-map (commands_kept kept) logged,
-      length-map kept.commands.items command_of,
-    ) in
-    let number : length recs - length kept.commands.items + length stops.before ≡ length before =
-    omega (
-      arith,
-      skipped,
-      length-append is.prefix (map logged stops.before),
-      length-map stops.before logged,
-    ) in
-    inr (record {
-      before = before;
-      command = stops.command;
-      after = map logged stops.after;
-      records_are = records_are;
-      spelled = subst AreSpelled log is.spelled;
-      accepted = all_accepted is.prefix is.ends stops.before stops.accepted;
-      no_image = no_images stops.after;
-      refusal = stops.refusal;
-      refused = ap (λ p. command_fault p stops.command) (past_after_them is.prefix stops.before)
-          ∙ stops.refused;
-      place_is = gate_at recs before (map logged stops.after) (logged stops.command) place places
-          records_are
-          (λ d. stops.place_is d ∙ ap (λ (r : Rec). r.at)
-          (get_or-drop (length recs - length kept.commands.items) recs (length stops.before) d)
-          ∙ ap (λ (n : ℕ). (get_or recs n d).at) number);
-    })
-
--- ---- mounted
 
 pub in_place : (file : List ℕ) (recs : List Rec) (at : ℕ) → at < 2 ^ 64 → IsOpened file recs at
     → AreInPlace recs

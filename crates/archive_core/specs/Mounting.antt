@@ -1,28 +1,10 @@
 -- What mounting makes of a file.
-use Rattle.std.specs.Prelude.{◌≡◌, ℕ, List, length}
-use Rattle.smo_meaning.specs.Past.{beginning}
-use Rattle.journal.specs.Records.{Record}
-use Rattle.archive_file.specs.LogRecords.{LogRecord, records_of, gate_after, AreSpelled}
-use Rattle.archive_file.specs.LogRecords.{AreAccepted, commands_in, replayed_of, past_recorded}
+use Rattle.std.specs.Prelude.{◌≡◌, ℕ, List}
+use Rattle.archive_file.specs.LogRecords.{LogRecord, gate_after, past_recorded}
 use Rattle.archive_file.specs.Opening.{Opens}
 use Rattle.archive_state.specs.ArchiveContents.{ArchiveContent, RepresentsPast}
-use Rattle.archive_core.specs.declared.archive.Opened.{Opened}
-
--- all commands are counted, and those after the last image
-pub record IsCounted (log : List LogRecord) (opened : Opened) : Type 0 where
-  pub commands : opened.commands ≡ length (commands_in log)
-  pub replayed : opened.replayed ≡ replayed_of log
-
--- these are records of commands and images, of which each command after the last image is accepted
--- after what stands before it; and the archive represents their past
-pub record IsRestored (records : List Record) (archive : ArchiveContent) (opened : Opened) :
-    Type 0 where
-  pub log : List LogRecord
-  pub spelled : AreSpelled log
-  pub records_are : records ≡ records_of log
-  pub accepted : AreAccepted beginning log
-  pub represents : RepresentsPast archive (past_recorded log)
-  pub counted : IsCounted log opened
+use Rattle.archive_replay.specs.declared.opened.Opened.{Opened}
+use Rattle.archive_replay.specs.Restoring.{IsCounted}
 
 -- the file opens as records; the archive represents just their past, the gate after them is at this
 -- place, and their commands are counted

@@ -24,13 +24,13 @@ ghost use Rattle.piece_texts.specs.ExplainedPieces.{PlainExplained};
 ghost use Rattle.query_exec.specs.Borrowed.{BorrowedByBranch, AreSpared, AreBorrowedBy};
 ghost use Rattle.query_exec.specs.Reads.{explained_read, reads_of};
 ghost use Rattle.archive_core.specs.declared.fault.CommitFault.TheVariants as fault;
-ghost use Rattle.archive_core.specs.declared.fault.MountFault.TheVariants as mounting;
+ghost use Rattle.archive_replay.specs.declared.fault.MountFault.TheVariants as mounting;
 
 use crate::fault::mount_fault;
 use crate::preparation::{judge_and_seal, seal_checkpoint};
-use crate::replay::restore;
-use crate::{AskFault, CommitFault, MountFault};
+use crate::{AskFault, CommitFault};
 use answer_text::Listing;
+use archive_replay::{MountFault, Opened, restore};
 use archive_state::{AcceptedCommand, ArchiveState, Done};
 use disk_model::Disk;
 use journal::{Journal, PutFault, Sealed};
@@ -53,14 +53,6 @@ pub struct Archive<D: Disk> {
     pub(crate) journal: Journal<D>,
     // a call has answered that the disk failed
     pub(crate) broken: bool,
-}
-
-/// What mounting found: how many commands the file has, and how many of them stand after its last
-/// image and were carried out again; all of them, where it has none.
-#[derive(Clone, Copy, PartialEq, Eq)]
-pub struct Opened {
-    pub commands: u64,
-    pub replayed: u64,
 }
 
 impl<D: Disk> Archive<D> {

@@ -10,11 +10,10 @@
 mod archive;
 mod fault;
 mod preparation;
-mod record_reader;
-mod replay;
 
 pub use answer_text::Listing;
-pub use archive::{Archive, Opened};
+pub use archive::Archive;
+pub use archive_replay::{MountFault, Opened};
 pub use archive_state::{AskFault, Done};
-pub use fault::{CommitFault, MountFault};
+pub use fault::CommitFault;
 pub use piece_texts::Explained;

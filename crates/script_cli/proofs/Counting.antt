@@ -8,7 +8,7 @@ use Rattle.disk_model.specs.declared.disk.Disk.{Ghosts}
 use Rattle.archive_file.specs.LogRecords.{LogRecord, commands_in}
 use Rattle.archive_state.specs.ArchiveContents.{ArchiveContent}
 use Rattle.archive_core.specs.declared.archive.Archive.{Archive}
-use Rattle.archive_core.specs.declared.archive.Opened.{Opened}
+use Rattle.archive_replay.specs.declared.opened.Opened.{Opened}
 use Rattle.archive_core.specs.Mounting.{IsMounted}
 use Rattle.script_parse.specs.Script.{Whole as Text}
 use Rattle.statement_response.specs.Given.{Given}

@@ -20,7 +20,7 @@ use Rattle.archive_file.specs.Opening.{Opens, IsSound}
 use Rattle.archive_file.proofs.Records.{accepted_append, sound_accepted, sound_prefix, sound_append}
 use Rattle.piece_meaning.specs.Rules.{Book}
 use Rattle.archive_core.specs.declared.archive.Archive.{Archive}
-use Rattle.archive_core.specs.declared.archive.Opened.{Opened}
+use Rattle.archive_replay.specs.declared.opened.Opened.{Opened}
 use Rattle.archive_core.specs.Fields.{standing_of, below, place_of}
 use Rattle.archive_core.specs.Holding.{HoldsAt}
 use Rattle.archive_core.specs.Mounting.{IsMounted}

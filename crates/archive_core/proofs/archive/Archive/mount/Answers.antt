@@ -3,7 +3,7 @@ use Rattle.journal.specs.Damage.{IsDamagedAt}
 use Rattle.journal.specs.Reading.{records_in}
 use Rattle.archive_file.specs.LogRecords.{LogRecord, records_of, replayed_of}
 use Rattle.archive_file.specs.Opening.{Damages, HasFaultAt}
-use Rattle.archive_core.specs.Reading.{AreInPlace}
+use Rattle.archive_replay.specs.Reading.{AreInPlace}
 use Rattle.archive_core.proofs.Mounted.{tell_frames, tell_damaged, tell_untouched, tell_cost}
 use Rattle.archive_core.proofs.Mounted.{tell_cost_open, stands_as, holds_as}
 use Rattle.archive_core.proofs.archive.Archive.mount.Goals as goal

@@ -13,9 +13,9 @@ use Rattle.smo_meaning.specs.Past.{Past, past_with}
 use Rattle.smo_meaning.specs.History.{AllAccepted, past_after}
 use Rattle.journal.specs.declared.rec.Rec.{Rec}
 use Rattle.archive_state.specs.ArchiveContents.{ArchiveContent, RepresentsPast}
-use Rattle.archive_core.specs.declared.fault.MountFault.{MountFault}
-use Rattle.archive_core.specs.declared.fault.MountFault.TheVariants.{Damaged}
-use Rattle.archive_core.specs.Replaying.{Replays, IsStoppedAt, IsReplayed}
+use Rattle.archive_replay.specs.declared.fault.MountFault.{MountFault}
+use Rattle.archive_replay.specs.declared.fault.MountFault.TheVariants.{Damaged}
+use Rattle.archive_replay.specs.Replaying.{Replays, IsStoppedAt, IsReplayed}
 
 accepted_push : (past : Past) (commands : List PlainCommand) (c : PlainCommand)
     → AllAccepted past commands → command_fault (past_after past commands) c ≡ None

@@ -10,7 +10,7 @@ use Rattle.archive_file.specs.LogRecords.{LogRecord, logged, checkpointed, recor
 use Rattle.archive_file.specs.LogRecords.{commands_in, past_recorded}
 use Rattle.archive_file.specs.Opening.{IsRefusedAt}
 use Rattle.archive_state.specs.ArchiveContents.{RepresentsPast}
-use Rattle.archive_core.specs.declared.record_reader.ReadRecords.{ReadRecords}
+use Rattle.archive_replay.specs.declared.record_reader.ReadRecords.{ReadRecords}
 
 -- records of known kinds, each with the place of its gate in a file that has them all
 pub record AreInPlace (recs : List Rec) : Type 0 where

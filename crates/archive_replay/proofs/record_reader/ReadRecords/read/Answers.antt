@@ -4,11 +4,11 @@ use Rattle.image_spelling.specs.ShownPast.{image_past}
 use Rattle.journal.specs.Records.{Record}
 use Rattle.journal.specs.Reading.{record_of}
 use Rattle.archive_state.specs.ArchiveContents.{RepresentsPast}
-use Rattle.archive_core.specs.declared.record_reader.ReadRecords.{ReadRecords}
-use Rattle.archive_core.specs.Reading.{AreJudged, AreKept}
-use Rattle.archive_core.proofs.ReadRecords.{command_judged, kept_judged, command_kept, image_kept}
-use Rattle.archive_core.proofs.ReadRecords.{other_kind}
-use Rattle.archive_core.proofs.record_reader.ReadRecords.read.Goals as goal
+use Rattle.archive_replay.specs.declared.record_reader.ReadRecords.{ReadRecords}
+use Rattle.archive_replay.specs.Reading.{AreJudged, AreKept}
+use Rattle.archive_replay.proofs.ReadRecords.{command_judged, kept_judged, command_kept, image_kept}
+use Rattle.archive_replay.proofs.ReadRecords.{other_kind}
+use Rattle.archive_replay.proofs.record_reader.ReadRecords.read.Goals as goal
 
 pub restored-requires : goal.restored-requires
 restored-requires c =

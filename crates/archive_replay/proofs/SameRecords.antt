@@ -8,9 +8,9 @@ use Rattle.journal.specs.Records.{Record}
 use Rattle.archive_file.specs.LogRecords.{LogRecord, logged, checkpointed, record_of, records_of}
 use Rattle.archive_file.specs.LogRecords.{commands_in, has_image, replayed_in, replayed_of}
 use Rattle.archive_file.proofs.RecordsOf.{head_record, tail_records}
-use Rattle.archive_core.specs.declared.record_reader.ReadRecords.{ReadRecords}
-use Rattle.archive_core.specs.Reading.{AreKept, commands_kept}
-use Rattle.archive_core.proofs.ReadRecords.{replayed_are}
+use Rattle.archive_replay.specs.declared.record_reader.ReadRecords.{ReadRecords}
+use Rattle.archive_replay.specs.Reading.{AreKept, commands_kept}
+use Rattle.archive_replay.proofs.ReadRecords.{replayed_are}
 
 -- a command's record is no image's
 two_kinds : (c : PlainCommand) (i : Image) → record_of (logged c) ≡ record_of (checkpointed i) → ⊥

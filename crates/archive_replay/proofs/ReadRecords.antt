@@ -25,10 +25,10 @@ use Rattle.archive_file.proofs.Records.{after_append, after_commands, after_imag
 use Rattle.archive_file.proofs.Records.{accepted_commands, accepted_image, no_images, all_replayed}
 use Rattle.archive_file.proofs.Records.{replayed_after}
 use Rattle.archive_state.specs.ArchiveContents.{ArchiveContent, RepresentsPast}
-use Rattle.archive_core.specs.declared.record_reader.ReadRecords.{ReadRecords}
-use Rattle.archive_core.specs.Reading.{AreInPlace, IsRefusedIn, EndsWithImage, commands_kept}
-use Rattle.archive_core.specs.Reading.{AreJudged, AreKept, IsRead}
-use Rattle.archive_core.proofs.Gates.{gate_of, ends_before}
+use Rattle.archive_replay.specs.declared.record_reader.ReadRecords.{ReadRecords}
+use Rattle.archive_replay.specs.Reading.{AreInPlace, IsRefusedIn, EndsWithImage, commands_kept}
+use Rattle.archive_replay.specs.Reading.{AreJudged, AreKept, IsRead}
+use Rattle.archive_replay.proofs.Gates.{gate_of, ends_before}
 
 -- ---- lists of records
 

@@ -10,11 +10,11 @@ use Rattle.std.proofs.lemmas.Result.{err_from_is_err_and}
 use Rattle.journal.specs.declared.rec.Rec.{Rec}
 use Rattle.smo_types.specs.Commands.{command_of}
 use Rattle.smo_meaning.specs.History.{past_after}
-use Rattle.archive_core.specs.declared.fault.MountFault.TheVariants.{Damaged}
-use Rattle.archive_core.specs.Replaying.{IsReplayed}
-use Rattle.archive_core.proofs.Replayed.{one_more_replayed, stopped, told_damage, all_replayed}
-use Rattle.archive_core.proofs.Replayed.{pair_at, pairs}
-use Rattle.archive_core.proofs.replay.replay.Goals as goal
+use Rattle.archive_replay.specs.declared.fault.MountFault.TheVariants.{Damaged}
+use Rattle.archive_replay.specs.Replaying.{IsReplayed}
+use Rattle.archive_replay.proofs.Replayed.{one_more_replayed, stopped, told_damage, all_replayed}
+use Rattle.archive_replay.proofs.Replayed.{pair_at, pairs}
+use Rattle.archive_replay.proofs.replay.replay.Goals as goal
 
 pub loop-command-preserved : goal.loop-command-preserved
 loop-command-preserved L c =

@@ -8,8 +8,8 @@ use Rattle.smo_meaning.specs.Past.{Past, past_with}
 use Rattle.smo_meaning.specs.History.{AllAccepted, past_after}
 use Rattle.journal.specs.declared.rec.Rec.{Rec}
 use Rattle.archive_state.specs.ArchiveContents.{ArchiveContent, RepresentsPast}
-use Rattle.archive_core.specs.declared.fault.MountFault.{MountFault}
-use Rattle.archive_core.specs.declared.fault.MountFault.TheVariants.{Disk, Damaged, NoMemory}
+use Rattle.archive_replay.specs.declared.fault.MountFault.{MountFault}
+use Rattle.archive_replay.specs.declared.fault.MountFault.TheVariants.{Disk, Damaged, NoMemory}
 
 -- an accepted command leads to the next past; another damages the file at its gate
 abbrev pub Replays : Past → PlainCommand → ℕ → Result (Unit {0}) MountFault → ArchiveContent

@@ -13,8 +13,8 @@ ghost use Rattle.journal.specs.Reading.{records_in, record_of};
 ghost use Rattle.journal.specs.declared.rec.Rec.{Rec as ARecord};
 ghost use Rattle.version_groups.specs.Representation.{Represents};
 ghost use Rattle.archive_file.specs.Opening.{HasNoSpellingAt};
-ghost use Rattle.archive_core.specs.Reading.{AreInPlace, IsRefusedIn, IsRead, AreKept};
-ghost use Rattle.archive_core.specs.declared.fault.MountFault.TheVariants as mounting;
+ghost use Rattle.archive_replay.specs.Reading.{AreInPlace, IsRefusedIn, IsRead, AreKept};
+ghost use Rattle.archive_replay.specs.declared.fault.MountFault.TheVariants as mounting;
 
 use crate::MountFault;
 use archive_state::ArchiveState;

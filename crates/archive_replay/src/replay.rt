@@ -7,14 +7,13 @@ ghost use Rattle.journal.specs.Reading.{records_in};
 ghost use Rattle.archive_state.specs.ArchiveContents.{RepresentsPast, RepresentsSome};
 ghost use Rattle.archive_file.specs.LogRecords.{LogRecord, records_of, replayed_of};
 ghost use Rattle.archive_file.specs.Opening.{HasFaultAt};
-ghost use Rattle.archive_core.specs.Reading.{AreInPlace};
-ghost use Rattle.archive_core.specs.Replaying.{Replays, IsStoppedAt, IsReplayed};
-ghost use Rattle.archive_core.specs.Mounting.{IsRestored};
-ghost use Rattle.archive_core.specs.declared.fault.MountFault.TheVariants as mounting;
+ghost use Rattle.archive_replay.specs.Reading.{AreInPlace};
+ghost use Rattle.archive_replay.specs.Replaying.{Replays, IsStoppedAt, IsReplayed};
+ghost use Rattle.archive_replay.specs.Restoring.{IsRestored};
+ghost use Rattle.archive_replay.specs.declared.fault.MountFault.TheVariants as mounting;
 
-use crate::MountFault;
-use crate::archive::Opened;
 use crate::record_reader::read_all;
+use crate::{MountFault, Opened};
 use archive_state::{ArchiveState, CommandFault};
 use journal::Rec;
 use prima_base::Steps;
@@ -61,7 +60,7 @@ fn replay<L: Ledger>(
 /// The archive that the records stand for: all payloads are read before any command is judged, and
 /// then the commands after the last image are carried out over what it shows. A step for each of
 /// these, at most.
-pub(crate) fn restore<L: Ledger>(
+pub fn restore<L: Ledger>(
     alloc: Global,
     recs: &[Rec],
     steps: &mut Steps<L>,

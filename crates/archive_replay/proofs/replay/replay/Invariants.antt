@@ -2,8 +2,8 @@ use Rattle.std.proofs.Common.{◌≤◌, ◌+◌, take, map, length}
 use Rattle.smo_types.specs.Commands.{command_of}
 use Rattle.smo_meaning.specs.Past.{Past}
 use Rattle.archive_state.specs.ArchiveContents.{RepresentsPast}
-use Rattle.archive_core.specs.Replaying.{IsReplayed}
-use Rattle.archive_core.proofs.replay.replay.Given as goal
+use Rattle.archive_replay.specs.Replaying.{IsReplayed}
+use Rattle.archive_replay.proofs.replay.replay.Given as goal
 
 abbrev pub invariant-loop-command : goal.invariant-loop-command
 invariant-loop-command g l = record {

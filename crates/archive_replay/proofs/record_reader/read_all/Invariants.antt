@@ -1,7 +1,7 @@
 use Rattle.std.proofs.Common.{◌≤◌, length}
-use Rattle.archive_core.specs.Reading.{AreInPlace}
-use Rattle.archive_core.proofs.ReadRecords.{AreReadTo}
-use Rattle.archive_core.proofs.record_reader.read_all.Given as goal
+use Rattle.archive_replay.specs.Reading.{AreInPlace}
+use Rattle.archive_replay.proofs.ReadRecords.{AreReadTo}
+use Rattle.archive_replay.proofs.record_reader.read_all.Given as goal
 
 abbrev pub invariant-loop-index : goal.invariant-loop-index
 invariant-loop-index l = record {

@@ -1,0 +1,5 @@
+pub mod Gates
+pub mod ReadRecords
+pub mod SameRecords
+pub mod Replayed
+pub mod Restored

@@ -1,0 +1,12 @@
+//! The records of a file, made an archive in memory again: each payload is read, and then the
+//! commands after the last image are carried out over what it shows.
+#![tactic(auto)]
+
+mod fault;
+mod opened;
+mod record_reader;
+mod replay;
+
+pub use fault::MountFault;
+pub use opened::Opened;
+pub use replay::restore;
