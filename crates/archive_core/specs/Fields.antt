@@ -1,9 +1,8 @@
 -- What callers see of an archive on a disk.
-use Rattle.std.specs.Prelude.{◌≡◌, ℕ, Bool, false}
+use Rattle.std.specs.Prelude.{ℕ, Bool}
 use Rattle.disk_model.specs.Meaning.{Meaning}
 use Rattle.disk_model.specs.declared.disk.Disk.{Ghosts}
 use Rattle.journal.specs.Fields as journal
-use Rattle.journal.specs.JournalFiles.{HasGate}
 use Rattle.archive_state.specs.ArchiveContents.{ArchiveContent}
 use Rattle.archive_core.specs.declared.archive.Archive.{Archive}
 
@@ -29,7 +28,3 @@ module _ {D : Type 0} {g : Ghosts D} where
   -- a call on it has answered that the disk failed
   abbrev pub is_broken : Archive D g → Bool
   is_broken a = a.broken
-
-  -- its journal takes records, unless it is broken
-  abbrev pub IsReady : Archive D g → Type 0
-  IsReady a = is_broken a ≡ false → HasGate (below a) (place_of a)

@@ -1,3 +1,4 @@
+pub mod Readiness
 pub mod Fields
 pub mod Holding
 pub mod Committing

@@ -23,6 +23,7 @@ ghost use Rattle.archive_state.specs.Asking.{query_asked};
 ghost use Rattle.piece_texts.specs.ExplainedPieces.{PlainExplained};
 ghost use Rattle.query_exec.specs.Borrowed.{BorrowedByBranch, AreSpared, AreBorrowedBy};
 ghost use Rattle.query_exec.specs.Reads.{explained_read, reads_of};
+ghost use Rattle.archive_core.specs.Readiness.{HasGateUnless, gate_once};
 ghost use Rattle.archive_core.specs.declared.fault.CommitFault.TheVariants as fault;
 ghost use Rattle.archive_replay.specs.declared.fault.MountFault.TheVariants as mounting;
 
@@ -53,11 +54,13 @@ pub struct Archive<D: Disk> {
     pub(crate) journal: Journal<D>,
     // a call has answered that the disk failed
     pub(crate) broken: bool,
+    // until then the journal takes records
+    ghost ready: { HasGateUnless broken journal } by { gate_once broken journal },
 }
 
 impl<D: Disk> Archive<D> {
     ghost use Rattle.archive_core.specs.Fields.{standing_of, disk_of, below, place_of, limit_of};
-    ghost use Rattle.archive_core.specs.Fields.{is_broken, IsReady};
+    ghost use Rattle.archive_core.specs.Fields.{is_broken};
     ghost use Rattle.archive_core.specs.Committing.{Commits, IsPut};
     ghost use Rattle.archive_core.specs.Holding.{HoldsAt};
     ghost use Rattle.archive_core.specs.Checkpointing.{Checkpoints, image_of, checkpoint_of};
@@ -84,7 +87,6 @@ impl<D: Disk> Archive<D> {
         ensures represents { IfOk result (λ it. RepresentsSome (standing_of it.0)) }
         ensures limit { IfOk result (λ it. limit_of it.0 ≡ min limit (2 ^ 64 - 2)) }
         ensures whole { IfOk result (λ it. is_broken it.0 ≡ false) }
-        ensures ready { IfOk result (λ it. IsReady it.0) }
         ensures file { IfOk result (λ it. Told (λ old new. new ≡ opened_file old)
             (D.meaning disk).seen (below it.0).seen) }
         ensures stands { IfOk result (λ it. (file : List ℕ) (log : List LogRecord)
@@ -144,7 +146,6 @@ impl<D: Disk> Archive<D> {
     /// crash leaves it. After `Ok` the archive represents the past with the command, and else the
     /// past that it represented.
     pub fn commit(&mut self, command: Command) -> Result<Done, CommitFault>
-        requires ready { IsReady self.old }
         ensures broken { (result ≡ Err fault.Broken) ↔ (is_broken self.old ≡ true) }
         ensures breaks { (is_broken self.new ≡ true)
             ↔ ((is_broken self.old ≡ true) ⊎ (result ≡ Err fault.Disk)) }
@@ -158,7 +159,6 @@ impl<D: Disk> Archive<D> {
         ensures limit { limit_of self.new ≡ limit_of self.old }
         ensures place { OnOk result (place_of self.new + 1
             ≡ place_of self.old + needs (record_of (logged (command_of command)))) }
-        ensures ready { IsReady self.new }
         ensures written { OnOk result (Told (λ old new.
             new ≡ with_record old (place_of self.old) (record_of (logged (command_of command))))
             (below self.old).seen (below self.new).seen) }
@@ -206,7 +206,6 @@ impl<D: Disk> Archive<D> {
     /// the call a crash leaves the records before, with the checkpoint's or without; after `Ok`
     /// every crash leaves it. What stands in memory stays as it is.
     pub fn checkpoint(&mut self) -> Result<(), CommitFault>
-        requires ready { IsReady self.old }
         ensures broken { (result ≡ Err fault.Broken) ↔ (is_broken self.old ≡ true) }
         ensures breaks { (is_broken self.new ≡ true)
             ↔ ((is_broken self.old ≡ true) ⊎ (result ≡ Err fault.Disk)) }
@@ -223,7 +222,6 @@ impl<D: Disk> Archive<D> {
         ensures limit { limit_of self.new ≡ limit_of self.old }
         ensures place { OnOk result (place_of self.new + 1
             ≡ place_of self.old + needs (record_of (checkpoint_of (standing_of self.old)))) }
-        ensures ready { IsReady self.new }
         ensures written { OnOk result (Told (λ old new.
             new ≡ with_record old (place_of self.old)
             (record_of (checkpoint_of (standing_of self.old)))) (below self.old).seen
@@ -320,7 +318,6 @@ impl<D: Disk> Archive<D> {
     // Makes a command ready that was judged and is accepted, puts its record, and carries it out.
     fn accept(&mut self, judged: Judged<'_>, sealed: &Sealed) -> Result<Done, CommitFault>
         requires whole { is_broken self.old ≡ false }
-        requires ready { IsReady self.old }
         requires accepted { (past : Past) × RepresentsPast (standing_of self.old) past
             × IsAccepted past judged }
         requires sealed { sealed_record sealed.now ≡ record_of (logged (judged_command judged)) }
@@ -336,7 +333,6 @@ impl<D: Disk> Archive<D> {
         ensures limit { limit_of self.new ≡ limit_of self.old }
         ensures place { OnOk result (place_of self.new + 1
             ≡ place_of self.old + needs (sealed_record sealed.now)) }
-        ensures ready { IsReady self.new }
         ensures written { OnOk result (Told (λ old new.
             new ≡ with_record old (place_of self.old) (sealed_record sealed.now))
             (below self.old).seen (below self.new).seen) }
@@ -360,7 +356,6 @@ impl<D: Disk> Archive<D> {
     // Puts a record after the others. What stands in memory stays as it is.
     fn put(&mut self, sealed: &Sealed) -> Result<(), CommitFault>
         requires whole { is_broken self.old ≡ false }
-        requires ready { IsReady self.old }
         ensures breaks { (is_broken self.new ≡ true) ↔ (result ≡ Err fault.Disk) }
         ensures is_put { IsPut (sealed_record sealed.now) (place_of self.old) (limit_of self.old)
             result }
@@ -370,7 +365,6 @@ impl<D: Disk> Archive<D> {
         ensures limit { limit_of self.new ≡ limit_of self.old }
         ensures place { OnOk result (place_of self.new + 1
             ≡ place_of self.old + needs (sealed_record sealed.now)) }
-        ensures ready { IsReady self.new }
         ensures written { OnOk result (Told (λ old new.
             new ≡ with_record old (place_of self.old) (sealed_record sealed.now))
             (below self.old).seen (below self.new).seen) }

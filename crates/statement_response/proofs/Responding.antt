@@ -23,7 +23,6 @@ use Rattle.image_spelling.specs.Lengths.{image_length}
 use Rattle.archive_core.specs.Checkpointing.{checkpoint_fault}
 use Rattle.archive_state.specs.ArchiveContents.{RepresentsPast}
 use Rattle.archive_core.specs.Fields.{standing_of, disk_of, below, place_of, limit_of, is_broken}
-use Rattle.archive_core.specs.Fields.{IsReady}
 use Rattle.archive_core.specs.Committing.{commit_fault}
 use Rattle.answer_text.specs.RefusalTexts.{refusal_text}
 use Rattle.answer_text.specs.Texts.{made_text, checkpoint_text}
@@ -271,9 +270,8 @@ puts_itself now fault text due e = ap (λ (f : Fault). (refused_or f now (put te
 
 -- it still takes records
 pub still_takes : {D : Type 0} {g : Ghosts D} (a : Archive D g) → (is_broken a ≡ true → ⊥)
-    → IsReady a → TakesRecords a
-still_takes a not_broken ready = let whole = not_true (is_broken a) not_broken in
-    (whole, ready whole)
+    → TakesRecords a
+still_takes a not_broken = not_true (is_broken a) not_broken
   where
     not_true : (b : Bool) → (b ≡ true → ⊥) → b ≡ false
     not_true true h = absurd (h refl)

@@ -5,7 +5,6 @@ use Rattle.std.specs.Prelude.{Ok, Err, MatchResult}
 use Rattle.std.specs.Io.KnownBytes.{Appends}
 use Rattle.prima_io.specs.Moves.{AppendsPrefix}
 use Rattle.disk_model.specs.declared.disk.Disk.{Ghosts}
-use Rattle.journal.specs.JournalFiles.{HasGate}
 use Rattle.archive_file.specs.LogRecords.{LogRecord}
 use Rattle.archive_state.specs.ArchiveContents.{RepresentsPast}
 use Rattle.archive_core.specs.declared.archive.Archive.{Archive}
@@ -32,9 +31,9 @@ Says reply (Err DiskFault) old new = ⊥
 Says reply (Err NoMemory) old new = new ≡ old
 
 module _ {D : Type 0} {g : Ghosts D} where
-  -- it has not failed, and there is a gate for the next record
+  -- no call on it has answered that the disk failed
   abbrev pub TakesRecords : Archive D g → Type 0
-  TakesRecords archive = (is_broken archive ≡ false) × HasGate (below archive) (place_of archive)
+  TakesRecords archive = is_broken archive ≡ false
 
   -- the archive represents this past, the next record is put at this place, and the journal may
   -- have as many bytes as are given

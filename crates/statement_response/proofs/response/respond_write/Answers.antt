@@ -56,7 +56,7 @@ returns-in-Err-Refused-clause-replies g c = λ limit now represents.
 pub returns-in-Err-Broken-clause-replies : goal.returns-in-Err-Broken-clause-replies
 returns-in-Err-Broken-clause-replies g c = λ limit now represents.
     let broken = c.commit.ensures.broken.0 (c.in-Err-Broken.is
-    ∙ ap Err c.in-Err-Broken.field-0-is) in absurd (cc (broken, c.requires.takes.0))
+    ∙ ap Err c.in-Err-Broken.field-0-is) in absurd (cc (broken, c.requires.takes))
 
 pub returns-in-Err-Disk-clause-replies : goal.returns-in-Err-Disk-clause-replies
 returns-in-Err-Disk-clause-replies g c = λ limit now represents.
@@ -89,15 +89,15 @@ returns-in-Err-NoMemory-clause-replies g c = λ limit now represents.
 pub returns-in-Ok-clause-takes : goal.returns-in-Ok-clause-takes
 returns-in-Ok-clause-takes g c =
     on_ok _ _ (still_takes c.commit.new.self
-    (λ e. ⊎_elim (λ before. cc (before, c.requires.takes.0)) (λ failed. cc (failed, c.in-Ok.is))
-    (c.commit.ensures.breaks.0 e)) c.commit.ensures.ready)
+    (λ e. ⊎_elim (λ before. cc (before, c.requires.takes)) (λ failed. cc (failed, c.in-Ok.is))
+    (c.commit.ensures.breaks.0 e)))
 
 pub returns-in-Err-Refused-clause-takes : goal.returns-in-Err-Refused-clause-takes
 returns-in-Err-Refused-clause-takes g c =
     on_ok _ _ (still_takes c.commit.new.self
-    (λ e. ⊎_elim (λ before. cc (before, c.requires.takes.0))
+    (λ e. ⊎_elim (λ before. cc (before, c.requires.takes))
     (λ failed. cc (failed, c.in-Err-Refused.is, c.in-Err-Refused.field-0-is))
-    (c.commit.ensures.breaks.0 e)) c.commit.ensures.ready)
+    (c.commit.ensures.breaks.0 e)))
 
 pub returns-in-Ok-clause-counts : goal.returns-in-Ok-clause-counts
 returns-in-Ok-clause-counts g c =
@@ -118,7 +118,7 @@ returns-in-Err-Refused-clause-counts g c =
 pub returns-in-Err-Broken-clause-counts : goal.returns-in-Err-Broken-clause-counts
 returns-in-Err-Broken-clause-counts g c =
     let broken = c.commit.ensures.broken.0 (c.in-Err-Broken.is
-    ∙ ap Err c.in-Err-Broken.field-0-is) in absurd (cc (broken, c.requires.takes.0))
+    ∙ ap Err c.in-Err-Broken.field-0-is) in absurd (cc (broken, c.requires.takes))
 
 pub returns-in-Err-Disk-clause-counts : goal.returns-in-Err-Disk-clause-counts
 returns-in-Err-Disk-clause-counts g c = (
