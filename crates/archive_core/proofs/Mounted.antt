@@ -1,7 +1,6 @@
 -- From the records of a file to what mounting it says.
-use Rattle.std.proofs.Common.{◌≡◌, inl, inr, ℕ, ◌+◌, ◌-◌, ◌<◌, ◌≤◌, ◌^◌, List, [], ◌∷◌, ◌++◌}
-use Rattle.std.proofs.Common.{length, refl, sym, subst, ap, ◌∙◌, arith}
-use Rattle.std.proofs.Common.{Some, None}
+use Rattle.std.proofs.Common.{◌≡◌, inl, inr, ℕ, ◌+◌, ◌<◌, ◌≤◌, ◌^◌, List, [], ◌∷◌, ◌++◌}
+use Rattle.std.proofs.Common.{length, refl, sym, subst, ap, ◌∙◌, arith, Some, None}
 use Rattle.std.specs.Prelude.{Option, nat_le, false, if◌then◌else◌}
 use Rattle.std.proofs.lemmas.Bool.Decides.{nat_tests}
 use Rattle.std.proofs.lemmas.List.{length-map}
@@ -11,8 +10,7 @@ use Rattle.journal.specs.Reading.{records_in, record_of as plain_record, IsOpene
 use Rattle.journal.specs.MountLaws.{opened_stands, opened_records}
 use Rattle.journal.specs.JournalFiles.{Stands}
 use Rattle.journal.specs.declared.rec.Rec.{Rec}
-use Rattle.archive_file.specs.LogRecords.{LogRecord, logged, records_of, gate_after}
-use Rattle.archive_file.specs.LogRecords.{replayed_of}
+use Rattle.archive_file.specs.LogRecords.{LogRecord, logged, records_of, gate_after, replayed_of}
 use Rattle.archive_file.specs.Opening.{HasFaultAt, Damages, Opens}
 use Rattle.archive_state.specs.ArchiveContents.{ArchiveContent}
 use Rattle.archive_replay.specs.declared.opened.Opened.{Opened}
