@@ -1,5 +1,6 @@
 //! The order of the rows that scans show now: made, and tested to be what a table that is made
-//! again wants.
+//! again wants. A test says what `true` means, which is what is required then. Where it said
+//! `false` too often no table would be made again, and the reply of the case notes that.
 
 ghost use Rattle.std.specs.Prelude.{◌≡◌, ◌++◌, ◌-◌, true, List, [], ◌∷◌, All, IfOk, OnOk, map};
 ghost use Rattle.relations.specs.Sets.{Same, Ascends};

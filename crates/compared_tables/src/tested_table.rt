@@ -1,4 +1,6 @@
-//! A stored table, with what its calls require tested before each.
+//! A stored table, with what its calls require tested before each. A test says what `true` means,
+//! which is what a call requires. Where it said `false` too often a change of a case would not be
+//! made, and the reply of the case notes that.
 
 ghost use Rattle.std.specs.Prelude.{◌≡◌, ◌+◌, ◌<◌, ◌≤◌, ℕ, true, false, List, [], map, length};
 ghost use Rattle.std.specs.Prelude.{IfOk, IfSome, OnOk, All, slice_index_or};
