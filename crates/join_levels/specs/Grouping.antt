@@ -1,10 +1,24 @@
--- What is kept of a run of rows beside these, and the rows of several runs.
-use Rattle.std.specs.Prelude.{◌≡◌, ℕ, ◌<◌, ◌≤◌, ◌++◌, true, List, length, get_or}
+-- The order of rows that suits a level, what is kept of a run of rows beside these, and the rows of
+-- several runs.
+use Rattle.std.specs.Prelude.{◌≡◌, ℕ, ◌-◌, ◌<◌, ◌≤◌, ◌++◌, true, List, length, get_or}
+use Rattle.std.specs.Int.{w64, leading_zeros}
 use Rattle.std.specs.List.{flat_map}
+use Rattle.std.specs.Ordering.{nat_cmp, ordering_then}
+use Rattle.std.specs.declared.cmp.Ordering.{Ordering}
 use Rattle.relations.specs.Sets.{In}
 use Rattle.relations.specs.Spans.{Span}
 use Rattle.prima_base.specs.declared.timed_row.TimedRow.{TimedRow}
 use Rattle.join_levels.specs.declared.group.Run.TheInside.{Inside}
+
+-- the magnitude of a period: how many of 64 bits are before the first that its length sets, so that
+-- a longer one has a lower
+abbrev pub magnitude : Span → ℕ
+magnitude period = leading_zeros w64 (period.end - period.start)
+
+-- rows by the magnitudes of their periods, and those of one magnitude by their starts
+abbrev pub turn_cmp : TimedRow → TimedRow → Ordering
+turn_cmp t u = ordering_then (nat_cmp (magnitude t.period) (magnitude u.period))
+    (nat_cmp t.period.start u.period.start)
 
 -- no row ends later than the number beside it, or beside one after it
 abbrev pub EndBy : List TimedRow → List ℕ → Type 0

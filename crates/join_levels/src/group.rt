@@ -3,7 +3,7 @@
 ghost use Rattle.std.specs.Prelude.{◌≡◌, ◌-◌, ◌<◌, ◌≤◌, true, [], ◌∷◌, ◌++◌, length, get_or, IfOk};
 ghost use Rattle.std.specs.Prelude.{OnOk, if◌then◌else◌, List};
 ghost use Rattle.std.specs.List.{filter};
-ghost use Rattle.std.specs.List.Sorted.{IsPermutation};
+ghost use Rattle.std.specs.List.Sorted.{IsPermutation, IsSorted};
 ghost use Rattle.std.specs.Ordering.{is_eq};
 ghost use Rattle.std.specs.BTreeMap as tree;
 ghost use Rattle.prima_base.specs.declared.value.Value.{Value as OneValue};
@@ -11,7 +11,7 @@ ghost use Rattle.prima_base.specs.declared.timed_row.TimedRow.{TimedRow as OneRo
 ghost use Rattle.prima_base.specs.Order.{row_cmp};
 ghost use Rattle.prima_base.specs.Timed.{entry_of};
 ghost use Rattle.timed_choices.specs.Keeping.{picked, in_group};
-ghost use Rattle.join_levels.specs.Grouping.{rows_of_runs};
+ghost use Rattle.join_levels.specs.Grouping.{rows_of_runs, magnitude, turn_cmp};
 
 use crate::key::{Key, values_at};
 use prima_base::{NoMemory, Period, TimedRow};
@@ -61,14 +61,17 @@ impl<'a> Model for Group<'a> {
 
 // How long the period is: no period of a magnitude is twice as long as another one of it, but for
 // those that still go on.
-fn magnitude(period: Period) -> u32 {
+fn magnitude(period: Period) -> u32
+    ensures { result ≡ magnitude period }
+{
     (period.end() - period.start()).leading_zeros()
 }
 
 /// The rows by the magnitudes of their periods, and those of one magnitude in the order of their
 /// starts: so few runs keep them, and each of these is gone over only as far as a period reaches.
 pub fn in_turn(mut rows: Vec<TimedRow<'_>>) -> Vec<TimedRow<'_>>
-    ensures { IsPermutation rows.entry.items result.items }
+    ensures same { IsPermutation rows.entry.items result.items }
+    ensures order { IsSorted turn_cmp result.items }
 {
     rows.sort_unstable_by_key(|row| (magnitude(row.period), row.period.start()));
     rows

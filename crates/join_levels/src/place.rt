@@ -10,6 +10,7 @@ ghost use Rattle.cond_expr.specs.Faults.{test_references};
 ghost use Rattle.cond_expr.specs.Values.{value};
 ghost use Rattle.timed_choices.specs.Keeping.{value_at, meets};
 ghost use Rattle.timed_choices.specs.Placing.{place, is_below, all_below};
+ghost use Rattle.join_levels.specs.Places.{column_place, equal_places, key_places};
 ghost use Rattle.cond_expr.specs.References.{borrowed};
 
 use cond_expr::{CmpOp, ColRef, Column, Cond, Expr, gather_references};
@@ -83,9 +84,11 @@ pub(crate) fn is_after(
     Ok(are_after(columns, &references, taken))
 }
 
-/// The place whose value the expression is.
+/// The place of the column that the expression is: `None` exactly where it is no reference, or one
+/// that names none of the columns.
 pub fn column_place(columns: &[Column], expr: &Expr) -> Option<usize>
-    ensures { IfSome result (λ i. (row : List OneValue)
+    ensures place { result ≡ column_place columns.now (tree expr.now) }
+    ensures value { IfSome result (λ i. (row : List OneValue)
         → value (cells columns.now row) (tree expr.now) ≡ value_at row i) }
 {
     match expr {
@@ -94,10 +97,11 @@ pub fn column_place(columns: &[Column], expr: &Expr) -> Option<usize>
     }
 }
 
-// The two places whose values the condition says are equal.
+// The two places whose values the condition says are equal: of each equality of two columns.
 #[tactic(auto, using(cond_expr::proofs::SeenLaws::test_of_cmp))]
 fn equal_places(columns: &[Column], cond: &Cond) -> Option<(usize, usize)>
-    ensures { IfSome result (λ r. (row : List OneValue)
+    ensures places { result ≡ equal_places columns.now (test cond.now) }
+    ensures values { IfSome result (λ r. (row : List OneValue)
         → meets columns.now (test cond.now) row
         ≡ is_eq (value_cmp (value_at row r.0) (value_at row r.1))) }
 {
@@ -113,15 +117,17 @@ fn equal_places(columns: &[Column], cond: &Cond) -> Option<(usize, usize)>
 }
 
 /// A place in a choice of so many values, and a place in a row of so many, that have one value in
-/// whatever the two begin that meets the condition.
+/// whatever the two begin that meets the condition: `None` exactly where the condition is no
+/// equality of a column of the one with a column of the other.
 pub(crate) fn key_places(
     columns: &[Column],
     cond: &Cond,
     taken: usize,
     width: usize,
 ) -> Option<(usize, usize)>
-    ensures { IfSome result (λ r. (p y c : List OneValue) → length p ≡ taken → length y ≡ width
-        → meets columns.now (test cond.now) ((p ++ y) ++ c) ≡ true
+    ensures places { result ≡ key_places columns.now (test cond.now) taken width }
+    ensures values { IfSome result (λ r. (p y c : List OneValue) → length p ≡ taken
+        → length y ≡ width → meets columns.now (test cond.now) ((p ++ y) ++ c) ≡ true
         → value_at y r.1 ≡ value_at p r.0) }
 {
     let (a, b) = equal_places(columns, cond)?;

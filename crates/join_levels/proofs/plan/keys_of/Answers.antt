@@ -10,7 +10,8 @@ loop-part-preserved c = λ p y z e f h.
           c.match-key_places.own.items c.match-key_places.other.items w.in-Some.a w.in-Some.b p y
           (rw w.own-is w.in_ok-push.ensures.items) (rw w.other-is w.in_ok-push-2.ensures.items)
           (c.loop-part.invariant p y z e f h)
-          (w.in-Some.ensures p y z e f (part_met c.args.columns.now ((p ++ y) ++ z) c.args.parts.now
-          c.loop-part.part-index c.part-item.result c.loop-part-test.true c.part-item.is h))
+          (w.in-Some.ensures.values p y z e f (part_met c.args.columns.now ((p ++ y) ++ z)
+          c.args.parts.now c.loop-part.part-index c.part-item.result c.loop-part-test.true
+          c.part-item.is h))
       | in_default w ↦ rw (w.own-is, w.other-is) (c.loop-part.invariant p y z e f h)
     ]

@@ -15,7 +15,7 @@ pub invariant_of-push_back : goal.invariant_of-push_back
 invariant_of-push_back c = record {
   fit = (let e : length c.args.atom.columns.items ≡ c.len-width.result = omega arith in
       subst (λ n. Fit n (entries_of c.in_turn.result.items)) e
-      (fit_moved c.args.atom.rows.items c.in_turn.result.items c.in_turn.ensures
+      (fit_moved c.args.atom.rows.items c.in_turn.result.items c.in_turn.ensures.same
       (length c.args.atom.columns.items) c.args.atom.fit));
 }
 
@@ -24,7 +24,7 @@ returns-clause-rows c = λ m.
     ap (λ (ss : List Source). relations_of ss m) c.in_ok-push_back.ensures.items
     ∙ map-append (λ (s : Source). rows_at s.rows.items m) c.args.sources.now.items _
     ∙ ap (λ (rows : List (List Value)). relations_of c.args.sources.now.items m ++ rows ∷ [])
-    (at_moved c.args.atom.rows.items c.in_turn.result.items c.in_turn.ensures m)
+    (at_moved c.args.atom.rows.items c.in_turn.result.items c.in_turn.ensures.same m)
 
 pub returns-clause-borrowed : goal.returns-clause-borrowed
 returns-clause-borrowed c = λ which h k.
@@ -34,5 +34,5 @@ returns-clause-borrowed c = λ which h k.
     (sym c.in_ok-push_back.ensures.items)
     (sources_with which c.args.types.now.items c.args.atom.columns.items c.args.sources.now.items _
     h
-    (each_moved c.args.atom.rows.items c.in_turn.result.items c.in_turn.ensures
+    (each_moved c.args.atom.rows.items c.in_turn.result.items c.in_turn.ensures.same
     (RowBorrows which c.args.atom.columns.items) k)))
