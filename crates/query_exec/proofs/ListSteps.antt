@@ -33,11 +33,3 @@ next_said so xs i x l e before here y m =
     step (inl k) = before y k
     step (inr (inl s)) = subst so s here
     step (inr (inr k)) = absurd k
-
--- the same in an equal list
-module _ {X : Type 0} (xs ys : List X) (same : xs ≡ ys) (i : ℕ) (x : X) where
-  pub within_same : i < length xs → i < length ys
-  within_same l = subst (λ (zs : List X). i < length zs) same l
-
-  pub at_same : x ≡ get_or xs i x → x ≡ get_or ys i x
-  at_same e = subst (λ (zs : List X). x ≡ get_or zs i x) same e

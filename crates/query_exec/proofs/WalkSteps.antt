@@ -1,5 +1,6 @@
 -- Walks along the parts of a slice.
-use Rattle.std.proofs.Common.{◌≡◌, ◌+◌, ◌<◌, ◌≤◌, ℕ, true, List, length, get_or, drop, sym, subst}
+use Rattle.std.proofs.Common.{◌≡◌, ◌+◌, ◌<◌, ◌≤◌, ℕ, true, List, [], ◌∷◌, length, get_or, drop, sym}
+use Rattle.std.proofs.Common.{subst, inl, inr, arith}
 use Rattle.std.specs.Prelude.{None}
 use Rattle.std.specs.FinMap.{get}
 use Rattle.relations.specs.Sets.{In}
@@ -16,25 +17,75 @@ use Rattle.piece_meaning.specs.Typed.{AllTyped}
 use Rattle.piece_meaning.specs.Rules.{Book, IsValidBook}
 use Rattle.rewrite_chains.specs.UnfoldedPieces.{MayBeAsked, StandFor}
 use Rattle.rewrite_chains.proofs.UnfoldedPieceLaws.{stand_typed}
-use Rattle.rewrite.specs.WalkedPieces.{AreBack, AreOn}
+use Rattle.rewrite_chains.proofs.StaysLost.{none_forward}
+use Rattle.rewrite.specs.WalkedPieces.{LeadsAway, AreAway}
 use Rattle.period_split.specs.Splitting.{Part, AscendFrom}
 use Rattle.query_exec.specs.declared.route.Route.{Route}
 use Rattle.query_exec.specs.Questions.{table_read}
-use Rattle.query_exec.specs.Routes.{DescendFrom, IsOwn, IsRoute, MayBeRead}
+use Rattle.query_exec.specs.Routes.{DescendFrom, IsOwn, IsRoute, MayBeRead, LeadAway, AreAlong}
 use Rattle.query_exec.proofs.ListSteps.{left_is}
 use Rattle.query_exec.proofs.TableReads.{standing_means}
 
-module _ (parts : List Part) (i : ℕ) (p : Part) (l : i < length parts)
-    (is : p ≡ get_or parts i p) where
-  -- the next part of those that descend, and of those that ascend
-  pub back_next : (high : ℕ) → DescendFrom high (drop i parts) → (p.1 ≤ high)
-      × DescendFrom p.1 (drop (i + 1) parts)
-  back_next high h = subst (λ (ps : List Part). DescendFrom high ps) (left_is parts i p l is) h
+-- the next part of those that lead away
+pub next_away : (parts : List Part) (i : ℕ) (p : Part) → i < length parts → p ≡ get_or parts i p
+    → (asked v : ℕ) → LeadAway asked v (drop i parts)
+    → LeadsAway asked v p.1 × LeadAway asked p.1 (drop (i + 1) parts)
+next_away parts i p l is asked v h =
+    subst (λ (ps : List Part). LeadAway asked v ps) (left_is parts i p l is) h
 
-  pub on_next : (low : ℕ) → AscendFrom low (drop i parts) → (low ≤ p.1)
-      × AscendFrom (p.1 + 1) (drop (i + 1) parts)
-  on_next low h = (let k = subst (λ (ps : List Part). AscendFrom low ps) (left_is parts i p l is)
-      h in (k.0.version, k.1))
+-- parts of ever earlier versions lead away from one that is not earlier than these
+descend_away : (asked v : ℕ) (parts : List Part) → v ≤ asked → DescendFrom v parts
+    → LeadAway asked v parts
+descend_away asked v [] l h = tt
+descend_away asked v (p ∷ parts) l h =
+    let first = h.0 in (
+      record { back = λ m. l; on = λ m. absurd (omega (arith, first, m)) },
+      descend_away asked p.1 parts (omega (arith, first, l)) h.1,
+    )
+
+descend_below : (asked v : ℕ) (parts : List Part) → v ≤ asked → DescendFrom v parts
+    → (p : Part) → In p parts → p.1 ≤ asked
+descend_below asked v [] l h p i = absurd i
+descend_below asked v (x ∷ parts) l h p (inl e) =
+    let first = h.0 in
+    subst (λ (y : Part). y.1 ≤ asked) e (omega (arith, first, l))
+descend_below asked v (x ∷ parts) l h p (inr i) =
+    let first = h.0 in
+    descend_below asked x.1 parts (omega (arith, first, l)) h.1 p i
+
+-- parts of ever later versions lead away from one that is not later than these
+ascend_away : (asked v low : ℕ) (parts : List Part) → asked ≤ v → v ≤ low → AscendFrom low parts
+    → LeadAway asked v parts
+ascend_away asked v low [] a l h = tt
+ascend_away asked v low (p ∷ parts) a l h =
+    let first = h.0.version in
+    let after : p.1 ≤ p.1 + 1 = omega arith in (
+      record { back = λ m. absurd (omega (arith, first, l, m)); on = λ m. a },
+      ascend_away asked p.1 (p.1 + 1) parts (omega (arith, first, l, a)) after h.1,
+    )
+
+module _ (versions : List PlainVersion) (route : Route) (is : IsRoute versions route)
+    (table : List ℕ) (r : Read) (may : MayBeRead versions route table r) where
+  -- so a walk from the asked version comes to the earlier parts, and one to the later
+  pub back_along : AreAlong versions route.asked table r route.earlier.items
+  back_along = record {
+    question = may.question;
+    here = is.asked;
+    way = descend_away route.asked route.asked route.earlier.items (omega arith) is.back;
+    there = λ p i. (is.earlier p i).there;
+    kept = λ p i. none_forward versions p.1 route.asked table
+        (descend_below route.asked route.asked route.earlier.items (omega arith) is.back p i);
+  }
+
+  pub on_along : AreAlong versions route.asked table r route.later.items
+  on_along = record {
+    question = may.question;
+    here = is.asked;
+    way = ascend_away route.asked route.asked (route.asked + 1) route.later.items (omega arith)
+        (omega arith) is.on;
+    there = λ p i. (is.later p i).there;
+    kept = may.kept;
+  }
 
 module _ (kept : Kept) (past : Past) (represents : Represents kept past) where
   -- the pieces that stand at a part's version mean at its moments what is read of the table
@@ -63,51 +114,36 @@ module _ (kept : Kept) (past : Past) (represents : Represents kept past) where
       own.there
 
 module _ (kept : Kept) (book : Book) (versions : List PlainVersion)
-    (same : versions ≡ versions_in kept) (route : Route) (is : IsRoute (versions_in kept) route)
-    (table : List ℕ) (r : Read)
-    (may : MayBeRead (versions_in kept) route table r) where
-  asked_here : MayBeAsked versions route.asked table r
-  asked_here = subst (λ (vs : List PlainVersion). MayBeAsked vs route.asked table r) (sym same)
-      may.question
+    (same : versions ≡ versions_in kept) (asked : ℕ) (table : List ℕ) (r : Read)
+    (parts : List Part) (along : AreAlong (versions_in kept) asked table r parts) where
+  asked_here : MayBeAsked versions asked table r
+  asked_here = subst (λ (vs : List PlainVersion). MayBeAsked vs asked table r) (sym same)
+      along.question
 
-  pub kept_here : (p : Part) → In p route.later.items
-      → get (lost_names versions p.1 route.asked) table ≡ None
+  pub kept_here : (p : Part) → In p parts → get (lost_names versions p.1 asked) table ≡ None
   kept_here p i = subst (λ (vs : List PlainVersion).
-      get (lost_names vs p.1 route.asked) table ≡ None) (sym same) (may.kept p i)
+      get (lost_names vs p.1 asked) table ≡ None) (sym same) (along.kept p i)
 
-  pub back_ready : (v : ℕ) (ps : List PlainPiece) → v ≤ route.asked
-      → StandFor book versions v route.asked table r ps → AreBack book versions v ps
-  back_ready v ps l h = record {
-    asked = route.asked;
+  pub ready_here : (v : ℕ) (ps : List PlainPiece) (p : Part) → In p parts → LeadsAway asked v p.1
+      → StandFor book versions v asked table r ps → AreAway book versions v p.1 ps
+  ready_here v ps p i way h = record {
+    asked = asked;
     table = table;
     read = r;
-    order = l;
-    question =
-        asked_here;
-    stand = h;
-  }
-
-  pub on_ready : (v : ℕ) (ps : List PlainPiece) (p : Part) → In p route.later.items
-      → route.asked ≤ v → StandFor book versions v route.asked table r ps
-      → AreOn book versions v p.1 ps
-  on_ready v ps p i l h = record {
-    asked = route.asked;
-    table = table;
-    read = r;
-    order = l;
+    way = way;
     question = asked_here;
     kept = kept_here p i;
     stand = h;
   }
 
   pub here_typed : IsValidBook book → (v : ℕ) (ps : List PlainPiece)
-      → StandFor book versions v route.asked table r ps
+      → StandFor book versions v asked table r ps
       → AllTyped (tables_from no_tables (versions_in kept) v) ps
   here_typed valid v ps h =
       subst (λ (vs : List PlainVersion). AllTyped (tables_from no_tables vs v) ps) same
-      (stand_typed book versions v route.asked table r valid ps asked_here h)
+      (stand_typed book versions v asked table r valid ps asked_here h)
 
-  pub stand_here : (v : ℕ) (ps : List PlainPiece) → StandFor book versions v route.asked table r ps
-      → StandFor book (versions_in kept) v route.asked table r ps
-  stand_here v ps h = subst (λ (vs : List PlainVersion). StandFor book vs v route.asked table r ps)
+  pub stand_here : (v : ℕ) (ps : List PlainPiece) → StandFor book versions v asked table r ps
+      → StandFor book (versions_in kept) v asked table r ps
+  stand_here v ps h = subst (λ (vs : List PlainVersion). StandFor book vs v asked table r ps)
       same h

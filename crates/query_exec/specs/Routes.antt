@@ -11,6 +11,7 @@ use Rattle.version_ways.specs.LostNames.{lost_names}
 use Rattle.version_groups.specs.Representation.{IsInForce}
 use Rattle.plain_answers.specs.Reading.{Read}
 use Rattle.rewrite_chains.specs.UnfoldedPieces.{MayBeAsked}
+use Rattle.rewrite.specs.WalkedPieces.{LeadsAway}
 use Rattle.query_pieces.specs.Gathering.{HasMoment}
 use Rattle.period_split.specs.Splitting.{Part, AscendFrom}
 use Rattle.query_exec.specs.declared.route.Route.{Route}
@@ -60,3 +61,18 @@ pub record MayBeRead (versions : List PlainVersion) (route : Route) (table : Lis
   pub question : MayBeAsked versions route.asked table r
   pub kept : (p : Part) → In p route.later.items
       → get (lost_names versions p.1 route.asked) table ≡ None
+
+-- from version v the way to each part's version leads away from the asked one
+abbrev pub LeadAway : ℕ → ℕ → List Part → Type 0
+LeadAway asked v [] = ⊤
+LeadAway asked v (p ∷ parts) = LeadsAway asked v p.1 × LeadAway asked p.1 parts
+
+-- something is asked of the table of a version; a walk from there comes to the parts' versions in
+-- their order, and the table is not lost on the way
+pub record AreAlong (versions : List PlainVersion) (asked : ℕ) (table : List ℕ) (r : Read)
+    (parts : List Part) : Type 0 where
+  pub question : MayBeAsked versions asked table r
+  pub here : asked ≤ length versions
+  pub way : LeadAway asked asked parts
+  pub there : (p : Part) → In p parts → p.1 ≤ length versions
+  pub kept : (p : Part) → In p parts → get (lost_names versions p.1 asked) table ≡ None

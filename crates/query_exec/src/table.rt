@@ -34,7 +34,7 @@ use crate::piece::read_run;
 use crate::question::Question;
 use crate::route::Route;
 use crate::run::run_of;
-use crate::walk::{pieces_back, pieces_on};
+use crate::walk::pieces_along;
 use coalesce::coalesce_in_place;
 use prima_base::{Name, NoMemory, Steps, TimedRow};
 use rule_book::{Rule, RuleBook};
@@ -62,9 +62,25 @@ pub(crate) fn table_pieces(
         (versions_in groups.now) route.now.asked table.now (read_asked question.now)
         route.now.parts.items v.items) }
 {
-    let mut plan = pieces_back(alloc, groups, book, route, table, question)?;
+    let mut plan = pieces_along(
+        alloc,
+        groups,
+        book,
+        route.asked,
+        &route.earlier,
+        table,
+        question,
+    )?;
     plan.reverse();
-    let mut later = pieces_on(alloc, groups, book, route, table, question)?;
+    let mut later = pieces_along(
+        alloc,
+        groups,
+        book,
+        route.asked,
+        &route.later,
+        table,
+        question,
+    )?;
     plan.append(&mut later)?;
     Ok(plan)
 }

@@ -7,75 +7,42 @@ ghost use Rattle.version_groups.specs.Representation.{Represents};
 ghost use Rattle.rewrite.specs.Books.{meaning_of, EachOf};
 ghost use Rattle.query_exec.specs.Asked.{read_asked};
 ghost use Rattle.query_exec.specs.Planned.{ArePlanned};
-ghost use Rattle.query_exec.specs.Routes.{IsRoute, MayBeRead};
+ghost use Rattle.query_exec.specs.Routes.{AreAlong};
 
 use crate::part_piece::{PartPieces, part_pieces};
 use crate::question::Question;
-use crate::route::Route;
-use prima_base::{Name, NoMemory};
+use prima_base::{Name, NoMemory, Period};
 use rewrite::Walk;
 use rule_book::{Rule, RuleBook};
 use std::alloc::Global;
 use version_groups::Groups;
 
-/// What is planned for the table at the asked version, and at versions before it, from the last to
-/// the first.
-pub(crate) fn pieces_back(
+/// What is planned for the table at the versions of parts, to which a walk from the asked version
+/// comes in their order.
+pub(crate) fn pieces_along(
     alloc: Global,
     groups: &Groups,
     book: &RuleBook,
-    route: &Route,
+    asked: u32,
+    parts: &[(Period, u32)],
     table: &Name,
     question: &Question,
 ) -> Result<Vec<PartPieces>, NoMemory>
     requires each { EachOf book.now.rules.items (λ r. handles (r.vtable, r.value)) }
     requires represents { (past : Past) × Represents groups.now past }
-    requires route { IsRoute (versions_in groups.now) route.now }
-    requires read { MayBeRead (versions_in groups.now) route.now table.now
-        (read_asked question.now) }
+    requires along { AreAlong (versions_in groups.now) asked table.now (read_asked question.now)
+        parts.now }
     ensures { IfOk result (λ v. ArePlanned (meaning_of book.now.rules.items
         (λ r. handles (r.vtable, r.value)) (λ r. answers (r.vtable, r.value)))
-        (versions_in groups.now) route.now.asked table.now (read_asked question.now)
-        route.now.earlier.items v.items) }
+        (versions_in groups.now) asked table.now (read_asked question.now) parts.now v.items) }
 {
     book.known();
-    let start = Walk::start(alloc, route.asked, table, &question.cond, &question.names)?;
+    let start = Walk::start(alloc, asked, table, &question.cond, &question.names)?;
     let versions = groups.versions();
     let mut walk = start;
     let mut plan = Vec::new(alloc);
-    for part in &route.earlier {
-        walk = walk.back_to(book, alloc, versions, part.1)?;
-        plan.push(part_pieces(alloc, groups, *part, &walk.pieces)?)?;
-    }
-    Ok(plan)
-}
-
-/// What is planned for the table at versions after the asked one.
-pub(crate) fn pieces_on(
-    alloc: Global,
-    groups: &Groups,
-    book: &RuleBook,
-    route: &Route,
-    table: &Name,
-    question: &Question,
-) -> Result<Vec<PartPieces>, NoMemory>
-    requires each { EachOf book.now.rules.items (λ r. handles (r.vtable, r.value)) }
-    requires represents { (past : Past) × Represents groups.now past }
-    requires route { IsRoute (versions_in groups.now) route.now }
-    requires read { MayBeRead (versions_in groups.now) route.now table.now
-        (read_asked question.now) }
-    ensures { IfOk result (λ v. ArePlanned (meaning_of book.now.rules.items
-        (λ r. handles (r.vtable, r.value)) (λ r. answers (r.vtable, r.value)))
-        (versions_in groups.now) route.now.asked table.now (read_asked question.now)
-        route.now.later.items v.items) }
-{
-    book.known();
-    let start = Walk::start(alloc, route.asked, table, &question.cond, &question.names)?;
-    let versions = groups.versions();
-    let mut walk = start;
-    let mut plan = Vec::new(alloc);
-    for part in &route.later {
-        walk = walk.on_to(book, alloc, versions, part.1)?;
+    for part in parts {
+        walk = walk.to(book, alloc, versions, part.1)?;
         plan.push(part_pieces(alloc, groups, *part, &walk.pieces)?)?;
     }
     Ok(plan)

@@ -15,7 +15,7 @@ ghost use Rattle.piece_meaning.specs.Pieces.{PlainPiece, all_mean};
 ghost use Rattle.piece_meaning.specs.Typed.{AllTyped, output_types};
 ghost use Rattle.piece_meaning.specs.Rules.{IsValidDatabase};
 ghost use Rattle.rewrite.specs.Books.{meaning_of, EachOf};
-ghost use Rattle.rewrite.specs.WalkedPieces.{AreBack, AreOn};
+ghost use Rattle.rewrite.specs.WalkedPieces.{AreBack, AreOn, AreAway, LeadsAway};
 ghost use Rattle.piece_ir.specs.Shown.{pieces_of};
 ghost use Rattle.rewrite_chains.specs.Chains.{to_previous, to_next, unfolded_to};
 ghost use Rattle.smo_meaning.specs.ValidValues.{VersionsHold};
@@ -118,10 +118,9 @@ impl Walk {
         })
     }
 
-    /// Back to an earlier version, or to the same, one at a time. The pieces stand for what is
-    /// asked of a table of a version that is not earlier than this one. The one error is
-    /// `NoMemory`, where memory runs out.
-    pub fn back_to(
+    // Back to an earlier version, or to the same, one at a time. The pieces stand for what is asked
+    // of a table of a version that is not earlier than this one.
+    fn back_to(
         self,
         book: &RuleBook,
         alloc: Global,
@@ -151,10 +150,10 @@ impl Walk {
         Ok(walk)
     }
 
-    /// On to a later version, or to the same, one at a time. The pieces stand for what is asked of
-    /// a table of a version that is not later than this one, and the table is not lost on the way
-    /// from there. The one error is `NoMemory`, where memory runs out.
-    pub fn on_to(
+    // On to a later version, or to the same, one at a time. The pieces stand for what is asked of a
+    // table of a version that is not later than this one, and the table is not lost on the way from
+    // there.
+    fn on_to(
         self,
         book: &RuleBook,
         alloc: Global,
@@ -184,6 +183,43 @@ impl Walk {
         }
         Ok(walk)
     }
+
+    /// To another version, or to the same, one at a time. The pieces stand for what is asked of a
+    /// table of a version from which the way leads away, and from which the table is not lost up
+    /// to its end. The one error is `NoMemory`, where memory runs out.
+    pub fn to(
+        self,
+        book: &RuleBook,
+        alloc: Global,
+        versions: &Versions,
+        version: u32,
+    ) -> Result<Walk, NoMemory>
+        requires each { EachOf book.now.rules.items (λ r. handles (r.vtable, r.value)) }
+        requires here { self.version ≤ vec_len versions.now.list }
+        requires there { version ≤ vec_len versions.now.list }
+        requires pieces { AreAway (meaning_of book.now.rules.items
+            (λ r. handles (r.vtable, r.value)) (λ r. answers (r.vtable, r.value)))
+            (versions_of versions.now) self.version version (pieces_of self.pieces.items) }
+        ensures version { IfOk result (λ w. w.version ≡ version) }
+        ensures pieces { (q : ℕ) → (table : List ℕ) → (r : Read)
+            → LeadsAway q self.version version
+            → get (lost_names (versions_of versions.now) version q) table ≡ None
+            → StandFor (meaning_of book.now.rules.items (λ r. handles (r.vtable, r.value))
+            (λ r. answers (r.vtable, r.value))) (versions_of versions.now) self.version q table r
+            (pieces_of self.pieces.items)
+            → IfOk result (λ w. StandFor (meaning_of book.now.rules.items
+            (λ r. handles (r.vtable, r.value)) (λ r. answers (r.vtable, r.value)))
+            (versions_of versions.now) version q table r (pieces_of w.pieces.items)) }
+    {
+        let here = self.version;
+        if version < here {
+            return self.back_to(book, alloc, versions, version);
+        }
+        if here < version {
+            return self.on_to(book, alloc, versions, version);
+        }
+        Ok(self)
+    }
 }
 
 /// What keeps a table of one version from being read from another.
@@ -204,61 +240,6 @@ impl From<NoMemory> for RewriteFault {
     fn from(_error: NoMemory) -> RewriteFault {
         RewriteFault::NoMemory
     }
-}
-
-// From the version that is asked back to an earlier one.
-fn walked_back(
-    book: &RuleBook,
-    alloc: Global,
-    versions: &Versions,
-    stored: u32,
-    asked: u32,
-    table: &Name,
-    cond: &Cond,
-    columns: &[Name],
-) -> Result<Vec<Piece>, NoMemory>
-    requires each { EachOf book.now.rules.items (λ r. handles (r.vtable, r.value)) }
-    requires order { stored ≤ asked }
-    requires there { asked ≤ vec_len versions.now.list }
-    requires asked { MayBeAsked (versions_of versions.now) asked table.now
-        (asking (test cond.now) columns.now) }
-    ensures { IfOk result (λ news. StandFor (meaning_of book.now.rules.items
-        (λ r. handles (r.vtable, r.value)) (λ r. answers (r.vtable, r.value)))
-        (versions_of versions.now) stored asked table.now (asking (test cond.now) columns.now)
-        (pieces_of news.items)) }
-{
-    let start = Walk::start(alloc, asked, table, cond, columns)?;
-    let walk = start.back_to(book, alloc, versions, stored)?;
-    let Walk { version: _, pieces } = walk;
-    Ok(pieces)
-}
-
-// From the version that is asked on to a later one. The table is not lost on the way from there.
-fn walked_on(
-    book: &RuleBook,
-    alloc: Global,
-    versions: &Versions,
-    stored: u32,
-    asked: u32,
-    table: &Name,
-    cond: &Cond,
-    columns: &[Name],
-) -> Result<Vec<Piece>, NoMemory>
-    requires each { EachOf book.now.rules.items (λ r. handles (r.vtable, r.value)) }
-    requires order { asked ≤ stored }
-    requires there { stored ≤ vec_len versions.now.list }
-    requires asked { MayBeAsked (versions_of versions.now) asked table.now
-        (asking (test cond.now) columns.now) }
-    requires kept { get (lost_names (versions_of versions.now) stored asked) table.now ≡ None }
-    ensures { IfOk result (λ news. StandFor (meaning_of book.now.rules.items
-        (λ r. handles (r.vtable, r.value)) (λ r. answers (r.vtable, r.value)))
-        (versions_of versions.now) stored asked table.now (asking (test cond.now) columns.now)
-        (pieces_of news.items)) }
-{
-    let start = Walk::start(alloc, asked, table, cond, columns)?;
-    let walk = start.on_to(book, alloc, versions, stored)?;
-    let Walk { version: _, pieces } = walk;
-    Ok(pieces)
 }
 
 // From the version that is asked to any other.
@@ -283,10 +264,10 @@ fn walked(
         (versions_of versions.now) stored asked table.now (asking (test cond.now) columns.now)
         (pieces_of news.items)) }
 {
-    if stored <= asked {
-        return walked_back(book, alloc, versions, stored, asked, table, cond, columns);
-    }
-    walked_on(book, alloc, versions, stored, asked, table, cond, columns)
+    let start = Walk::start(alloc, asked, table, cond, columns)?;
+    let walk = start.to(book, alloc, versions, stored)?;
+    let Walk { version: _, pieces } = walk;
+    Ok(pieces)
 }
 
 /// The pieces over version `stored` of the rows of one table of version `asked` that meet a

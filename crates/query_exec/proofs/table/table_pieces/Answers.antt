@@ -4,9 +4,25 @@ use Rattle.piece_meaning.specs.Books.{book_of}
 use Rattle.period_split.specs.Splitting.{Part}
 use Rattle.query_exec.specs.Asked.{read_asked}
 use Rattle.query_exec.specs.Planned.{ArePlanned}
+use Rattle.query_exec.specs.Routes.{AreAlong}
 use Rattle.query_exec.specs.declared.part_piece.PartPieces.{PartPieces}
+use Rattle.query_exec.proofs.WalkSteps.{back_along, on_along}
 use Rattle.query_exec.proofs.PlanLaws.{planned_joined, planned_reversed}
 use Rattle.query_exec.proofs.table.table_pieces.Goals as goal
+
+pub pieces_along-requires-clause-along : goal.pieces_along-requires-clause-along
+pieces_along-requires-clause-along g c =
+    subst (AreAlong (versions_in c.args.groups.now) c.args.route.now.asked c.args.table.now
+    (read_asked c.args.question.now)) (sym c.deref.ensures.value)
+    (back_along (versions_in c.args.groups.now) c.args.route.now c.requires.route c.args.table.now
+    (read_asked c.args.question.now) c.requires.read)
+
+pub pieces_along-2-requires-clause-along : goal.pieces_along-2-requires-clause-along
+pieces_along-2-requires-clause-along g c =
+    subst (AreAlong (versions_in c.args.groups.now) c.args.route.now.asked c.args.table.now
+    (read_asked c.args.question.now)) (sym c.deref-2.ensures.value)
+    (on_along (versions_in c.args.groups.now) c.args.route.now c.requires.route c.args.table.now
+    (read_asked c.args.question.now) c.requires.read)
 
 pub returns : goal.returns
 returns g c =
@@ -35,5 +51,14 @@ returns g c =
     (planned_reversed (book_of (λ r. (goal.Rule-dyn g (r.vtable, r.value)).handles r.value)
     (λ r. (goal.Rule-dyn g (r.vtable, r.value)).answers r.value) c.args.book.now.rules.items)
     (versions_in c.args.groups.now) c.args.route.now.asked c.args.table.now r
-    c.args.route.now.earlier.items c.in_ok-plan.plan.items c.in_ok-plan.ensures))
-    c.in_ok-later.ensures))
+    c.args.route.now.earlier.items c.in_ok-plan.plan.items
+    (subst (λ (ps : List Part). ArePlanned
+    (book_of (λ r. (goal.Rule-dyn g (r.vtable, r.value)).handles r.value)
+    (λ r. (goal.Rule-dyn g (r.vtable, r.value)).answers r.value) c.args.book.now.rules.items)
+    (versions_in c.args.groups.now) c.args.route.now.asked c.args.table.now r ps
+    c.in_ok-plan.plan.items) c.deref.ensures.value c.in_ok-plan.ensures)))
+    (subst (λ (ps : List Part). ArePlanned
+    (book_of (λ r. (goal.Rule-dyn g (r.vtable, r.value)).handles r.value)
+    (λ r. (goal.Rule-dyn g (r.vtable, r.value)).answers r.value) c.args.book.now.rules.items)
+    (versions_in c.args.groups.now) c.args.route.now.asked c.args.table.now r ps
+    c.in_ok-later.later.items) c.deref-2.ensures.value c.in_ok-later.ensures)))

@@ -13,24 +13,24 @@ use Rattle.rewrite_chains.specs.Beginnings.{asking, first_piece}
 use Rattle.rewrite_chains.specs.UnfoldedPieces.{StandFor}
 use Rattle.rewrite_chains.proofs.UnfoldedPieceLaws.{stand_first}
 use Rattle.period_split.specs.Splitting.{Part}
-use Rattle.query_exec.specs.Routes.{DescendFrom}
+use Rattle.query_exec.specs.Routes.{LeadAway}
 use Rattle.query_exec.specs.Asked.{read_asked}
 use Rattle.query_exec.specs.Planned.{ArePlanned}
 use Rattle.query_exec.specs.declared.part_piece.PartPieces.{PartPieces}
-use Rattle.query_exec.proofs.ListSteps.{taken_is, among_taken, within_same, at_same}
+use Rattle.query_exec.proofs.ListSteps.{taken_is, among_taken}
 use Rattle.query_exec.proofs.PlanLaws.{one_planned, planned_last}
-use Rattle.query_exec.proofs.WalkSteps.{back_next, back_ready, here_typed, stand_here}
-use Rattle.query_exec.proofs.walk.pieces_back.Goals as goal
+use Rattle.query_exec.proofs.WalkSteps.{next_away, kept_here, ready_here, here_typed, stand_here}
+use Rattle.query_exec.proofs.walk.pieces_along.Goals as goal
 
 pub loop-part-init : goal.loop-part-init
 loop-part-init g c = record {
-  there = omega (arith, c.in_ok-start.ensures.version);
-  order = subst (λ (v : ℕ). DescendFrom v c.args.route.now.earlier.items)
-      (sym c.in_ok-start.ensures.version) c.requires.route.back;
+  there = omega (arith, c.in_ok-start.ensures.version, c.requires.along.here);
+  way = subst (λ (v : ℕ). LeadAway c.args.asked v c.args.parts.now)
+      (sym c.in_ok-start.ensures.version) c.requires.along.way;
   stand = stand_first (book_of (λ r. (goal.Rule-dyn g (r.vtable, r.value)).handles r.value)
       (λ r. (goal.Rule-dyn g (r.vtable, r.value)).answers r.value) c.args.book.now.rules.items)
       (versions_of c.versions-versions.result.now) c.in_ok-start.start.version
-      c.args.route.now.asked c.args.table.now (read_asked c.args.question.now)
+      c.args.asked c.args.table.now (read_asked c.args.question.now)
       (pieces_of c.in_ok-start.start.pieces.items) c.in_ok-start.ensures.version
       (c.in_ok-start.ensures.pieces ∙ ap (λ (ns : List (List ℕ)).
       first_piece c.args.table.now (asking (read_asked c.args.question.now).test ns) ∷ [])
@@ -38,140 +38,140 @@ loop-part-init g c = record {
   planned = subst (λ (xs : List PartPieces). ArePlanned
       (book_of (λ r. (goal.Rule-dyn g (r.vtable, r.value)).handles r.value)
       (λ r. (goal.Rule-dyn g (r.vtable, r.value)).answers r.value) c.args.book.now.rules.items)
-      (versions_in c.args.groups.now) c.args.route.now.asked c.args.table.now
+      (versions_in c.args.groups.now) c.args.asked c.args.table.now
       (read_asked c.args.question.now) [] xs) (sym c.new-plan.ensures.items) tt;
 }
 
-pub back_to-requires-clause-order : goal.back_to-requires-clause-order
-back_to-requires-clause-order g c =
-    let parts : List Part = c.args.route.now.earlier.items in
-    let i : ℕ = c.loop-part.part-index in
-    let p : Part = c.part-item.result in
-    let below : i < length parts = within_same c.deref-part-items.result.now parts
-    c.deref-part-items.ensures.value i p c.loop-part-test.true in
-    let is : p ≡ get_or parts i p = at_same c.deref-part-items.result.now parts
-    c.deref-part-items.ensures.value i p c.part-item.is in
-    let next = back_next parts i p below is c.loop-part.walk.version c.loop-part.invariant.order in
-    next.0
-
-pub back_to-requires-clause-there : goal.back_to-requires-clause-there
-back_to-requires-clause-there g c =
-    let parts : List Part = c.args.route.now.earlier.items in
-    let i : ℕ = c.loop-part.part-index in
-    let p : Part = c.part-item.result in
-    let below : i < length parts = within_same c.deref-part-items.result.now parts
-    c.deref-part-items.ensures.value i p c.loop-part-test.true in
-    let is : p ≡ get_or parts i p = at_same c.deref-part-items.result.now parts
-    c.deref-part-items.ensures.value i p c.part-item.is in
-    let own = c.requires.route.earlier p (among_taken parts i p below is) in
-    let within = own.there in
+pub to-requires-clause-here : goal.to-requires-clause-here
+to-requires-clause-here g c =
+    let within = c.loop-part.invariant.there in
     let many = length-map c.args.groups.now.versions version_of in
     let stored = ap (λ (vs : List Version). length vs) c.versions-versions.ensures in
     omega (arith, within, many, stored)
 
-pub back_to-requires-clause-pieces : goal.back_to-requires-clause-pieces
-back_to-requires-clause-pieces g c =
-    let parts : List Part = c.args.route.now.earlier.items in
+pub to-requires-clause-there : goal.to-requires-clause-there
+to-requires-clause-there g c =
+    let parts : List Part = c.args.parts.now in
     let i : ℕ = c.loop-part.part-index in
     let p : Part = c.part-item.result in
-    let below : i < length parts = within_same c.deref-part-items.result.now parts
-    c.deref-part-items.ensures.value i p c.loop-part-test.true in
-    let is : p ≡ get_or parts i p = at_same c.deref-part-items.result.now parts
-    c.deref-part-items.ensures.value i p c.part-item.is in
+    let below : i < length parts = c.loop-part-test.true in
+    let is : p ≡ get_or parts i p = c.part-item.is in
+    let within = c.requires.along.there p (among_taken parts i p below is) in
+    let many = length-map c.args.groups.now.versions version_of in
+    let stored = ap (λ (vs : List Version). length vs) c.versions-versions.ensures in
+    omega (arith, within, many, stored)
+
+pub to-requires-clause-pieces : goal.to-requires-clause-pieces
+to-requires-clause-pieces g c =
+    let parts : List Part = c.args.parts.now in
+    let i : ℕ = c.loop-part.part-index in
+    let p : Part = c.part-item.result in
+    let below : i < length parts = c.loop-part-test.true in
+    let is : p ≡ get_or parts i p = c.part-item.is in
     let same : versions_of c.versions-versions.result.now ≡ versions_in c.args.groups.now =
     ap (λ (vs : List Version). map version_of vs) c.versions-versions.ensures in
-    back_ready c.args.groups.now (book_of (λ r.
+    let next = next_away parts i p below is c.args.asked c.loop-part.walk.version
+    c.loop-part.invariant.way in
+    ready_here c.args.groups.now (book_of (λ r.
     (goal.Rule-dyn g (r.vtable, r.value)).handles r.value)
     (λ r. (goal.Rule-dyn g (r.vtable, r.value)).answers r.value) c.args.book.now.rules.items)
-    (versions_of c.versions-versions.result.now) same c.args.route.now c.requires.route
-    c.args.table.now (read_asked c.args.question.now) c.requires.read c.loop-part.walk.version
-    (pieces_of c.loop-part.walk.pieces.items) c.loop-part.invariant.there
+    (versions_of c.versions-versions.result.now) same c.args.asked c.args.table.now
+    (read_asked c.args.question.now) parts c.requires.along c.loop-part.walk.version
+    (pieces_of c.loop-part.walk.pieces.items) p (among_taken parts i p below is) next.0
     c.loop-part.invariant.stand
 
 pub part_pieces-requires-clause-there : goal.part_pieces-requires-clause-there
 part_pieces-requires-clause-there g c =
-    let parts : List Part = c.args.route.now.earlier.items in
+    let parts : List Part = c.args.parts.now in
     let i : ℕ = c.loop-part.part-index in
     let p : Part = c.part-item.result in
-    let below : i < length parts = within_same c.deref-part-items.result.now parts
-    c.deref-part-items.ensures.value i p c.loop-part-test.true in
-    let is : p ≡ get_or parts i p = at_same c.deref-part-items.result.now parts
-    c.deref-part-items.ensures.value i p c.part-item.is in
-    let own = c.requires.route.earlier p (among_taken parts i p below is) in
-    let within = own.there in
+    let below : i < length parts = c.loop-part-test.true in
+    let is : p ≡ get_or parts i p = c.part-item.is in
+    let within = c.requires.along.there p (among_taken parts i p below is) in
     let many = length-map c.args.groups.now.versions version_of in
     omega (arith, within, many)
 
 pub part_pieces-requires-clause-typed : goal.part_pieces-requires-clause-typed
 part_pieces-requires-clause-typed g c =
-    let parts : List Part = c.args.route.now.earlier.items in
+    let parts : List Part = c.args.parts.now in
     let i : ℕ = c.loop-part.part-index in
     let p : Part = c.part-item.result in
-    let below : i < length parts = within_same c.deref-part-items.result.now parts
-    c.deref-part-items.ensures.value i p c.loop-part-test.true in
-    let is : p ≡ get_or parts i p = at_same c.deref-part-items.result.now parts
-    c.deref-part-items.ensures.value i p c.part-item.is in
+    let below : i < length parts = c.loop-part-test.true in
+    let is : p ≡ get_or parts i p = c.part-item.is in
+    let next = next_away parts i p below is c.args.asked c.loop-part.walk.version
+    c.loop-part.invariant.way in
     let same : versions_of c.versions-versions.result.now ≡ versions_in c.args.groups.now =
     ap (λ (vs : List Version). map version_of vs) c.versions-versions.ensures in
     let stand : StandFor (book_of (λ r. (goal.Rule-dyn g (r.vtable, r.value)).handles r.value)
     (λ r. (goal.Rule-dyn g (r.vtable, r.value)).answers r.value) c.args.book.now.rules.items)
-    (versions_of c.versions-versions.result.now) p.1 c.args.route.now.asked c.args.table.now
+    (versions_of c.versions-versions.result.now) p.1 c.args.asked c.args.table.now
     (read_asked c.args.question.now) (pieces_of c.in_ok-walk.walk.pieces.items) =
-    c.in_ok-walk.ensures.pieces c.args.route.now.asked c.args.table.now
-    (read_asked c.args.question.now) c.loop-part.invariant.there c.loop-part.invariant.stand in
+    c.in_ok-walk.ensures.pieces c.args.asked c.args.table.now (read_asked c.args.question.now)
+    next.0
+    (kept_here c.args.groups.now (book_of (λ r.
+    (goal.Rule-dyn g (r.vtable, r.value)).handles r.value)
+    (λ r. (goal.Rule-dyn g (r.vtable, r.value)).answers r.value) c.args.book.now.rules.items)
+    (versions_of c.versions-versions.result.now) same c.args.asked c.args.table.now
+    (read_asked c.args.question.now) parts c.requires.along p (among_taken parts i p below is))
+    c.loop-part.invariant.stand in
     subst (λ (ps : List Piece). AllTyped (tables_from no_tables (versions_in c.args.groups.now) p.1)
     (pieces_of ps)) (sym c.deref-in-loop-part.ensures.value)
     (here_typed c.args.groups.now (book_of (λ r.
     (goal.Rule-dyn g (r.vtable, r.value)).handles r.value)
     (λ r. (goal.Rule-dyn g (r.vtable, r.value)).answers r.value) c.args.book.now.rules.items)
-    (versions_of c.versions-versions.result.now) same c.args.route.now c.requires.route
-    c.args.table.now (read_asked c.args.question.now) c.requires.read c.known.ensures p.1
+    (versions_of c.versions-versions.result.now) same c.args.asked c.args.table.now
+    (read_asked c.args.question.now) parts c.requires.along c.known.ensures p.1
     (pieces_of c.in_ok-walk.walk.pieces.items) stand)
 
 pub loop-part-preserved : goal.loop-part-preserved
 loop-part-preserved g c =
-    let parts : List Part = c.args.route.now.earlier.items in
+    let parts : List Part = c.args.parts.now in
     let i : ℕ = c.loop-part.part-index in
     let p : Part = c.part-item.result in
-    let below : i < length parts = within_same c.deref-part-items.result.now parts
-    c.deref-part-items.ensures.value i p c.loop-part-test.true in
-    let is : p ≡ get_or parts i p = at_same c.deref-part-items.result.now parts
-    c.deref-part-items.ensures.value i p c.part-item.is in
-    let next = back_next parts i p below is c.loop-part.walk.version c.loop-part.invariant.order in
+    let below : i < length parts = c.loop-part-test.true in
+    let is : p ≡ get_or parts i p = c.part-item.is in
+    let next = next_away parts i p below is c.args.asked c.loop-part.walk.version
+    c.loop-part.invariant.way in
     let same : versions_of c.versions-versions.result.now ≡ versions_in c.args.groups.now =
     ap (λ (vs : List Version). map version_of vs) c.versions-versions.ensures in
     let stand : StandFor (book_of (λ r. (goal.Rule-dyn g (r.vtable, r.value)).handles r.value)
     (λ r. (goal.Rule-dyn g (r.vtable, r.value)).answers r.value) c.args.book.now.rules.items)
-    (versions_of c.versions-versions.result.now) p.1 c.args.route.now.asked c.args.table.now
+    (versions_of c.versions-versions.result.now) p.1 c.args.asked c.args.table.now
     (read_asked c.args.question.now) (pieces_of c.in_ok-walk.walk.pieces.items) =
-    c.in_ok-walk.ensures.pieces c.args.route.now.asked c.args.table.now
-    (read_asked c.args.question.now) c.loop-part.invariant.there c.loop-part.invariant.stand in
-    let first = next.0 in
+    c.in_ok-walk.ensures.pieces c.args.asked c.args.table.now (read_asked c.args.question.now)
+    next.0
+    (kept_here c.args.groups.now (book_of (λ r.
+    (goal.Rule-dyn g (r.vtable, r.value)).handles r.value)
+    (λ r. (goal.Rule-dyn g (r.vtable, r.value)).answers r.value) c.args.book.now.rules.items)
+    (versions_of c.versions-versions.result.now) same c.args.asked c.args.table.now
+    (read_asked c.args.question.now) parts c.requires.along p (among_taken parts i p below is))
+    c.loop-part.invariant.stand in
+    let within = c.requires.along.there p (among_taken parts i p below is) in
     let r = read_asked c.args.question.now in
     let x = c.in_ok-part_pieces.field-0 in
     record {
-      there = omega (arith, c.in_ok-walk.ensures.version, first, c.loop-part.invariant.there);
-      order = subst (λ (v : ℕ). DescendFrom v (drop (i + 1) parts))
+      there = omega (arith, c.in_ok-walk.ensures.version, within);
+      way = subst (λ (v : ℕ). LeadAway c.args.asked v (drop (i + 1) parts))
           (sym c.in_ok-walk.ensures.version) next.1;
       stand = subst (λ (v : ℕ). StandFor (book_of
           (λ r. (goal.Rule-dyn g (r.vtable, r.value)).handles r.value)
           (λ r. (goal.Rule-dyn g (r.vtable, r.value)).answers r.value) c.args.book.now.rules.items)
-          (versions_of c.versions-versions.result.now) v c.args.route.now.asked c.args.table.now
+          (versions_of c.versions-versions.result.now) v c.args.asked c.args.table.now
           (read_asked c.args.question.now) (pieces_of c.in_ok-walk.walk.pieces.items))
           (sym c.in_ok-walk.ensures.version) stand;
       planned = subst (λ (ps : List Part). ArePlanned
           (book_of (λ r. (goal.Rule-dyn g (r.vtable, r.value)).handles r.value)
           (λ r. (goal.Rule-dyn g (r.vtable, r.value)).answers r.value) c.args.book.now.rules.items)
-          (versions_in c.args.groups.now) c.args.route.now.asked c.args.table.now r ps
+          (versions_in c.args.groups.now) c.args.asked c.args.table.now r ps
           c.push.new.self.items) (sym (taken_is parts i p below is))
           (planned_last (book_of (λ r. (goal.Rule-dyn g (r.vtable, r.value)).handles r.value)
           (λ r. (goal.Rule-dyn g (r.vtable, r.value)).answers r.value)
-          c.args.book.now.rules.items) (versions_in c.args.groups.now) c.args.route.now.asked
+          c.args.book.now.rules.items) (versions_in c.args.groups.now) c.args.asked
           c.args.table.now r (take i parts) p c.loop-part.plan.items c.push.new.self.items x
           c.in_ok-push.ensures.items c.loop-part.invariant.planned
           (one_planned (book_of (λ r. (goal.Rule-dyn g (r.vtable, r.value)).handles r.value)
           (λ r. (goal.Rule-dyn g (r.vtable, r.value)).answers r.value)
-          c.args.book.now.rules.items) (versions_in c.args.groups.now) c.args.route.now.asked
+          c.args.book.now.rules.items) (versions_in c.args.groups.now) c.args.asked
           c.args.table.now r p x (pieces_of c.deref-in-loop-part.result.now)
           c.in_ok-part_pieces.ensures.part
           (ap pieces_of c.deref-in-loop-part.ensures.value
@@ -179,20 +179,18 @@ loop-part-preserved g c =
           (book_of (λ r. (goal.Rule-dyn g (r.vtable, r.value)).handles r.value)
           (λ r. (goal.Rule-dyn g (r.vtable, r.value)).answers r.value)
           c.args.book.now.rules.items) (versions_of c.versions-versions.result.now) same
-          c.args.route.now c.requires.route c.args.table.now r c.requires.read p.1
+          c.args.asked c.args.table.now r parts c.requires.along p.1
           (pieces_of c.in_ok-walk.walk.pieces.items) stand).unfolded)
           c.in_ok-part_pieces.ensures.living c.in_ok-part_pieces.ensures.told));
     }
 
 pub returns : goal.returns
 returns g c =
-    let parts : List Part = c.args.route.now.earlier.items in
+    let parts : List Part = c.args.parts.now in
     subst (λ (ps : List Part). ArePlanned (book_of
     (λ r. (goal.Rule-dyn g (r.vtable, r.value)).handles r.value)
     (λ r. (goal.Rule-dyn g (r.vtable, r.value)).answers r.value) c.args.book.now.rules.items)
-    (versions_in c.args.groups.now) c.args.route.now.asked c.args.table.now
+    (versions_in c.args.groups.now) c.args.asked c.args.table.now
     (read_asked c.args.question.now) ps c.loop-part.plan.items)
-    (sym (ap (λ (ps : List Part). take c.loop-part.part-index ps)
-    c.deref-part-items.ensures.value) ∙ take_all c.loop-part.part-index
-    c.deref-part-items.result.now c.loop-part-test.false ∙ c.deref-part-items.ensures.value)
+    (take_all c.loop-part.part-index c.args.parts.now c.loop-part-test.false)
     c.loop-part.invariant.planned

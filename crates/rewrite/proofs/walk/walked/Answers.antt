@@ -1,22 +1,26 @@
-use Rattle.std.proofs.Common.{arith}
+use Rattle.std.proofs.Common.{◌≡◌, arith}
 use Rattle.cond_expr.specs.Seen.{test}
 use Rattle.smo_types.specs.Commands.{versions_of}
 use Rattle.piece_meaning.specs.Books.{book_of}
 use Rattle.piece_ir.specs.Shown.{pieces_of}
+use Rattle.rewrite.specs.WalkedPieces.{LeadsAway}
 use Rattle.rewrite_chains.specs.Beginnings.{asking}
 use Rattle.rewrite_chains.proofs.UnfoldedPieceLaws.{stand_first}
-use Rattle.rewrite.proofs.walk.walked_on.Goals as goal
+use Rattle.rewrite.proofs.walk.walked.Goals as goal
 
-pub on_to-requires-clause-order : goal.on_to-requires-clause-order
-on_to-requires-clause-order g c = omega (arith, c.in_ok-start.ensures.version, c.requires.order)
+pub to-requires-clause-here : goal.to-requires-clause-here
+to-requires-clause-here g c = omega (arith, c.in_ok-start.ensures.version, c.requires.asked)
 
-pub on_to-requires-clause-pieces : goal.on_to-requires-clause-pieces
-on_to-requires-clause-pieces g c = record {
+pub to-requires-clause-pieces : goal.to-requires-clause-pieces
+to-requires-clause-pieces g c = record {
   asked = c.args.asked;
   table = c.args.table.now;
   read = asking (test c.args.cond.now) c.args.columns.now;
-  order = omega (arith, c.in_ok-start.ensures.version);
-  question = c.requires.asked;
+  way = record {
+    back = λ l. omega (arith, c.in_ok-start.ensures.version);
+    on = λ l. omega (arith, c.in_ok-start.ensures.version);
+  };
+  question = c.requires.question;
   kept = c.requires.kept;
   stand = stand_first (book_of (λ r. (goal.Rule-dyn g (r.vtable, r.value)).handles r.value)
       (λ r. (goal.Rule-dyn g (r.vtable, r.value)).answers r.value) c.args.book.now.rules.items)
@@ -28,9 +32,12 @@ on_to-requires-clause-pieces g c = record {
 
 pub returns : goal.returns
 returns g c =
+    let way : LeadsAway c.args.asked c.in_ok-start.start.version c.args.stored = record {
+      back = λ l. omega (arith, c.in_ok-start.ensures.version);
+      on = λ l. omega (arith, c.in_ok-start.ensures.version);
+    } in
     c.in_ok-walk.ensures.pieces c.args.asked c.args.table.now
-    (asking (test c.args.cond.now) c.args.columns.now)
-    (omega (arith, c.in_ok-start.ensures.version)) c.requires.kept
+    (asking (test c.args.cond.now) c.args.columns.now) way c.requires.kept
     (stand_first (book_of (λ r. (goal.Rule-dyn g (r.vtable, r.value)).handles r.value)
     (λ r. (goal.Rule-dyn g (r.vtable, r.value)).answers r.value) c.args.book.now.rules.items)
     (versions_of c.args.versions.now) c.in_ok-start.start.version c.args.asked c.args.table.now

@@ -1,24 +1,24 @@
-use Rattle.std.proofs.Common.{◌≤◌, take, drop}
+use Rattle.std.proofs.Common.{◌≤◌, length, take, drop}
 use Rattle.smo_types.specs.Commands.{versions_of}
 use Rattle.version_groups.specs.Groups.{versions_in}
 use Rattle.piece_meaning.specs.Books.{book_of}
 use Rattle.piece_ir.specs.Shown.{pieces_of}
 use Rattle.rewrite_chains.specs.UnfoldedPieces.{StandFor}
-use Rattle.period_split.specs.Splitting.{AscendFrom}
+use Rattle.query_exec.specs.Routes.{LeadAway}
 use Rattle.query_exec.specs.Asked.{read_asked}
 use Rattle.query_exec.specs.Planned.{ArePlanned}
-use Rattle.query_exec.proofs.walk.pieces_on.Given as goal
+use Rattle.query_exec.proofs.walk.pieces_along.Given as goal
 
 abbrev pub invariant-loop-part : goal.invariant-loop-part
 invariant-loop-part g l = record {
-  there : l.route.asked ≤ l.walk.version;
-  order : AscendFrom l.walk.version (drop l.part-index l.route.later.items);
+  there : l.walk.version ≤ length (versions_in l.groups);
+  way : LeadAway l.asked l.walk.version (drop l.part-index l.parts);
   stand : StandFor (book_of (λ r. (goal.Rule-dyn g (r.vtable, r.value)).handles r.value)
       (λ r. (goal.Rule-dyn g (r.vtable, r.value)).answers r.value) l.book.rules.items)
-      (versions_of l.versions) l.walk.version l.route.asked l.fn.table (read_asked l.question)
+      (versions_of l.versions) l.walk.version l.asked l.fn.table (read_asked l.question)
       (pieces_of l.walk.pieces.items);
   planned : ArePlanned (book_of (λ r. (goal.Rule-dyn g (r.vtable, r.value)).handles r.value)
       (λ r. (goal.Rule-dyn g (r.vtable, r.value)).answers r.value) l.book.rules.items)
-      (versions_in l.groups) l.route.asked l.fn.table (read_asked l.question)
-      (take l.part-index l.route.later.items) l.plan.items;
+      (versions_in l.groups) l.asked l.fn.table (read_asked l.question)
+      (take l.part-index l.parts) l.plan.items;
 }
