@@ -30,12 +30,12 @@ on_to-requires-clause-pieces g c =
       stand = h.stand;
     }
 
-pub returns-then-version-lt-here-clause-pieces : goal.returns-then-version-lt-here-clause-pieces
-returns-then-version-lt-here-clause-pieces g c = λ q table r way kept begin.
+pub returns-then-version-here-clause-pieces : goal.returns-then-version-here-clause-pieces
+returns-then-version-here-clause-pieces g c = λ q table r way kept begin.
     c.back_to.ensures.pieces q table r (way.back (omega arith)) begin
 
-pub returns-then-here-lt-version-clause-pieces : goal.returns-then-here-lt-version-clause-pieces
-returns-then-here-lt-version-clause-pieces g c = λ q table r way kept begin.
+pub returns-then-here-version-clause-pieces : goal.returns-then-here-version-clause-pieces
+returns-then-here-version-clause-pieces g c = λ q table r way kept begin.
     c.on_to.ensures.pieces q table r (way.on (omega arith)) kept begin
 
 pub returns-clause-pieces : goal.returns-clause-pieces
