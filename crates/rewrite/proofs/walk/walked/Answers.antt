@@ -1,4 +1,4 @@
-use Rattle.std.proofs.Common.{◌≡◌, arith}
+use Rattle.std.proofs.Common.{arith}
 use Rattle.cond_expr.specs.Seen.{test}
 use Rattle.smo_types.specs.Commands.{versions_of}
 use Rattle.piece_meaning.specs.Books.{book_of}
