@@ -132,7 +132,7 @@ module _ (kept : Kept) (book : Book) (versions : List PlainVersion)
     read = r;
     way = way;
     question = asked_here;
-    kept = kept_here p i;
+    kept = λ on. kept_here p i;
     stand = h;
   }
 

@@ -185,8 +185,8 @@ impl Walk {
     }
 
     /// To another version, or to the same, one at a time. The pieces stand for what is asked of a
-    /// table of a version from which the way leads away, and from which the table is not lost up
-    /// to its end. The one error is `NoMemory`, where memory runs out.
+    /// table of a version from which the way leads away; where the way goes on, the table is not
+    /// lost from there up to its end. The one error is `NoMemory`, where memory runs out.
     pub fn to(
         self,
         book: &RuleBook,
@@ -203,7 +203,8 @@ impl Walk {
         ensures version { IfOk result (λ w. w.version ≡ version) }
         ensures pieces { (q : ℕ) → (table : List ℕ) → (r : Read)
             → LeadsAway q self.version version
-            → get (lost_names (versions_of versions.now) version q) table ≡ None
+            → (self.version < version
+            → get (lost_names (versions_of versions.now) version q) table ≡ None)
             → StandFor (meaning_of book.now.rules.items (λ r. handles (r.vtable, r.value))
             (λ r. answers (r.vtable, r.value))) (versions_of versions.now) self.version q table r
             (pieces_of self.pieces.items)

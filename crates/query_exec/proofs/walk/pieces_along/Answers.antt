@@ -108,7 +108,7 @@ part_pieces-requires-clause-typed g c =
     (read_asked c.args.question.now) (pieces_of c.in_ok-walk.walk.pieces.items) =
     c.in_ok-walk.ensures.pieces c.args.asked c.args.table.now (read_asked c.args.question.now)
     next.0
-    (kept_here c.args.groups.now (book_of (λ r.
+    (λ on. kept_here c.args.groups.now (book_of (λ r.
     (goal.Rule-dyn g (r.vtable, r.value)).handles r.value)
     (λ r. (goal.Rule-dyn g (r.vtable, r.value)).answers r.value) c.args.book.now.rules.items)
     (versions_of c.versions-versions.result.now) same c.args.asked c.args.table.now
@@ -140,7 +140,7 @@ loop-part-preserved g c =
     (read_asked c.args.question.now) (pieces_of c.in_ok-walk.walk.pieces.items) =
     c.in_ok-walk.ensures.pieces c.args.asked c.args.table.now (read_asked c.args.question.now)
     next.0
-    (kept_here c.args.groups.now (book_of (λ r.
+    (λ on. kept_here c.args.groups.now (book_of (λ r.
     (goal.Rule-dyn g (r.vtable, r.value)).handles r.value)
     (λ r. (goal.Rule-dyn g (r.vtable, r.value)).answers r.value) c.args.book.now.rules.items)
     (versions_of c.versions-versions.result.now) same c.args.asked c.args.table.now

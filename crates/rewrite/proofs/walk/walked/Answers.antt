@@ -21,7 +21,7 @@ to-requires-clause-pieces g c = record {
     on = λ l. omega (arith, c.in_ok-start.ensures.version);
   };
   question = c.requires.question;
-  kept = c.requires.kept;
+  kept = λ on. c.requires.kept;
   stand = stand_first (book_of (λ r. (goal.Rule-dyn g (r.vtable, r.value)).handles r.value)
       (λ r. (goal.Rule-dyn g (r.vtable, r.value)).answers r.value) c.args.book.now.rules.items)
       (versions_of c.args.versions.now) c.in_ok-start.start.version c.args.asked c.args.table.now
@@ -37,7 +37,7 @@ returns g c =
       on = λ l. omega (arith, c.in_ok-start.ensures.version);
     } in
     c.in_ok-walk.ensures.pieces c.args.asked c.args.table.now
-    (asking (test c.args.cond.now) c.args.columns.now) way c.requires.kept
+    (asking (test c.args.cond.now) c.args.columns.now) way (λ on. c.requires.kept)
     (stand_first (book_of (λ r. (goal.Rule-dyn g (r.vtable, r.value)).handles r.value)
     (λ r. (goal.Rule-dyn g (r.vtable, r.value)).answers r.value) c.args.book.now.rules.items)
     (versions_of c.args.versions.now) c.in_ok-start.start.version c.args.asked c.args.table.now

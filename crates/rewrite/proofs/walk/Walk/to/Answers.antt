@@ -26,7 +26,7 @@ on_to-requires-clause-pieces g c =
       read = h.read;
       order = h.way.on (omega arith);
       question = h.question;
-      kept = h.kept;
+      kept = h.kept (omega arith);
       stand = h.stand;
     }
 
@@ -36,7 +36,7 @@ returns-then-version-here-clause-pieces g c = λ q table r way kept begin.
 
 pub returns-then-here-version-clause-pieces : goal.returns-then-here-version-clause-pieces
 returns-then-here-version-clause-pieces g c = λ q table r way kept begin.
-    c.on_to.ensures.pieces q table r (way.on (omega arith)) kept begin
+    c.on_to.ensures.pieces q table r (way.on (omega arith)) (kept (omega arith)) begin
 
 pub returns-clause-pieces : goal.returns-clause-pieces
 returns-clause-pieces g c = λ q table r way kept begin.
