@@ -17,8 +17,8 @@ pieces_along-requires-clause-along g c =
     (back_along (versions_in c.args.groups.now) c.args.route.now c.requires.route c.args.table.now
     (read_asked c.args.question.now) c.requires.read)
 
-pub pieces_along-2-requires-clause-along : goal.pieces_along-2-requires-clause-along
-pieces_along-2-requires-clause-along g c =
+pub pieces_along-requires-2-clause-along : goal.pieces_along-requires-2-clause-along
+pieces_along-requires-2-clause-along g c =
     subst (AreAlong (versions_in c.args.groups.now) c.args.route.now.asked c.args.table.now
     (read_asked c.args.question.now)) (sym c.deref-2.ensures.value)
     (on_along (versions_in c.args.groups.now) c.args.route.now c.requires.route c.args.table.now
