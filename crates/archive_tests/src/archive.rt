@@ -1,9 +1,10 @@
-//! An archive through its own calls: a query reads by the counter that it is given, the texts of
-//! plain columns are borrowed from what the archive keeps, on each version and over joins, and
-//! those that are computed are not. Its versions are asked in `version.rt`.
+//! An archive's state through its own calls: the texts of plain columns are borrowed from what the
+//! archive keeps, on each version and over joins, and those that are computed are not. Its versions
+//! are asked in `version.rt`, and how often a query reads in `counter.rt`.
 ghost use Rattle.std.specs.Prelude.{◌≡◌, ◌<◌};
 ghost use Rattle.rewrite.specs.Books.{EachOf};
 
+use crate::counter::reads_are_counted;
 use crate::version::{tables_over_versions, versions_in_force};
 use answer_text::Listing;
 use archive_state::{ArchiveState, AskFault};
@@ -11,11 +12,20 @@ use lexer::tokens;
 use prima_base::{FOREVER, Period, Steps, TimedRow, Val};
 use rewrite_rules::{Rule, RuleBook, push_every_rule};
 use script_parse::{Statement, next_statement};
+use smo_types::Command;
 use std::alloc::Global;
 use std::marker::Brand;
 use std::sync::ledger::{Blank, Ledger};
 use std::test::Fail;
 use temporal_lang::{Query, parse_query};
+
+/// The commands that make a row which is changed, in a table that has another name in version 2.
+pub(crate) const FILLING: [&str; 4] = [
+    "AT 1 EVOLVE CREATE TABLE t (a INT, b TEXT)",
+    "AT 5 INSERT INTO t (a, b) VALUES (1, 'x')",
+    "AT 7 UPDATE t SET b = 'y' WHERE a = 1",
+    "AT 9 EVOLVE RENAME TABLE t INTO u INVERSE RENAME TABLE u INTO t",
+];
 
 // The statement of this text.
 fn statement(alloc: Global, text: &str) -> Result<Statement, Fail> {
@@ -28,19 +38,25 @@ fn statement(alloc: Global, text: &str) -> Result<Statement, Fail> {
     }
 }
 
+/// The command of this text.
+pub(crate) fn command_of(alloc: Global, text: &str) -> Result<Command, Fail> {
+    match statement(alloc, text)? {
+        Statement::Write(command) => Ok(command),
+        _ => Err(Fail::new("the text is a command")),
+    }
+}
+
 // Commits the command of this text, which is accepted.
 fn commit(alloc: Global, archive: &mut ArchiveState, text: &str) -> Result<(), Fail> {
-    let Statement::Write(command) = statement(alloc, text)? else {
-        return Err(Fail::new("the text is a command"));
-    };
+    let command = command_of(alloc, text)?;
     match archive.commit(command) {
         Ok(_done) => Ok(()),
         Err(_) => Err(Fail::new("each command is accepted")),
     }
 }
 
-// The query of this text, which is all that stands after its first word.
-fn query_of(alloc: Global, text: &str) -> Result<Query, Fail> {
+/// The query of this text, which is all that stands after its first word.
+pub(crate) fn query_of(alloc: Global, text: &str) -> Result<Query, Fail> {
     if text.len() > 1000 {
         return Err(Fail::new("a short text"));
     }
@@ -61,22 +77,20 @@ fn query_of(alloc: Global, text: &str) -> Result<Query, Fail> {
     }
 }
 
-// What the archive answers to the query, and how many steps of reading it took, by a counter of the
-// ledger.
+// What the archive answers to the query, with a counter of the ledger.
 fn answer_by<'a, L: Ledger>(
     archive: &'a ArchiveState,
     book: &RuleBook,
     query: &Query,
     blank: Blank,
-) -> Result<(Listing<'a>, u64), AskFault>
+) -> Result<Listing<'a>, AskFault>
     requires each { EachOf book.now.rules.items (λ r. handles (r.vtable, r.value)) }
     requires name { blank.name ≡ L.name }
     requires parts { blank.parts ≡ L.parts }
     requires some { 0 < blank.parts }
 {
     let mut steps: Steps<L> = Steps::new(blank);
-    let listing = archive.query(book, query, &mut steps)?;
-    Ok((listing, steps.count()))
+    archive.query(book, query, &mut steps)
 }
 
 // The same for the query of this text.
@@ -85,12 +99,12 @@ fn ask<'a>(
     archive: &'a ArchiveState,
     book: &RuleBook,
     text: &str,
-) -> Result<(Listing<'a>, u64), Fail>
+) -> Result<Listing<'a>, Fail>
     requires { EachOf book.now.rules.items (λ r. handles (r.vtable, r.value)) }
 {
     let query = query_of(alloc, text)?;
     match answer_by::<Brand>(archive, book, &query, Blank::new(1)) {
-        Ok(answer) => Ok(answer),
+        Ok(listing) => Ok(listing),
         Err(_) => Err(Fail::new("the query is answered")),
     }
 }
@@ -113,24 +127,10 @@ fn is_made(value: &Val<'_>, text: &[u8]) -> bool {
 
 // Fills the archive with a row that was changed, in a table that has another name in version 2.
 fn fill(alloc: Global, archive: &mut ArchiveState) -> Result<(), Fail> {
-    let create = "AT 1 EVOLVE CREATE TABLE t (a INT, b TEXT)";
-    let rename = "AT 9 EVOLVE RENAME TABLE t INTO u INVERSE RENAME TABLE u INTO t";
-    commit(alloc, archive, create)?;
-    commit(alloc, archive, "AT 5 INSERT INTO t (a, b) VALUES (1, 'x')")?;
-    commit(alloc, archive, "AT 7 UPDATE t SET b = 'y' WHERE a = 1")?;
-    commit(alloc, archive, rename)
-}
-
-// The counter that a query is given has the steps of what it read.
-fn keys_are_counted(alloc: Global, archive: &ArchiveState, book: &RuleBook) -> Result<(), Fail>
-    requires { EachOf book.now.rules.items (λ r. handles (r.vtable, r.value)) }
-{
-    let (listing, count) = ask(alloc, archive, book, "QUERY VERSION 2 SELECT a FROM u")?;
-    // A key and an entry of the one row, in each of the tables that it has stood in.
-    if listing.rows.len() == 1 && 2 <= count && count <= 4 {
-        return Ok(());
+    for text in FILLING {
+        commit(alloc, archive, text)?;
     }
-    Err(Fail::new("a key and an entry of the one row are read, in each table"))
+    Ok(())
 }
 
 // The one value of a row.
@@ -145,7 +145,7 @@ fn only_value<'a, 'b>(row: &'b TimedRow<'a>) -> Result<&'b Val<'a>, Fail> {
 fn texts_are_borrowed(alloc: Global, archive: &ArchiveState, book: &RuleBook) -> Result<(), Fail>
     requires { EachOf book.now.rules.items (λ r. handles (r.vtable, r.value)) }
 {
-    let (listing, _) = ask(alloc, archive, book, "QUERY VERSION 1 SELECT b FROM t")?;
+    let listing = ask(alloc, archive, book, "QUERY VERSION 1 SELECT b FROM t")?;
     let [first, second] = listing.rows.as_slice() else {
         return Err(Fail::new("the row has two periods"));
     };
@@ -163,7 +163,7 @@ fn computed_text_is_made(alloc: Global, archive: &ArchiveState, book: &RuleBook)
     requires { EachOf book.now.rules.items (λ r. handles (r.vtable, r.value)) }
 {
     let text = "QUERY VERSION 2 SELECT p.b, CONCAT(q.b, '!') FROM u p, u q AS OF 9";
-    let (listing, _) = ask(alloc, archive, book, text)?;
+    let listing = ask(alloc, archive, book, text)?;
     let [row] = listing.rows.as_slice() else {
         return Err(Fail::new("one row holds at the moment"));
     };
@@ -199,7 +199,7 @@ fn text_beside_a_computed_one(
     let add = "AT 11 EVOLVE ADD COLUMN c AS 'unknown' INTO u INVERSE DROP COLUMN c FROM u";
     commit(alloc, archive, add)?;
     let text = "QUERY VERSION 3 SELECT b, c FROM u AS OF 10";
-    let (listing, _) = ask(alloc, archive, book, text)?;
+    let listing = ask(alloc, archive, book, text)?;
     if just_computed_is_made(&listing) {
         return Ok(());
     }
@@ -215,7 +215,7 @@ fn joined_texts_are_borrowed(
     requires { EachOf book.now.rules.items (λ r. handles (r.vtable, r.value)) }
 {
     let text = "QUERY VERSION 2 SELECT p.b FROM u p, u q WHERE p.b = q.b AS OF 9";
-    let (listing, _) = ask(alloc, archive, book, text)?;
+    let listing = ask(alloc, archive, book, text)?;
     let [row] = listing.rows.as_slice() else {
         return Err(Fail::new("one row holds at the moment"));
     };
@@ -256,7 +256,7 @@ fn texts_of_a_later_version(
         "AT 12 INSERT INTO u (a, b, c) VALUES (2, 'z', 'kept')",
     )?;
     let text = "QUERY VERSION 3 SELECT b, c FROM u WHERE b = 'x' OR b = 'z'";
-    let (listing, _) = ask(alloc, archive, book, text)?;
+    let listing = ask(alloc, archive, book, text)?;
     let [older, later] = listing.rows.as_slice() else {
         return Err(Fail::new("each of two texts has one period"));
     };
@@ -275,7 +275,7 @@ fn texts_beside_a_computed_branch(
     requires { EachOf book.now.rules.items (λ r. handles (r.vtable, r.value)) }
 {
     let text = "QUERY VERSION 3 SELECT CONCAT(c, '!') FROM u UNION SELECT b FROM u AS OF 12";
-    let (listing, _) = ask(alloc, archive, book, text)?;
+    let listing = ask(alloc, archive, book, text)?;
     let [kept, unknown, y, z] = listing.rows.as_slice() else {
         return Err(Fail::new("each branch answers two rows"));
     };
@@ -295,7 +295,7 @@ fn chosen_texts_are_borrowed(
     requires { EachOf book.now.rules.items (λ r. handles (r.vtable, r.value)) }
 {
     let text = "QUERY VERSION 3 SELECT CASE WHEN a = 1 THEN b ELSE c END FROM u AS OF 12";
-    let (listing, _) = ask(alloc, archive, book, text)?;
+    let listing = ask(alloc, archive, book, text)?;
     let [kept, y] = listing.rows.as_slice() else {
         return Err(Fail::new("two rows hold at the moment"));
     };
@@ -317,7 +317,7 @@ fn an_archive_answers(rt: HostRuntime) -> Result<(), Fail> {
     fill(alloc, &mut archive)?;
     versions_in_force(&archive)?;
     tables_over_versions(alloc, &archive, &book)?;
-    keys_are_counted(alloc, &archive, &book)?;
+    reads_are_counted(alloc, &book)?;
     texts_are_borrowed(alloc, &archive, &book)?;
     computed_text_is_made(alloc, &archive, &book)?;
     joined_texts_are_borrowed(alloc, &archive, &book)?;

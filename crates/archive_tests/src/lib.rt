@@ -7,4 +7,6 @@
 #[cfg(test)]
 mod archive;
 #[cfg(test)]
+mod counter;
+#[cfg(test)]
 mod version;
