@@ -6,8 +6,10 @@ use Rattle.std.specs.declared.vec.Vec.{Vec}
 use Rattle.std.specs.declared.alloc.Global.{Global}
 use Rattle.schema_catalog.specs.Tables.{Tables}
 use Rattle.cond_expr.specs.Trees.{Tree, Test}
+use Rattle.cond_expr.specs.Sizes.{nodes_of, test_nodes}
 use Rattle.cond_expr.specs.Kinds.{Kinds, kind_of}
 use Rattle.cond_expr.specs.Faults.{untyped, test_untyped, first_of}
+use Rattle.expr_typing.specs.declared.expr_type.TypedExpr.{TypedExpr}
 use Rattle.smo_meaning.specs.First.{first_refusal}
 use Rattle.prima_base.specs.declared.refusal.Refusal.{Refusal}
 use Rattle.prima_base.specs.declared.fault.CallFault.{CallFault}
@@ -17,14 +19,15 @@ use Rattle.plain_answers.specs.Branches.{PlainBranch}
 use Rattle.query_meaning.specs.Checking.{trees_types, outputs_nodes, branch_types, branch_nodes}
 use Rattle.query_meaning.specs.Checking.{types_from, output_kinds}
 
--- the type, where no node is ill-typed; else the place of the first that is, the root being node
--- `at`
-abbrev pub IsTyped : Kinds → ℕ → Tree → Result ColType ℕ → Type 0
-IsTyped of at t (Ok kind) = (kind_of of t ≡ Some kind) × (first_of (untyped of 0 t) ≡ None)
+-- the type and the number of nodes, where no node is ill-typed; else the place of the first that is,
+-- the root being node `at`
+abbrev pub IsTyped : Kinds → ℕ → Tree → Result TypedExpr ℕ → Type 0
+IsTyped of at t (Ok typed) = (kind_of of t ≡ Some typed.kind) × (typed.nodes ≡ nodes_of t)
+    × (first_of (untyped of 0 t) ≡ None)
 IsTyped of at t (Err place) = option_map (λ p. at + p) (first_of (untyped of 0 t)) ≡ Some place
 
-abbrev pub IsTypedTest : Kinds → ℕ → Test → Result (Unit {0}) ℕ → Type 0
-IsTypedTest of at c (Ok u) = first_of (test_untyped of 0 c) ≡ None
+abbrev pub IsTypedTest : Kinds → ℕ → Test → Result ℕ ℕ → Type 0
+IsTypedTest of at c (Ok nodes) = (nodes ≡ test_nodes c) × (first_of (test_untyped of 0 c) ≡ None)
 IsTypedTest of at c (Err place) = option_map (λ p. at + p) (first_of (test_untyped of 0 c))
     ≡ Some place
 

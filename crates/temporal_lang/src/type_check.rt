@@ -18,8 +18,8 @@ use crate::arity::check_arities;
 use crate::atom::columns_of_items;
 use crate::list::{push, with_room};
 use crate::{Branch, QueryFault};
-use cond_expr::{Column, Cond, Expr, cond_size, expr_size};
-use expr_typing::{typed_cond, typed_expr};
+use cond_expr::{Column, Cond, Expr};
+use expr_typing::{TypedExpr, typed_cond, typed_expr};
 use prima_base::{ColType, Refusal};
 use schema_catalog::Schema;
 use std::alloc::Global;
@@ -31,28 +31,30 @@ pub(crate) struct Typed {
     next: u32,
 }
 
-// The type of an expression whose root is node `at`, or the place of its first node that has none.
-fn type_expr(expr: &Expr, columns: &[Column], at: u32) -> Result<ColType, u32>
+// The type of an expression whose root is node `at`, and how many nodes it has; or the place of its
+// first node that has no type.
+fn type_expr(expr: &Expr, columns: &[Column], at: u32) -> Result<TypedExpr, u32>
     requires small { nodes_of (tree expr.now) ≤ 256 }
     requires room { at + nodes_of (tree expr.now) < 2 ^ 32 }
     requires known { first_unknown (kinds_of columns.now) (references (tree expr.now)) ≡ None }
     ensures { IsTyped (kinds_of columns.now) at (tree expr.now) result }
 {
     match typed_expr(expr, columns) {
-        Ok(typed) => Ok(typed.kind),
+        Ok(typed) => Ok(typed),
         Err(place) => Err(at + place),
     }
 }
 
-// The same of a condition.
-fn type_cond(cond: &Cond, columns: &[Column], at: u32) -> Result<(), u32>
+// How many nodes a condition has whose root is node `at` and all of whose nodes are typed, or the
+// place of its first node that is not.
+fn type_cond(cond: &Cond, columns: &[Column], at: u32) -> Result<u32, u32>
     requires small { test_nodes (test cond.now) ≤ 256 }
     requires room { at + test_nodes (test cond.now) < 2 ^ 32 }
     requires known { first_unknown (kinds_of columns.now) (test_references (test cond.now)) ≡ None }
     ensures { IsTypedTest (kinds_of columns.now) at (test cond.now) result }
 {
     match typed_cond(cond, columns) {
-        Ok(_) => Ok(()),
+        Ok(nodes) => Ok(nodes),
         Err(place) => Err(at + place),
     }
 }
@@ -73,11 +75,12 @@ fn type_outputs(
     let mut kinds = with_room(alloc, outs.len())?;
     let mut next = at;
     for out in outs {
-        match type_expr(out, columns, next) {
-            Ok(kind) => push(&mut kinds, kind)?,
+        let typed = match type_expr(out, columns, next) {
+            Ok(typed) => typed,
             Err(place) => return Err(QueryFault::Refused(Refusal::WrongType(place))),
-        }
-        next += expr_size(out).nodes as u32;
+        };
+        push(&mut kinds, typed.kind)?;
+        next += typed.nodes;
     }
     Ok(Typed { kinds, next })
 }
@@ -101,9 +104,9 @@ fn type_branch(
     let columns = columns_of_items(alloc, schema, &branch.from)?;
     let typed = type_outputs(alloc, &branch.outs, &columns, at)?;
     match type_cond(&branch.cond, &columns, typed.next) {
-        Ok(()) => Ok(Typed {
+        Ok(nodes) => Ok(Typed {
             kinds: typed.kinds,
-            next: typed.next + cond_size(&branch.cond).nodes as u32,
+            next: typed.next + nodes,
         }),
         Err(place) => Err(QueryFault::Refused(Refusal::WrongType(place))),
     }

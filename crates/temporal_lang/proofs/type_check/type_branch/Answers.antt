@@ -61,12 +61,11 @@ returns-in-Ok c =
     c.deref-2.ensures.value
     (subst (λ k. OutputsTyped k c.args.at (map tree c.deref-2.result.now)
     (Ok c.in_ok-typed.typed)) of c.in_ok-typed.ensures) in
-    let few = c.requires.small.cond in
-    let least = c.cond_size.ensures.nodes in
+    let cond = c.in-Ok.ensures.0 in
     let outs = typed.1.1 in (
       branch_fine (atom_kinds c.args.schema.now c.args.branch.now.from.items) c.args.at b
-          typed.0 (ap (λ k. first_of (test_untyped k 0 b.cond)) (sym again) ∙ c.in-Ok.ensures),
-      (typed.1.0, omega (arith, few, least, outs)),
+          typed.0 (ap (λ k. first_of (test_untyped k 0 b.cond)) (sym again) ∙ c.in-Ok.ensures.1),
+      (typed.1.0, omega (arith, cond, outs)),
     )
 
 pub returns : goal.returns

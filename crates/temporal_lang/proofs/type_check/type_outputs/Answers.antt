@@ -26,19 +26,17 @@ loop-out-preserved c =
     let x = c.out-item.result in
     let small = small_here of c.args.outs.now i x c.loop-out-test.true c.out-item.is
     c.loop-out.invariant.small in
-    let few = small.0 in
-    let least = c.expr_size.ensures.nodes in
-    let same : c.expr_size.result.nodes ≡ nodes_of (tree x) = omega (arith, few, least) in
+    let same : c.in-Ok.typed.nodes ≡ nodes_of (tree x) = c.in-Ok.ensures.1.0 in
     let before = c.loop-out.invariant.nodes in
     let here = nodes_here of c.args.outs.now i x c.loop-out-test.true c.out-item.is in
     record {
       faults = c.loop-out.invariant.faults
           ∙ outputs_more of c.args.outs.now i x c.loop-out-test.true c.out-item.is c.loop-out.next
-          c.expr_size.result.nodes same c.in-Ok.ensures.1;
+          c.in-Ok.typed.nodes same c.in-Ok.ensures.1.1;
       nodes = omega (arith, before, here, same);
       kinds = mapped_more (kind_of of) tree Some c.args.outs.now i x c.loop-out-test.true
-          c.out-item.is c.loop-out.kinds.items c.in-Ok.kind _ _ c.in-Ok.ensures.0
-          c.in_ok-push-in-Ok.ensures c.loop-out.invariant.kinds;
+          c.out-item.is c.loop-out.kinds.items c.in-Ok.typed.kind _ _ c.in-Ok.ensures.0
+          c.in_ok-push.ensures c.loop-out.invariant.kinds;
       small = small.1;
       known = (known_here of c.args.outs.now i x c.loop-out-test.true c.out-item.is
           c.loop-out.invariant.known).1;
