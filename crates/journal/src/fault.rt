@@ -6,7 +6,7 @@ use prima_base::Failed;
 use std::alloc::{AllocError, AllocFailed};
 
 /// Why a record was not put.
-#[derive(Clone, Copy, Debug, PartialEq, Eq)]
+#[derive(Clone, Copy, PartialEq, Eq)]
 pub enum PutFault {
     /// The record does not fit: the gate's place, the bytes that it needs, and the limit. Nothing
     /// was done.
@@ -24,7 +24,7 @@ impl From<Failed> for PutFault {
 }
 
 /// Why a journal was not mounted.
-#[derive(Clone, Copy, Debug, PartialEq, Eq)]
+#[derive(Clone, Copy, PartialEq, Eq)]
 pub enum JournalFault {
     /// The disk failed, and its count of faults rose.
     Disk,
@@ -59,7 +59,7 @@ impl<T: Drop> From<AllocFailed<T>> for JournalFault {
 }
 
 /// Why the records of a list were not all tried.
-#[derive(Clone, Copy, Debug, PartialEq, Eq)]
+#[derive(Clone, Copy, PartialEq, Eq)]
 pub enum PutsFault {
     /// The journal was not mounted.
     NotMounted(JournalFault),
