@@ -47,12 +47,7 @@ fn restored_tables(
         ≡ map store_of (lines_seen (map line_seen due.now) lines.entry.items)) }
 {
     let mut tables = Vec::with_capacity(alloc, due.len())?;
-    let mut left = lines.into_iter();
-    for line in due {
-        let Some(kept) = left.next() else {
-            // There is a line for each lifeline, as `enough` says.
-            unreachable!();
-        };
+    for (kept, line) in lines.into_iter().zip(due) {
         tables.push(restored_table(alloc, line, kept)?)?;
     }
     Ok(tables)
