@@ -26,13 +26,13 @@ loop-out-preserved c =
     let x = c.out-item.result in
     let small = small_here of c.args.outs.now i x c.loop-out-test.true c.out-item.is
     c.loop-out.invariant.small in
-    let same : c.in-Ok.typed.nodes ≡ nodes_of (tree x) = c.in-Ok.ensures.1.0 in
+    let same : c.in-Ok.typed.nodes ≡ nodes_of (tree x) = c.in-Ok.ensures.1 in
     let before = c.loop-out.invariant.nodes in
     let here = nodes_here of c.args.outs.now i x c.loop-out-test.true c.out-item.is in
     record {
       faults = c.loop-out.invariant.faults
           ∙ outputs_more of c.args.outs.now i x c.loop-out-test.true c.out-item.is c.loop-out.next
-          c.in-Ok.typed.nodes same c.in-Ok.ensures.1.1;
+          c.in-Ok.typed.nodes same c.in-Ok.ensures.2;
       nodes = omega (arith, before, here, same);
       kinds = mapped_more (kind_of of) tree Some c.args.outs.now i x c.loop-out-test.true
           c.out-item.is c.loop-out.kinds.items c.in-Ok.typed.kind _ _ c.in-Ok.ensures.0
