@@ -62,11 +62,9 @@ impl MemDisk {
     {
         let most = calls as usize;
         let room = room as usize;
-        let Some(longest) = bytes.len().checked_add(room) else {
-            return Err(NoMemory);
-        };
-        let mut content = Vec::with_capacity(alloc, longest)?;
+        let mut content = Vec::with_capacity(alloc, bytes.len())?;
         content.extend_from_slice(&bytes)?;
+        content.reserve(room)?;
         Ok(MemDisk {
             first: bytes,
             bytes: content,
