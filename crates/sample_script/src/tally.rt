@@ -1,6 +1,7 @@
 //! What is told of the replies to a sample script.
 
-ghost use Rattle.std.specs.Prelude.{◌≡◌, ◌+◌, ◌++◌, ◌∷◌, [], List, ℕ, IfOk, OnOk};
+ghost use Rattle.std.specs.Prelude.{◌≡◌, ◌+◌, ◌-◌, ◌<◌, ◌≤◌, ◌^◌, ◌++◌, ◌∷◌, [], List, ℕ};
+ghost use Rattle.std.specs.Prelude.{IfOk, OnOk};
 ghost use Rattle.sample_script.specs.Summary as spec;
 ghost use Rattle.sample_script.specs.Tallied.{errors_in, ends_in};
 
@@ -18,20 +19,19 @@ pub(crate) struct Tally {
 }
 
 impl Tally {
-    // Takes the line in, which has ended. There is no memory for more lines than a number can
-    // count.
+    // Takes the line in, which has ended. Each refusal has a byte of its own in the text, so that
+    // there are never more than a number can count.
     fn end_line(&mut self) -> Result<(), NoMemory>
+        requires { self.old.errors < 2 ^ 64 - 1 }
         ensures errors { OnOk result (self.new.errors
             ≡ self.old.errors + spec.error_count (self.old.line.items ∷ [])) }
         ensures ends { OnOk result (self.new.ends.items ≡ self.old.ends.items
             ++ spec.end_lines (self.old.line.items ∷ [])) }
         ensures line { OnOk result (self.new.line.items ≡ []) }
+        ensures few { OnOk result (self.new.errors ≤ self.old.errors + 1) }
     {
         if self.line.starts_with(b"error ") {
-            let Some(errors) = self.errors.checked_add(1) else {
-                return Err(NoMemory);
-            };
-            self.errors = errors;
+            self.errors += 1;
         }
         if self.line.starts_with(b"end ") {
             add(&mut self.ends, &self.line)?;
@@ -43,10 +43,12 @@ impl Tally {
     // Takes one more byte in.
     #[tactic(auto, using(crate::proofs::Lines::errors_more, crate::proofs::Lines::ends_more))]
     fn take_byte(&mut self, byte: u8) -> Result<(), NoMemory>
+        requires { self.old.errors < 2 ^ 64 - 1 }
         ensures errors { (rest : List ℕ) → OnOk result
             (errors_in self.old (byte ∷ rest) ≡ errors_in self.new rest) }
         ensures ends { (rest : List ℕ) → OnOk result
             (ends_in self.old (byte ∷ rest) ≡ ends_in self.new rest) }
+        ensures few { OnOk result (self.new.errors ≤ self.old.errors + 1) }
     {
         add(&mut self.line, &[byte])?;
         if byte == b'\n' {
