@@ -118,7 +118,7 @@ pub(crate) fn gather_atoms<'a, L: Ledger>(
         let table = groups.table(version, name);
         let atom = read_atom(alloc, table, number, names, slice, steps)?;
         atoms.push(atom)?;
-        // no piece in memory has more atoms
+        // a reference has 32 bits for its atom, and no type keeps a piece's list of atoms below that
         number = number.checked_add(1).ok_or(NoMemory)?;
     }
     Ok(atoms)

@@ -1,4 +1,4 @@
-ghost use Rattle.std.specs.Prelude.{◌≡◌, IfOk};
+ghost use Rattle.std.specs.Prelude.{◌≡◌, ◌+◌, IfOk};
 ghost use Rattle.cond_expr.specs.declared.expr.Whose.TheVariants.{Atom};
 ghost use Rattle.cond_expr.specs.Seen.{tree};
 ghost use Rattle.cond_expr.specs.Trees.{column, fill};
@@ -24,10 +24,22 @@ pub fn column_of(atom: u32, name: &Name) -> Result<Expr, NoMemory>
     }))
 }
 
+// A column of the atom so many places on. A reference has 32 bits for its atom, and no type says of
+// a view that it refers to atoms of its own alone, so the place is looked at here, once for all.
+fn moved_column(by: usize, atom: u32, name: &Name) -> Result<Expr, NoMemory>
+    ensures { IfOk result (λ e. tree e ≡ column (Atom (by + atom)) name.now) }
+{
+    let place = by.checked_add(atom as usize).ok_or(NoMemory)?;
+    match u32::try_from(place) {
+        Ok(moved) => column_of(moved, name),
+        Err(_) => Err(NoMemory),
+    }
+}
+
 /// Puts for each column of an atom that of the atom so many places on.
 #[derive(Drop)]
 pub(crate) struct MovedOn {
-    pub by: u32,
+    pub by: usize,
 }
 
 impl Fill for MovedOn {
@@ -35,11 +47,7 @@ impl Fill for MovedOn {
 
     fn put(&self, _alloc: Global, reference: &ColRef) -> Result<Expr, NoMemory> {
         match &reference.whose {
-            Whose::Atom(atom) => {
-                // No piece in memory has more atoms.
-                let moved = self.by.checked_add(*atom).ok_or(NoMemory)?;
-                column_of(moved, &reference.name)
-            }
+            Whose::Atom(atom) => moved_column(self.by, *atom, &reference.name),
             Whose::Free | Whose::Alias(_) => Ok(Expr::Col(reference.copy()?)),
         }
     }
@@ -84,7 +92,7 @@ impl Fill for PutColumn<'_> {
 }
 
 /// The output of a view in a column, where the view's atoms begin at a place.
-fn output(alloc: Global, outs: &[(Name, Expr)], by: u32, name: &Name) -> Result<Expr, NoMemory>
+fn output(alloc: Global, outs: &[(Name, Expr)], by: usize, name: &Name) -> Result<Expr, NoMemory>
     ensures { IfOk result (λ e. tree e ≡ fill (moved_on by) (out_of (sets_of outs.now) name.now)) }
 {
     for out in outs {
@@ -92,7 +100,7 @@ fn output(alloc: Global, outs: &[(Name, Expr)], by: u32, name: &Name) -> Result<
             return fill_expr(&MovedOn { by }, alloc, &out.1);
         }
     }
-    column_of(by, name)
+    moved_column(by, 0, name)
 }
 
 // What is put for a column of an atom, where each atom has one of these views and the atoms of each
@@ -100,7 +108,7 @@ fn output(alloc: Global, outs: &[(Name, Expr)], by: u32, name: &Name) -> Result<
 fn put_at(
     alloc: Global,
     views: &[&View],
-    places: &[u32],
+    places: &[usize],
     atom: u32,
     name: &Name,
 ) -> Result<Expr, NoMemory>
@@ -121,7 +129,7 @@ fn put_at(
 pub(crate) struct PutViews<'a> {
     pub views: &'a [&'a View],
     /// Where the atoms of each view begin.
-    pub places: &'a [u32],
+    pub places: &'a [usize],
     pub ghost placed: { places.now ≡ places_from 0 (borrowed_views views.now) },
 }
 

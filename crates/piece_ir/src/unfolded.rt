@@ -1,4 +1,4 @@
-ghost use Rattle.std.specs.Prelude.{◌≡◌, ◌+◌, ◌++◌, [], ◌∷◌, IfOk, OnOk, map};
+ghost use Rattle.std.specs.Prelude.{◌≡◌, ◌++◌, [], ◌∷◌, IfOk, OnOk, map};
 ghost use Rattle.cond_expr.specs.Seen.{test, tests_of};
 ghost use Rattle.cond_expr.specs.Trees.{fill_test, fill_tests};
 ghost use Rattle.cond_expr.specs.Parts.{parts_but_true as parts_of};
@@ -16,36 +16,15 @@ use cond_expr::{Cond, Fill, fill_cond};
 use prima_base::{Name, NoMemory};
 use std::alloc::Global;
 
-// The place after so many more atoms. No piece in memory has more.
-fn next_place(place: u32, count: usize) -> Result<u32, NoMemory>
-    ensures { IfOk result (λ p. p ≡ place + count) }
-{
-    match u32::try_from(count) {
-        Ok(count) => place.checked_add(count).ok_or(NoMemory),
-        Err(_) => Err(NoMemory),
-    }
-}
-
-fn places_of(alloc: Global, views: &[&View]) -> Result<Vec<u32>, NoMemory>
-    ensures { IfOk result (λ v. v.items ≡ places_from 0 (borrowed_views views.now)) }
-{
-    let mut places = Vec::with_capacity(alloc, views.len())?;
-    let mut place = 0;
-    for view in views {
-        places.push(place)?;
-        place = next_place(place, view.atoms.len())?;
-    }
-    Ok(places)
-}
-
-fn all_atoms(alloc: Global, views: &[&View]) -> Result<Vec<Name>, NoMemory>
-    ensures { IfOk result (λ v. v.items ≡ atoms_of (borrowed_views views.now)) }
-{
-    let mut atoms = Vec::new(alloc);
-    for view in views {
-        append_names(&mut atoms, &view.atoms)?;
-    }
-    Ok(atoms)
+// Views, one after the other.
+#[derive(Drop)]
+struct PlacedViews {
+    // those of all the views
+    atoms: Vec<Name>,
+    // where the atoms of each view begin
+    places: Vec<usize>,
+    // those of all the views, said of the atoms of each
+    parts: Vec<Cond>,
 }
 
 // Puts conditions after the others, each said of the atoms so many places on.
@@ -53,7 +32,7 @@ fn append_moved(
     parts: &mut Vec<Cond>,
     alloc: Global,
     added: &[Cond],
-    by: u32,
+    by: usize,
 ) -> Result<(), NoMemory>
     ensures { OnOk result (map test parts.new.items ≡ map test parts.old.items
         ++ map (fill_test (moved_on by)) (map test added.now)) }
@@ -64,17 +43,28 @@ fn append_moved(
     Ok(())
 }
 
-// The parts of the views, said of the atoms of each.
-fn all_parts(alloc: Global, views: &[&View]) -> Result<Vec<Cond>, NoMemory>
-    ensures { IfOk result (λ v. map test v.items ≡ parts_from 0 (borrowed_views views.now)) }
+// The atoms of a view begin where those of the views before it end.
+fn place_views(alloc: Global, views: &[&View]) -> Result<PlacedViews, NoMemory>
+    ensures atoms { IfOk result (λ p. p.atoms.items ≡ atoms_of (borrowed_views views.now)) }
+    ensures places { IfOk result (λ p. p.places.items
+        ≡ places_from 0 (borrowed_views views.now)) }
+    ensures parts { IfOk result (λ p. map test p.parts.items
+        ≡ parts_from 0 (borrowed_views views.now)) }
 {
+    let mut atoms = Vec::new(alloc);
+    let mut places = Vec::with_capacity(alloc, views.len())?;
     let mut parts = Vec::new(alloc);
-    let mut place = 0;
     for view in views {
+        let place = atoms.len();
+        places.push(place)?;
         append_moved(&mut parts, alloc, &view.parts, place)?;
-        place = next_place(place, view.atoms.len())?;
+        append_names(&mut atoms, &view.atoms)?;
     }
-    Ok(parts)
+    Ok(PlacedViews {
+        atoms,
+        places,
+        parts,
+    })
 }
 
 fn append_filled<F: Fill>(
@@ -157,15 +147,18 @@ pub(crate) fn unfold(alloc: Global, piece: &Piece, views: &[&View]) -> Result<Pi
     ensures { IfOk result (λ p. piece_of p ≡ unfolded (piece_of piece.now)
         (borrowed_views views.now)) }
 {
-    let places = places_of(alloc, views)?;
+    let PlacedViews {
+        atoms,
+        places,
+        parts,
+    } = place_views(alloc, views)?;
     let by = PutViews {
         views,
         places: &places,
     };
-    let added = all_parts(alloc, views)?;
     Ok(Piece {
-        atoms: all_atoms(alloc, views)?,
-        cond: add_parts(&by, alloc, &piece.cond, added)?,
+        atoms,
+        cond: add_parts(&by, alloc, &piece.cond, parts)?,
         outs: fill_outputs(&by, alloc, &piece.outs)?,
     })
 }
