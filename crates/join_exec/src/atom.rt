@@ -118,7 +118,8 @@ pub(crate) fn gather_atoms<'a, L: Ledger>(
         let table = groups.table(version, name);
         let atom = read_atom(alloc, table, number, names, slice, steps)?;
         atoms.push(atom)?;
-        // a reference has 32 bits for its atom, and no type keeps a piece's list of atoms below that
+        // a reference has 32 bits for its atom, and no type keeps the list of a piece's atoms to
+        // what these can number
         number = number.checked_add(1).ok_or(NoMemory)?;
     }
     Ok(atoms)
