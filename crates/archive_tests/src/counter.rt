@@ -1,4 +1,4 @@
-//! The counter that a query of an archive on a disk is lent: it has the steps of what was read.
+//! The counter that a query of an archive on a disk is given: it has the steps of what was read.
 ghost use Rattle.std.specs.Prelude.{◌≡◌, ◌<◌};
 ghost use Rattle.rewrite.specs.Books.{EachOf};
 
@@ -44,7 +44,7 @@ fn fill(alloc: Global, archive: &mut Archive<SureDisk>) -> Result<(), Fail> {
 }
 
 // How many rows the archive lists for the query, and how many steps of reading the counter has that
-// the query is lent.
+// the query is given.
 fn rows_and_steps<L: Ledger>(
     archive: &Archive<SureDisk>,
     book: &RuleBook,
@@ -63,7 +63,7 @@ fn rows_and_steps<L: Ledger>(
     Ok((listing.rows.len(), steps.count()))
 }
 
-/// The counter that a query is lent has the steps of what it read.
+/// The counter that a query is given has the steps of what it read.
 pub(crate) fn reads_are_counted(alloc: Global, book: &RuleBook) -> Result<(), Fail>
     requires { EachOf book.now.rules.items (λ r. handles (r.vtable, r.value)) }
 {

@@ -19,8 +19,8 @@ use Rattle.plain_answers.specs.Branches.{PlainBranch}
 use Rattle.query_meaning.specs.Checking.{trees_types, outputs_nodes, branch_types, branch_nodes}
 use Rattle.query_meaning.specs.Checking.{types_from, output_kinds}
 
--- the type and the number of nodes, where no node is ill-typed; else the place of the first that is,
--- the root being node `at`
+-- the type and the number of nodes, where no node is ill-typed; else the place of the first that
+-- is, the root being node `at`
 abbrev pub IsTyped : Kinds → ℕ → Tree → Result TypedExpr ℕ → Type 0
 IsTyped of at t (Ok typed) = (kind_of of t ≡ Some typed.kind) × (typed.nodes ≡ nodes_of t)
     × (first_of (untyped of 0 t) ≡ None)
