@@ -15,17 +15,17 @@ pub fn text_room(value: &Val<'_>) -> usize
     ensures room { result ≡ text_room (shown value.now) }
     ensures small { result ≤ 128 }
 {
-    text_bytes(value) / ROOM_UNIT
+    bytes_of(value).len() / ROOM_UNIT
 }
 
-// How many bytes the value's text has.
-fn text_bytes(value: &Val<'_>) -> usize
-    ensures { result ≡ length (bytes_of (shown value.now)) }
+// The bytes of a text, none of a number.
+fn bytes_of<'v>(value: &'v Val<'_>) -> &'v [u8]
+    ensures { result.now ≡ bytes_of (shown value.now) }
 {
     match value {
-        Val::Int(_) => 0,
-        Val::Slice(bytes) => bytes.len(),
-        Val::Own(text) => text.bytes().len(),
+        Val::Int(_) => &[],
+        Val::Slice(bytes) => bytes,
+        Val::Own(text) => text.bytes(),
     }
 }
 
@@ -86,7 +86,7 @@ impl StoredValues {
                 numbers.reserve(1)?;
                 Ok(())
             }
-            StoredValues::Texts(texts) => texts.reserve(1, text_bytes(value)),
+            StoredValues::Texts(texts) => texts.reserve(1, bytes_of(value).len()),
         }
     }
 
@@ -101,12 +101,13 @@ impl StoredValues {
         ensures values { values_in self.new ≡ values_in self.old ++ shown value.now ∷ [] }
         ensures spare { spare_in self.old ≤ spare_in self.new + text_room (shown value.now) + 1 }
     {
-        match (self, value) {
-            (StoredValues::Numbers(numbers), Val::Int(n)) => numbers.push_reserved(*n),
-            (StoredValues::Texts(texts), Val::Slice(bytes)) => texts.push(bytes),
-            (StoredValues::Texts(texts), Val::Own(text)) => texts.push(text.bytes()),
-            // The value is of the column's type, as `typed` says.
-            _ => unreachable!(),
+        match self {
+            StoredValues::Numbers(numbers) => {
+                if let Val::Int(number) = value {
+                    numbers.push_reserved(*number);
+                }
+            }
+            StoredValues::Texts(texts) => texts.push(bytes_of(value)),
         }
     }
 

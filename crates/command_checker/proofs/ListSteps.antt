@@ -1,6 +1,5 @@
 -- The steps of going over one item after the other.
 use Rattle.std.proofs.Common.{◌≡◌, ℕ, ◌+◌, ◌-◌, ◌<◌, ◌≤◌, List, [], ◌∷◌, ◌++◌, ap, ◌∙◌}
-use Rattle.command_codec.specs.declared.reader.ReadStop.{ReadStop}
 use Rattle.command_codec.specs.declared.reader.ReadStop.TheVariants as stop
 use Rattle.command_spelling.specs.Reading.{Out, Parsed, Unexpected, Parser, and_then, digits, items}
 use Rattle.command_spelling.specs.Reading.{listed}
@@ -26,11 +25,9 @@ module _ {A : Type 0} (p : Parser A) where
           one_item p count i start ts many.list many.so one.read rest h one.got;
     }
 
-    pub one_halts : (e : ReadStop) (new : List ℕ) → i < count → Halts (p ts) e new
+    pub one_halts : {E : Type 0} (e : E) (new : List ℕ) → i < count → Halts (p ts) e new
         → Halts (items p count start) e new
-    one_halts stop.NoMemory new h f = absurd f
-    one_halts stop.Unexpected new h f = no_item p count i start ts many.list many.so stop.Unexpected
-        new h f
+    one_halts e new h f = no_item p count i start ts many.list many.so stop.Unexpected new h f
 
     pub all_passed : count ≤ i → Passes (items p count start) ts
     all_passed h = record {
@@ -46,11 +43,10 @@ module _ {A : Type 0} (p : Parser A) (k most count i : ℕ) (start us ts : List 
   after_count : (o : Out (List A)) → items p count us ≡ o → listed k most p start ≡ o
   after_count o e = ap (λ o. and_then o (λ n. items p n)) counted ∙ e
 
-  pub one_listed_halts : (e : ReadStop) (new : List ℕ) → i < count → Halts (p ts) e new
+  pub one_listed_halts : {E : Type 0} (e : E) (new : List ℕ) → i < count → Halts (p ts) e new
       → Halts (listed k most p start) e new
-  one_listed_halts stop.NoMemory new h f = absurd f
-  one_listed_halts stop.Unexpected new h f = after_count (Unexpected new)
-      (one_halts p count i us ts many stop.Unexpected new h f)
+  one_listed_halts e new h f = after_count (Unexpected new)
+      (one_halts p count i us ts many e new h f)
 
   pub all_listed : count ≤ i → Passes (listed k most p start) ts
   all_listed h = let all = all_passed p count i us ts many h in

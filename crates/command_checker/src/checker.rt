@@ -5,7 +5,7 @@ ghost use Rattle.command_checker.specs.declared.fault.CheckFault.TheVariants.{Re
 
 use crate::CheckFault;
 use crate::command::check_command;
-use command_codec::{ReadStop, Reader};
+use command_codec::{Reader, Unexpected};
 
 // That nothing is left of the bytes after the command at their prefix.
 fn alone(bytes: &[u8], rest: &[u8]) -> Result<(), CheckFault>
@@ -33,10 +33,6 @@ pub fn check(bytes: &[u8]) -> Result<(), CheckFault>
     let mut reader = Reader { rest: bytes };
     match check_command(&mut reader) {
         Ok(()) => alone(bytes, reader.rest),
-        Err(ReadStop::Unexpected) => Err(CheckFault::BadAt(
-            (bytes.len() - reader.rest.len()) as u64,
-        )),
-        // going over a command takes no memory, as the clause of `check_command` says
-        Err(ReadStop::NoMemory) => unreachable!(),
+        Err(Unexpected) => Err(CheckFault::BadAt((bytes.len() - reader.rest.len()) as u64)),
     }
 }

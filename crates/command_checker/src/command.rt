@@ -7,12 +7,12 @@ ghost use Rattle.command_codec.specs.Reads.{Recognizes};
 use crate::field::{check_name, check_value};
 use crate::operator::{check_op, check_ops};
 use crate::tree::{check_outer_cond, check_outer_expr};
-use command_codec::{ReadStop, Reader};
+use command_codec::{Reader, Unexpected};
 use prima_base::FOREVER;
 
 // Goes over a column's name and its value.
 #[tactic(auto, unfolding(command_spelling::specs::Reader::cell))]
-fn check_cell(reader: &mut Reader<'_>) -> Result<(), ReadStop>
+fn check_cell(reader: &mut Reader<'_>) -> Result<(), Unexpected>
     ensures { Recognizes (spec.cell reader.old.rest.now) result reader.new.rest.now }
 {
     check_name(reader)?;
@@ -21,7 +21,7 @@ fn check_cell(reader: &mut Reader<'_>) -> Result<(), ReadStop>
 
 // Goes over cells, with their count before them.
 #[tactic(auto, unfolding(command_spelling::specs::Reader::cells))]
-fn check_cells(reader: &mut Reader<'_>) -> Result<(), ReadStop>
+fn check_cells(reader: &mut Reader<'_>) -> Result<(), Unexpected>
     ensures { Recognizes (spec.cells reader.old.rest.now) result reader.new.rest.now }
 {
     let count = reader.number(4, 0xFFFF_FFFF)?;
@@ -33,7 +33,7 @@ fn check_cells(reader: &mut Reader<'_>) -> Result<(), ReadStop>
 
 // Goes over a column's name and what it is set to.
 #[tactic(auto, unfolding(command_spelling::specs::Reader::set))]
-fn check_set(reader: &mut Reader<'_>) -> Result<(), ReadStop>
+fn check_set(reader: &mut Reader<'_>) -> Result<(), Unexpected>
     ensures { Recognizes (spec.set reader.old.rest.now) result reader.new.rest.now }
 {
     check_name(reader)?;
@@ -42,7 +42,7 @@ fn check_set(reader: &mut Reader<'_>) -> Result<(), ReadStop>
 
 // Goes over what columns are set to, with their count before them.
 #[tactic(auto, unfolding(command_spelling::specs::Reader::sets))]
-fn check_sets(reader: &mut Reader<'_>) -> Result<(), ReadStop>
+fn check_sets(reader: &mut Reader<'_>) -> Result<(), Unexpected>
     ensures { Recognizes (spec.sets reader.old.rest.now) result reader.new.rest.now }
 {
     let count = reader.number(4, 0xFFFF_FFFF)?;
@@ -53,7 +53,7 @@ fn check_sets(reader: &mut Reader<'_>) -> Result<(), ReadStop>
 }
 
 // Goes over what stands after the tag of INSERT.
-fn check_insert(reader: &mut Reader<'_>) -> Result<(), ReadStop>
+fn check_insert(reader: &mut Reader<'_>) -> Result<(), Unexpected>
     ensures { Recognizes (map_to spec.inserted (pair spec.name spec.cells)
         reader.old.rest.now) result reader.new.rest.now }
 {
@@ -62,7 +62,7 @@ fn check_insert(reader: &mut Reader<'_>) -> Result<(), ReadStop>
 }
 
 // Goes over what stands after the tag of DELETE.
-fn check_delete(reader: &mut Reader<'_>) -> Result<(), ReadStop>
+fn check_delete(reader: &mut Reader<'_>) -> Result<(), Unexpected>
     ensures { Recognizes (map_to spec.deleted (pair spec.name spec.outermost.cond)
         reader.old.rest.now) result reader.new.rest.now }
 {
@@ -71,7 +71,7 @@ fn check_delete(reader: &mut Reader<'_>) -> Result<(), ReadStop>
 }
 
 // Goes over what stands after the tag of UPDATE.
-fn check_update(reader: &mut Reader<'_>) -> Result<(), ReadStop>
+fn check_update(reader: &mut Reader<'_>) -> Result<(), Unexpected>
     ensures { Recognizes (map_to spec.updated
         (pair (pair spec.name spec.sets) spec.outermost.cond) reader.old.rest.now) result
         reader.new.rest.now }
@@ -83,7 +83,7 @@ fn check_update(reader: &mut Reader<'_>) -> Result<(), ReadStop>
 
 // Goes over a change.
 #[tactic(auto, unfolding(command_spelling::specs::Reader::change))]
-fn check_change(reader: &mut Reader<'_>) -> Result<(), ReadStop>
+fn check_change(reader: &mut Reader<'_>) -> Result<(), Unexpected>
     ensures { Recognizes (spec.change reader.old.rest.now) result reader.new.rest.now }
 {
     match reader.tag(2)? {
@@ -95,7 +95,7 @@ fn check_change(reader: &mut Reader<'_>) -> Result<(), ReadStop>
 
 // Goes over changes, with their count before them.
 #[tactic(auto, unfolding(command_spelling::specs::Reader::changes))]
-fn check_changes(reader: &mut Reader<'_>) -> Result<(), ReadStop>
+fn check_changes(reader: &mut Reader<'_>) -> Result<(), Unexpected>
     ensures { Recognizes (spec.changes reader.old.rest.now) result reader.new.rest.now }
 {
     let count = reader.number(4, 0xFFFF_FFFF)?;
@@ -106,7 +106,7 @@ fn check_changes(reader: &mut Reader<'_>) -> Result<(), ReadStop>
 }
 
 // Goes over an operator and those of its inverse.
-fn check_evolution(reader: &mut Reader<'_>) -> Result<(), ReadStop>
+fn check_evolution(reader: &mut Reader<'_>) -> Result<(), Unexpected>
     ensures { Recognizes (map_to spec.evolved (pair spec.operator spec.operators)
         reader.old.rest.now) result reader.new.rest.now }
 {
@@ -116,7 +116,7 @@ fn check_evolution(reader: &mut Reader<'_>) -> Result<(), ReadStop>
 
 // Goes over what a command does.
 #[tactic(auto, unfolding(command_spelling::specs::Reader::body))]
-fn check_body(reader: &mut Reader<'_>) -> Result<(), ReadStop>
+fn check_body(reader: &mut Reader<'_>) -> Result<(), Unexpected>
     ensures { Recognizes (spec.body reader.old.rest.now) result reader.new.rest.now }
 {
     match reader.tag(1)? {
@@ -127,7 +127,7 @@ fn check_body(reader: &mut Reader<'_>) -> Result<(), ReadStop>
 
 /// Goes over a command.
 #[tactic(auto, unfolding(command_spelling::specs::Reader::command))]
-pub(crate) fn check_command(reader: &mut Reader<'_>) -> Result<(), ReadStop>
+pub(crate) fn check_command(reader: &mut Reader<'_>) -> Result<(), Unexpected>
     ensures { Recognizes (spec.command reader.old.rest.now) result reader.new.rest.now }
 {
     reader.number(8, FOREVER - 1)?;

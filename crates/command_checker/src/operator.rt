@@ -6,11 +6,11 @@ ghost use Rattle.command_codec.specs.Reads.{Recognizes};
 
 use crate::field::{check_column_type, check_name};
 use crate::tree::{check_outer_cond, check_outer_expr};
-use command_codec::{ReadStop, Reader};
+use command_codec::{Reader, Unexpected};
 
 // Goes over a column's name and its type.
 #[tactic(auto, unfolding(command_spelling::specs::Reader::column_of))]
-fn check_column(reader: &mut Reader<'_>) -> Result<(), ReadStop>
+fn check_column(reader: &mut Reader<'_>) -> Result<(), Unexpected>
     ensures { Recognizes (spec.column_of reader.old.rest.now) result reader.new.rest.now }
 {
     check_name(reader)?;
@@ -19,7 +19,7 @@ fn check_column(reader: &mut Reader<'_>) -> Result<(), ReadStop>
 
 // Goes over columns, with their count before them.
 #[tactic(auto, unfolding(command_spelling::specs::Reader::columns))]
-fn check_columns(reader: &mut Reader<'_>) -> Result<(), ReadStop>
+fn check_columns(reader: &mut Reader<'_>) -> Result<(), Unexpected>
     ensures { Recognizes (spec.columns reader.old.rest.now) result reader.new.rest.now }
 {
     let count = reader.number(1, 0xFF)?;
@@ -31,7 +31,7 @@ fn check_columns(reader: &mut Reader<'_>) -> Result<(), ReadStop>
 
 // Goes over names, with their count before them.
 #[tactic(auto, unfolding(command_spelling::specs::Reader::names))]
-fn check_names(reader: &mut Reader<'_>) -> Result<(), ReadStop>
+fn check_names(reader: &mut Reader<'_>) -> Result<(), Unexpected>
     ensures { Recognizes (spec.names reader.old.rest.now) result reader.new.rest.now }
 {
     let count = reader.number(1, 0xFF)?;
@@ -43,7 +43,7 @@ fn check_names(reader: &mut Reader<'_>) -> Result<(), ReadStop>
 
 // Goes over two names.
 #[tactic(auto, unfolding(command_spelling::specs::Reader::two_names))]
-fn check_two_names(reader: &mut Reader<'_>) -> Result<(), ReadStop>
+fn check_two_names(reader: &mut Reader<'_>) -> Result<(), Unexpected>
     ensures { Recognizes (spec.two_names reader.old.rest.now) result reader.new.rest.now }
 {
     check_name(reader)?;
@@ -52,7 +52,7 @@ fn check_two_names(reader: &mut Reader<'_>) -> Result<(), ReadStop>
 
 // Goes over three names.
 #[tactic(auto, unfolding(command_spelling::specs::Reader::three_names))]
-fn check_three_names(reader: &mut Reader<'_>) -> Result<(), ReadStop>
+fn check_three_names(reader: &mut Reader<'_>) -> Result<(), Unexpected>
     ensures { Recognizes (spec.three_names reader.old.rest.now) result reader.new.rest.now }
 {
     check_two_names(reader)?;
@@ -60,7 +60,7 @@ fn check_three_names(reader: &mut Reader<'_>) -> Result<(), ReadStop>
 }
 
 // Goes over what stands after the tag of CREATE TABLE.
-fn check_created_table(reader: &mut Reader<'_>) -> Result<(), ReadStop>
+fn check_created_table(reader: &mut Reader<'_>) -> Result<(), Unexpected>
     ensures { Recognizes (map_to spec.created_table (pair spec.name spec.columns)
         reader.old.rest.now) result reader.new.rest.now }
 {
@@ -69,7 +69,7 @@ fn check_created_table(reader: &mut Reader<'_>) -> Result<(), ReadStop>
 }
 
 // Goes over what stands after the tag of PARTITION TABLE.
-fn check_partitioned_table(reader: &mut Reader<'_>) -> Result<(), ReadStop>
+fn check_partitioned_table(reader: &mut Reader<'_>) -> Result<(), Unexpected>
     ensures { Recognizes (map_to spec.partitioned
         (pair (pair spec.two_names spec.outermost.cond) spec.name) reader.old.rest.now) result
         reader.new.rest.now }
@@ -80,7 +80,7 @@ fn check_partitioned_table(reader: &mut Reader<'_>) -> Result<(), ReadStop>
 }
 
 // Goes over what stands after the tag of DECOMPOSE TABLE.
-fn check_decomposed_table(reader: &mut Reader<'_>) -> Result<(), ReadStop>
+fn check_decomposed_table(reader: &mut Reader<'_>) -> Result<(), Unexpected>
     ensures { Recognizes (map_to spec.decomposed
         (pair (pair (pair spec.two_names spec.names) spec.name) spec.names) reader.old.rest.now)
         result reader.new.rest.now }
@@ -92,7 +92,7 @@ fn check_decomposed_table(reader: &mut Reader<'_>) -> Result<(), ReadStop>
 }
 
 // Goes over what stands after the tag of JOIN TABLE.
-fn check_joined_table(reader: &mut Reader<'_>) -> Result<(), ReadStop>
+fn check_joined_table(reader: &mut Reader<'_>) -> Result<(), Unexpected>
     ensures { Recognizes (map_to spec.joined_tables
         (pair spec.three_names spec.outermost.cond) reader.old.rest.now) result
         reader.new.rest.now }
@@ -102,7 +102,7 @@ fn check_joined_table(reader: &mut Reader<'_>) -> Result<(), ReadStop>
 }
 
 // Goes over what stands after the tag of ADD COLUMN.
-fn check_added_column(reader: &mut Reader<'_>) -> Result<(), ReadStop>
+fn check_added_column(reader: &mut Reader<'_>) -> Result<(), Unexpected>
     ensures { Recognizes (map_to spec.added_column
         (pair spec.two_names spec.outermost.expr) reader.old.rest.now) result reader.new.rest.now }
 {
@@ -112,7 +112,7 @@ fn check_added_column(reader: &mut Reader<'_>) -> Result<(), ReadStop>
 
 /// Goes over an operator.
 #[tactic(auto, unfolding(command_spelling::specs::Reader::operator))]
-pub(crate) fn check_op(reader: &mut Reader<'_>) -> Result<(), ReadStop>
+pub(crate) fn check_op(reader: &mut Reader<'_>) -> Result<(), Unexpected>
     ensures { Recognizes (spec.operator reader.old.rest.now) result reader.new.rest.now }
 {
     match reader.tag(11)? {
@@ -130,7 +130,7 @@ pub(crate) fn check_op(reader: &mut Reader<'_>) -> Result<(), ReadStop>
 
 /// Goes over operators, with their count before them.
 #[tactic(auto, unfolding(command_spelling::specs::Reader::operators))]
-pub(crate) fn check_ops(reader: &mut Reader<'_>) -> Result<(), ReadStop>
+pub(crate) fn check_ops(reader: &mut Reader<'_>) -> Result<(), Unexpected>
     ensures { Recognizes (spec.operators reader.old.rest.now) result reader.new.rest.now }
 {
     let count = reader.number(4, 0xFFFF_FFFF)?;

@@ -8,11 +8,11 @@ ghost use Rattle.command_spelling.specs.Reader as spec;
 ghost use Rattle.command_codec.specs.Reads.{Recognizes};
 
 use crate::field::{check_name, check_sign, check_value};
-use command_codec::{MOST_LEVELS, ReadStop, Reader, cond_tag, expr_tag, part_count};
+use command_codec::{MOST_LEVELS, Reader, Unexpected, cond_tag, expr_tag, part_count};
 
 // Goes over so many expressions, each of at most so many levels.
 #[cycle(checks)]
-fn check_exprs(reader: &mut Reader<'_>, count: u64, levels: u32) -> Result<(), ReadStop>
+fn check_exprs(reader: &mut Reader<'_>, count: u64, levels: u32) -> Result<(), Unexpected>
     ensures { Recognizes (items (spec.level levels).expr count reader.old.rest.now) result
         reader.new.rest.now }
 {
@@ -24,7 +24,7 @@ fn check_exprs(reader: &mut Reader<'_>, count: u64, levels: u32) -> Result<(), R
 
 // Goes over so many conditions, each of at most so many levels.
 #[cycle(checks)]
-fn check_conds(reader: &mut Reader<'_>, count: u64, levels: u32) -> Result<(), ReadStop>
+fn check_conds(reader: &mut Reader<'_>, count: u64, levels: u32) -> Result<(), Unexpected>
     ensures { Recognizes (items (spec.level levels).cond count reader.old.rest.now) result
         reader.new.rest.now }
 {
@@ -36,7 +36,7 @@ fn check_conds(reader: &mut Reader<'_>, count: u64, levels: u32) -> Result<(), R
 
 // Goes over what stands after the tag of CONCAT; its parts have at most so many levels.
 #[cycle(checks)]
-fn check_concat(reader: &mut Reader<'_>, levels: u32) -> Result<(), ReadStop>
+fn check_concat(reader: &mut Reader<'_>, levels: u32) -> Result<(), Unexpected>
     ensures { Recognizes (map_to (λ l. joined (trees_of l))
         (listed 1 (spec.most_parts (nat_lt 0 levels) 255) (spec.level levels).expr)
         reader.old.rest.now) result reader.new.rest.now }
@@ -47,7 +47,7 @@ fn check_concat(reader: &mut Reader<'_>, levels: u32) -> Result<(), ReadStop>
 
 // Goes over what stands after the tag of CASE; its parts have at most so many levels.
 #[cycle(checks)]
-fn check_case(reader: &mut Reader<'_>, levels: u32) -> Result<(), ReadStop>
+fn check_case(reader: &mut Reader<'_>, levels: u32) -> Result<(), Unexpected>
     ensures { Recognizes (map_to spec.chosen
         (pair (pair (spec.level levels).cond (spec.level levels).expr) (spec.level levels).expr)
         reader.old.rest.now) result reader.new.rest.now }
@@ -60,7 +60,7 @@ fn check_case(reader: &mut Reader<'_>, levels: u32) -> Result<(), ReadStop>
 // Goes over an expression whose parts have at most so many levels.
 #[cycle(checks)]
 #[tactic(auto, unfolding(command_spelling::specs::Reader::expr))]
-fn check_expr_over(reader: &mut Reader<'_>, levels: u32) -> Result<(), ReadStop>
+fn check_expr_over(reader: &mut Reader<'_>, levels: u32) -> Result<(), Unexpected>
     ensures { Recognizes (spec.expr (nat_lt 0 levels) (spec.level levels) reader.old.rest.now)
         result reader.new.rest.now }
 {
@@ -75,18 +75,18 @@ fn check_expr_over(reader: &mut Reader<'_>, levels: u32) -> Result<(), ReadStop>
 
 // Goes over an expression of at most so many levels.
 #[cycle(checks)]
-fn check_expr(reader: &mut Reader<'_>, levels: u32) -> Result<(), ReadStop>
+fn check_expr(reader: &mut Reader<'_>, levels: u32) -> Result<(), Unexpected>
     ensures { Recognizes ((spec.level levels).expr reader.old.rest.now) result reader.new.rest.now }
 {
     if levels == 0 {
-        return Err(ReadStop::Unexpected);
+        return Err(Unexpected);
     }
     check_expr_over(reader, levels - 1)
 }
 
 // Goes over what stands after the tag of a comparison; its sides have at most so many levels.
 #[cycle(checks)]
-fn check_comparison(reader: &mut Reader<'_>, levels: u32) -> Result<(), ReadStop>
+fn check_comparison(reader: &mut Reader<'_>, levels: u32) -> Result<(), Unexpected>
     ensures { Recognizes (map_to spec.comparison
         (pair (pair spec.sign (spec.level levels).expr) (spec.level levels).expr)
         reader.old.rest.now) result reader.new.rest.now }
@@ -98,7 +98,7 @@ fn check_comparison(reader: &mut Reader<'_>, levels: u32) -> Result<(), ReadStop
 
 // Goes over what stands after the tag of an AND or an OR; its parts have at most so many levels.
 #[cycle(checks)]
-fn check_parts(reader: &mut Reader<'_>, levels: u32) -> Result<(), ReadStop>
+fn check_parts(reader: &mut Reader<'_>, levels: u32) -> Result<(), Unexpected>
     ensures { Recognizes (listed 2 (spec.most_parts (nat_lt 0 levels) 65535)
         (spec.level levels).cond reader.old.rest.now) result reader.new.rest.now }
 {
@@ -109,7 +109,7 @@ fn check_parts(reader: &mut Reader<'_>, levels: u32) -> Result<(), ReadStop>
 // Goes over a condition whose parts have at most so many levels.
 #[cycle(checks)]
 #[tactic(auto, unfolding(command_spelling::specs::Reader::cond))]
-fn check_cond_over(reader: &mut Reader<'_>, levels: u32) -> Result<(), ReadStop>
+fn check_cond_over(reader: &mut Reader<'_>, levels: u32) -> Result<(), Unexpected>
     ensures { Recognizes (spec.cond (nat_lt 0 levels) (spec.level levels) reader.old.rest.now)
         result reader.new.rest.now }
 {
@@ -123,18 +123,18 @@ fn check_cond_over(reader: &mut Reader<'_>, levels: u32) -> Result<(), ReadStop>
 
 // Goes over a condition of at most so many levels.
 #[cycle(checks)]
-fn check_cond(reader: &mut Reader<'_>, levels: u32) -> Result<(), ReadStop>
+fn check_cond(reader: &mut Reader<'_>, levels: u32) -> Result<(), Unexpected>
     ensures { Recognizes ((spec.level levels).cond reader.old.rest.now) result reader.new.rest.now }
 {
     if levels == 0 {
-        return Err(ReadStop::Unexpected);
+        return Err(Unexpected);
     }
     check_cond_over(reader, levels - 1)
 }
 
 /// Goes over an expression.
 #[tactic(auto, unfolding(command_spelling::specs::Reader::outermost))]
-pub(crate) fn check_outer_expr(reader: &mut Reader<'_>) -> Result<(), ReadStop>
+pub(crate) fn check_outer_expr(reader: &mut Reader<'_>) -> Result<(), Unexpected>
     ensures { Recognizes (spec.outermost.expr reader.old.rest.now) result reader.new.rest.now }
 {
     check_expr(reader, MOST_LEVELS)
@@ -142,7 +142,7 @@ pub(crate) fn check_outer_expr(reader: &mut Reader<'_>) -> Result<(), ReadStop>
 
 /// Goes over a condition.
 #[tactic(auto, unfolding(command_spelling::specs::Reader::outermost))]
-pub(crate) fn check_outer_cond(reader: &mut Reader<'_>) -> Result<(), ReadStop>
+pub(crate) fn check_outer_cond(reader: &mut Reader<'_>) -> Result<(), Unexpected>
     ensures { Recognizes (spec.outermost.cond reader.old.rest.now) result reader.new.rest.now }
 {
     check_cond(reader, MOST_LEVELS)

@@ -4,14 +4,12 @@ use Rattle.std.proofs.Common.{◌∷◌, length, take, refl, sym, ap, ◌∙◌,
 use Rattle.std.proofs.lemmas.Bool.{ltb-true}
 use Rattle.std.proofs.lemmas.List.{take_at, length-append}
 use Rattle.prima_base.specs.Bytes.{is_name_byte, is_text_byte, IsName, IsTxt}
-use Rattle.command_codec.specs.declared.reader.ReadStop.{ReadStop}
-use Rattle.command_spelling.specs.Reading.{Parsed, and_then, pure, map_to, byte, run, digits}
-use Rattle.command_codec.specs.Reads.{Fails}
+use Rattle.command_spelling.specs.Reading.{Parsed, Unexpected, and_then, pure, map_to, byte, run}
+use Rattle.command_spelling.specs.Reading.{digits}
 use Rattle.command_spelling.specs.Reader.{is_name_start, is_name_length, name_text}
 use Rattle.command_spelling.proofs.Correctness.{is_read, byte_correct, run_correct}
 use Rattle.command_spelling.proofs.Numbers.{of_both, number_correct}
 use Rattle.command_spelling.proofs.PartFormats.{name_text_correct, are_text}
-use Rattle.command_codec.proofs.ReadSteps.{fails_along}
 
 from_length : (n : ℕ) → is_name_length n ≡ true → suc (n - 1) ≡ n
 from_length n h = let k = ltb-true 0 n (of_both (nat_lt 0 n) (nat_le n 63) h).0 in omega (arith, k)
@@ -26,19 +24,17 @@ whole : (n : ℕ) (ts : List ℕ) → is_name_length n ≡ true
     (λ b. map_to (λ l. b ∷ l) (run is_name_byte (n - 1)))
 whole n ts h = ap (λ k. name_text k ts) (sym (from_length n h)) ∙ by_start (n - 1) ts
 
-pub no_start : (n : ℕ) (ts new : List ℕ) (e : ReadStop) → is_name_length n ≡ true
-    → Fails (byte is_name_start ts) e new → Fails (name_text n ts) e new
-no_start n ts new e h = fails_along (byte is_name_start ts) (name_text n ts) e new
-    (λ rest f. whole n ts h ∙ ap (λ o. and_then o
-    (λ b. map_to (λ l. b ∷ l) (run is_name_byte (n - 1)))) f)
+pub no_start : (n : ℕ) (ts new : List ℕ) → is_name_length n ≡ true
+    → byte is_name_start ts ≡ Unexpected new → name_text n ts ≡ Unexpected new
+no_start n ts new h f = whole n ts h
+    ∙ ap (λ o. and_then o (λ b. map_to (λ l. b ∷ l) (run is_name_byte (n - 1)))) f
 
-pub no_run : (n b : ℕ) (ts us new : List ℕ) (e : ReadStop) → is_name_length n ≡ true
-    → byte is_name_start ts ≡ Parsed b us → Fails (run is_name_byte (n - 1) us) e new
-    → Fails (name_text n ts) e new
-no_run n b ts us new e h g = fails_along (run is_name_byte (n - 1) us) (name_text n ts) e new
-    (λ rest f. whole n ts h ∙ ap (λ o. and_then o
-    (λ b. map_to (λ l. b ∷ l) (run is_name_byte (n - 1)))) g
-    ∙ ap (λ o. and_then o (λ l. pure (b ∷ l))) f)
+pub no_run : (n b : ℕ) (ts us new : List ℕ) → is_name_length n ≡ true
+    → byte is_name_start ts ≡ Parsed b us → run is_name_byte (n - 1) us ≡ Unexpected new
+    → name_text n ts ≡ Unexpected new
+no_run n b ts us new h g f = whole n ts h
+    ∙ ap (λ o. and_then o (λ b. map_to (λ l. b ∷ l) (run is_name_byte (n - 1)))) g
+    ∙ ap (λ o. and_then o (λ l. pure (b ∷ l))) f
 
 -- the bytes that were read are the prefix of those that stood there
 pub name_prefix : (n b : ℕ) (ts us l rest : List ℕ) → is_name_length n ≡ true

@@ -1,23 +1,21 @@
 //! Reading names, texts, values, types and signs.
 
-ghost use Rattle.std.specs.Prelude.{◌≡◌, true, Err, IfOk};
+ghost use Rattle.std.specs.Prelude.{◌≡◌, true, IfOk};
 ghost use Rattle.prima_base.specs.Bytes.{IsName};
-ghost use Rattle.command_codec.specs.declared.reader.ReadStop.TheVariants as stop;
 ghost use Rattle.command_spelling.specs.Reader as spec;
-ghost use Rattle.command_codec.specs.Reads.{Reads};
+ghost use Rattle.command_codec.specs.Reads.{Reads, ReadsInPlace};
 
-use crate::reader::{Alphabet, ReadStop, Reader};
+use crate::reader::{Alphabet, ReadStop, Reader, Unexpected};
 use crate::value_reader::borrowed_text;
 use cond_expr::CmpOp;
 use prima_base::{ColType, Name, Txt, Value};
 use std::alloc::Global;
 
 // So many bytes of a name.
-fn name_text<'a>(reader: &mut Reader<'a>, count: u8) -> Result<&'a [u8], ReadStop>
+fn name_text<'a>(reader: &mut Reader<'a>, count: u8) -> Result<&'a [u8], Unexpected>
     requires { spec.is_name_length count ≡ true }
-    ensures reads { Reads (λ s. s.now) (spec.name_text count reader.old.rest.now) result
+    ensures { ReadsInPlace (λ s. s.now) (spec.name_text count reader.old.rest.now) result
         reader.new.rest.now }
-    ensures memory { result ≡ Err stop.NoMemory → ⊥ }
 {
     let start = reader.rest;
     reader.name_start()?;
@@ -27,10 +25,9 @@ fn name_text<'a>(reader: &mut Reader<'a>, count: u8) -> Result<&'a [u8], ReadSto
 
 /// A name, where it stands in the bytes. It takes no memory.
 #[tactic(auto, unfolding(command_spelling::specs::Reader::name))]
-pub fn borrowed_name<'a>(reader: &mut Reader<'a>) -> Result<&'a [u8], ReadStop>
-    ensures reads { Reads (λ s. s.now) (spec.name reader.old.rest.now) result reader.new.rest.now }
+pub fn borrowed_name<'a>(reader: &mut Reader<'a>) -> Result<&'a [u8], Unexpected>
+    ensures reads { ReadsInPlace (λ s. s.now) (spec.name reader.old.rest.now) result reader.new.rest.now }
     ensures valid { IfOk result (λ s. IsName s.now) }
-    ensures memory { result ≡ Err stop.NoMemory → ⊥ }
 {
     let count = reader.name_length()?;
     let bytes = name_text(reader, count)?;
@@ -66,10 +63,9 @@ pub fn value(alloc: Global, reader: &mut Reader<'_>) -> Result<Value, ReadStop>
 
 /// A column's type.
 #[tactic(auto, unfolding(command_spelling::specs::Reader::column_type))]
-pub fn column_type(reader: &mut Reader<'_>) -> Result<ColType, ReadStop>
-    ensures reads { Reads (λ k. k) (spec.column_type reader.old.rest.now) result
+pub fn column_type(reader: &mut Reader<'_>) -> Result<ColType, Unexpected>
+    ensures { ReadsInPlace (λ k. k) (spec.column_type reader.old.rest.now) result
         reader.new.rest.now }
-    ensures memory { result ≡ Err stop.NoMemory → ⊥ }
 {
     match reader.tag(1)? {
         0 => Ok(ColType::Int),
@@ -79,9 +75,8 @@ pub fn column_type(reader: &mut Reader<'_>) -> Result<ColType, ReadStop>
 
 /// The sign of a comparison.
 #[tactic(auto, unfolding(command_spelling::specs::Reader::sign))]
-pub fn sign(reader: &mut Reader<'_>) -> Result<CmpOp, ReadStop>
-    ensures reads { Reads (λ o. o) (spec.sign reader.old.rest.now) result reader.new.rest.now }
-    ensures memory { result ≡ Err stop.NoMemory → ⊥ }
+pub fn sign(reader: &mut Reader<'_>) -> Result<CmpOp, Unexpected>
+    ensures { ReadsInPlace (λ o. o) (spec.sign reader.old.rest.now) result reader.new.rest.now }
 {
     match reader.tag(5)? {
         0 => Ok(CmpOp::Eq),

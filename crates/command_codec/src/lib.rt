@@ -22,6 +22,6 @@ pub use fault::CodecFault;
 pub use field::{borrowed_name, column_type, name, sign, value};
 pub use operator_reader::{op, ops};
 pub use part::{read_name, read_op, read_value};
-pub use reader::{Alphabet, ReadStop, Reader};
+pub use reader::{Alphabet, ReadStop, Reader, Unexpected};
 pub use tree_reader::{MOST_LEVELS, cond_tag, expr_tag, part_count};
 pub use value_reader::{borrowed_text, borrowed_value};

@@ -1,17 +1,16 @@
 //! Reading expressions and conditions.
 
-ghost use Rattle.std.specs.Prelude.{◌≡◌, ◌≤◌, ◌<◌, ℕ, nat_lt, map, Err};
+ghost use Rattle.std.specs.Prelude.{◌≡◌, ◌≤◌, ◌<◌, ℕ, nat_lt, map};
 ghost use Rattle.cond_expr.specs.declared.expr.Whose.TheVariants.{Atom};
 ghost use Rattle.cond_expr.specs.Trees.{column, constant, length_of, joined};
 ghost use Rattle.cond_expr.specs.Trees.{all_of, some_of, fails};
 ghost use Rattle.cond_expr.specs.Seen.{tree, test, trees_of, tests_of};
 ghost use Rattle.command_spelling.specs.Reading.{byte, digits, map_to, pair, items, listed};
 ghost use Rattle.command_spelling.specs.Reader as spec;
-ghost use Rattle.command_codec.specs.declared.reader.ReadStop.TheVariants as stop;
-ghost use Rattle.command_codec.specs.Reads.{Reads};
+ghost use Rattle.command_codec.specs.Reads.{Reads, ReadsInPlace};
 
 use crate::field::{name, sign, value};
-use crate::reader::{ReadStop, Reader};
+use crate::reader::{ReadStop, Reader, Unexpected};
 use cond_expr::{ColRef, Cond, Expr, Whose};
 use prima_base::limits::MAX_DEPTH;
 use std::alloc::Global;
@@ -21,10 +20,9 @@ pub const MOST_LEVELS: u32 = MAX_DEPTH as u32;
 
 /// The tag of an expression. Where no level may stand below it, LENGTH and CASE cannot stand. It
 /// takes no memory.
-pub fn expr_tag(reader: &mut Reader<'_>, deeper: bool) -> Result<u8, ReadStop>
-    ensures reads { Reads (λ b. b) (byte (spec.is_expr_tag deeper) reader.old.rest.now) result
+pub fn expr_tag(reader: &mut Reader<'_>, deeper: bool) -> Result<u8, Unexpected>
+    ensures { ReadsInPlace (λ b. b) (byte (spec.is_expr_tag deeper) reader.old.rest.now) result
         reader.new.rest.now }
-    ensures memory { result ≡ Err stop.NoMemory → ⊥ }
 {
     if deeper {
         return reader.tag(4);
@@ -34,16 +32,15 @@ pub fn expr_tag(reader: &mut Reader<'_>, deeper: bool) -> Result<u8, ReadStop>
             reader.rest = rest;
             Ok(*first)
         }
-        _ => Err(ReadStop::Unexpected),
+        _ => Err(Unexpected),
     }
 }
 
 /// The tag of a condition. Where no level may stand below it, comparisons and NOT cannot stand. It
 /// takes no memory.
-pub fn cond_tag(reader: &mut Reader<'_>, deeper: bool) -> Result<u8, ReadStop>
-    ensures reads { Reads (λ b. b) (byte (spec.is_cond_tag deeper) reader.old.rest.now) result
+pub fn cond_tag(reader: &mut Reader<'_>, deeper: bool) -> Result<u8, Unexpected>
+    ensures { ReadsInPlace (λ b. b) (byte (spec.is_cond_tag deeper) reader.old.rest.now) result
         reader.new.rest.now }
-    ensures memory { result ≡ Err stop.NoMemory → ⊥ }
 {
     if deeper {
         return reader.tag(5);
@@ -53,7 +50,7 @@ pub fn cond_tag(reader: &mut Reader<'_>, deeper: bool) -> Result<u8, ReadStop>
             reader.rest = rest;
             Ok(*first)
         }
-        _ => Err(ReadStop::Unexpected),
+        _ => Err(Unexpected),
     }
 }
 
@@ -64,11 +61,10 @@ pub fn part_count(
     width: u32,
     most: u64,
     deeper: bool,
-) -> Result<u64, ReadStop>
+) -> Result<u64, Unexpected>
     requires { width ≤ 8 }
-    ensures reads { Reads (λ n. n) (digits (spec.most_parts deeper most) width 0
+    ensures { ReadsInPlace (λ n. n) (digits (spec.most_parts deeper most) width 0
         reader.old.rest.now) result reader.new.rest.now }
-    ensures memory { result ≡ Err stop.NoMemory → ⊥ }
 {
     reader.number(width, if deeper { most } else { 0 })
 }

@@ -13,16 +13,24 @@ use command_codec::{ReadStop, Reader};
 pub(crate) fn number_64(reader: &mut Reader<'_>) -> Result<u64, ReadStop>
     ensures { Reads (λ n. n) (parts.number_64 reader.old.rest.now) result reader.new.rest.now }
 {
-    reader.number_64()
+    Ok(reader.number_64()?)
+}
+
+// A number of four bytes.
+#[tactic(auto, unfolding(image_spelling::specs::Reader::number_32))]
+fn number_32(reader: &mut Reader<'_>) -> Result<u64, ReadStop>
+    ensures { Reads (λ n. n) (spec.number_32 reader.old.rest.now) result reader.new.rest.now }
+{
+    Ok(reader.number(4, 0xFFFF_FFFF)?)
 }
 
 /// A count of four bytes.
-#[tactic(auto, unfolding(image_spelling::specs::Reader::number_32), using(crate::proofs::ItemSteps::item_got, crate::proofs::ItemSteps::item_fails))]
+#[tactic(auto, using(crate::proofs::ItemSteps::item_got, crate::proofs::ItemSteps::item_fails))]
 pub(crate) fn count_32(reader: &mut Reader<'_>) -> Result<u64, ReadStop>
     ensures { Reads (λ n. n) (item spec.number_32 reader.old.rest.now) result reader.new.rest.now }
 {
     let start = reader.rest;
-    match reader.number(4, 0xFFFF_FFFF) {
+    match number_32(reader) {
         Ok(count) => Ok(count),
         Err(stop) => {
             reader.rest = start;

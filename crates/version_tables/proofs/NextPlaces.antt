@@ -1,8 +1,8 @@
 -- The places of the tables of the next version.
-use Rattle.std.proofs.Common.{◌≡◌, ◌<◌, ◌+◌, ℕ, suc, zero, true, false, cond, List, [], ◌∷◌, ◌++◌}
-use Rattle.std.proofs.Common.{length, drop, get_or, refl, sym, ap, subst, ◌∙◌, arith, append_assoc}
+use Rattle.std.proofs.Common.{◌≡◌, ◌<◌, ◌+◌, ℕ, suc, zero, Bool, true, false, cond, List, [], ◌∷◌}
+use Rattle.std.proofs.Common.{◌++◌, length, drop, get_or, refl, sym, ap, subst, ◌∙◌, arith, append_assoc}
 use Rattle.std.proofs.Common.{append-nil, length-append}
-use Rattle.std.specs.Prelude.{Option, Some, None, IsSome, slice_get}
+use Rattle.std.specs.Prelude.{Option, Some, None, slice_get}
 use Rattle.std.proofs.lemmas.Option.{slice_get_within}
 use Rattle.relations.specs.Sets.{In}
 use Rattle.prima_base.specs.Columns.{Column}
@@ -55,11 +55,13 @@ still_there stored old places place name t Has f h = record {
   has = h;
 }
 
--- what is stored before a stamp is there
-pub stored_before : (stamp : ℕ) (columns : List Column) (stored : Option Store)
-    → IsStoredBefore stamp columns stored → IsSome stored
-stored_before stamp columns None h = absurd h
-stored_before stamp columns (Some store) h = refl
+-- where all that is not made is stored, a table is made that does not go on
+pub made_unless_kept : (Is : Option Store → Type 0) (stored : Option Store) (made answer : Bool)
+    → (Is None → ⊥) → made ≡ answer → (answer ≡ false → stored ≡ None)
+    → (made ≡ false → Is stored) → made ≡ true
+made_unless_kept Is stored made true never is none there = is
+made_unless_kept Is stored made false never is none there =
+    absurd (never (subst Is (none refl) (there is)))
 
 pub goes_there : (stored old : List MadeTable) (places : List ℕ) (place : ℕ) (name : List ℕ)
     (columns : List Column) (stamp : ℕ) (t : MadeTable) → IsFound stored places name place t
@@ -164,6 +166,15 @@ pub neither_made : (made : MadeRows) (stamp : ℕ) (tables : List MadeTable) (na
     → is_name made.first name ≡ false → is_name made.second name ≡ false
     → next_rows made stamp tables name ≡ rows_stored stamp (stored_as name tables)
 neither_made made stamp tables name a b =
+    ap (λ x. cond x made.rows (cond (is_name made.second name) made.others
+    (rows_stored stamp (stored_as name tables)))) a
+    ∙ ap (λ x. cond x made.others (rows_stored stamp (stored_as name tables))) b
+
+-- the second of those that are made has its own
+pub second_made : (made : MadeRows) (stamp : ℕ) (tables : List MadeTable) (name : List ℕ)
+    → is_name made.first name ≡ false → is_name made.second name ≡ true
+    → next_rows made stamp tables name ≡ made.others
+second_made made stamp tables name a b =
     ap (λ x. cond x made.rows (cond (is_name made.second name) made.others
     (rows_stored stamp (stored_as name tables)))) a
     ∙ ap (λ x. cond x made.others (rows_stored stamp (stored_as name tables))) b

@@ -1,6 +1,6 @@
 -- The tables of a version that is restored.
-use Rattle.std.proofs.Common.{◌≡◌, ◌+◌, ℕ, Bool, List, ◌∷◌, drop, refl, sym, ap, subst}
-use Rattle.std.specs.Prelude.{Option, Some, None, IsSome, slice_get}
+use Rattle.std.proofs.Common.{◌≡◌, ◌+◌, ℕ, Bool, List, ◌∷◌, drop, sym, ap, subst}
+use Rattle.std.specs.Prelude.{Some, slice_get}
 use Rattle.std.specs.List.{filter}
 use Rattle.std.specs.Option.{option_copied}
 use Rattle.std.specs.FinMap.{entries}
@@ -32,12 +32,6 @@ pub first_columns : (stores rest : List Store) (s : Store) (e : Listed) (more : 
     → stores ≡ s ∷ rest → HaveColumns stores (e ∷ more) → s.columns ≡ e.1
 first_columns stores rest s e more q h = (subst (λ (ss : List Store). HaveColumns ss (e ∷ more)) q
     h).0
-
--- what is stored with columns is there
-pub stored_with : (columns : List Column) (stored : Option Store) → IsStored columns stored
-    → IsSome stored
-stored_with columns None h = absurd h
-stored_with columns (Some store) h = refl
 
 -- a table that is there goes on with its columns
 pub goes_over : (stored old : List MadeTable) (places : List ℕ) (place : ℕ) (name : List ℕ)

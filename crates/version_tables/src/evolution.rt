@@ -166,11 +166,16 @@ fn next_place(
     if is_name(names.first, table.name()) {
         return begin_after(alloc, tables, version, table, stamp, &rows.first, begun);
     }
-    if is_name(names.second, table.name()) {
-        return begin_after(alloc, tables, version, table, stamp, &rows.second, begun);
+    match kept_table(
+        tables,
+        places,
+        table.name(),
+        is_name(names.second, table.name()),
+    ) {
+        Some((place, _)) => Ok(place),
+        // What is not made is stored at one of these places (`others`), so this is the second.
+        None => begin_after(alloc, tables, version, table, stamp, &rows.second, begun),
     }
-    // A table that is not made is stored under its name at one of these places (`others`).
-    Ok(kept_table(tables, places, table.name()).0)
 }
 
 // The tables of the next version, in the order of their names: those that are made begin, and the

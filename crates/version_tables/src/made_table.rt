@@ -1,4 +1,4 @@
-ghost use Rattle.std.specs.Prelude.{◌≡◌, MatchOption, IsSome, None};
+ghost use Rattle.std.specs.Prelude.{◌≡◌, false, MatchOption, None};
 ghost use Rattle.std.specs.Option.{option_copied};
 ghost use Rattle.version_tables.specs.Stored.{stored_as};
 ghost use Rattle.version_tables.specs.Places.{at_places, IsFound};
@@ -36,21 +36,22 @@ pub fn find_table<'a>(
     None
 }
 
-/// The table with this name, of those at these places, one of which has it, and its place. It takes
-/// no memory.
+/// The table that goes on under the name, of those at these places, and its place: `None` where the
+/// table with this name is made, and where there is none. It takes no memory.
 pub(crate) fn kept_table<'a>(
     tables: &'a [MadeTable],
     places: &[usize],
     name: &Name,
-) -> (usize, &'a MadeTable)
-    requires { IsSome (stored_as name.now (at_places tables.now places.now)) }
-    ensures { IsFound tables.now places.now name.now result.0 result.1.now }
+    is_made: bool,
+) -> Option<(usize, &'a MadeTable)>
+    ensures { MatchOption result
+        (is_made ≡ false → stored_as name.now (at_places tables.now places.now) ≡ None)
+        (λ f. (is_made ≡ false) × IsFound tables.now places.now name.now f.0 f.1.now) }
 {
-    match find_table(tables, places, name) {
-        Some(found) => found,
-        // One of these tables is stored under the name, as is required.
-        None => unreachable!(),
+    if is_made {
+        return None;
     }
+    find_table(tables, places, name)
 }
 
 /// What is stored under the name, in the tables at these places. It takes no memory.

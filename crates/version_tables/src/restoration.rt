@@ -88,11 +88,11 @@ fn restored_place(
     ensures taken { OnOk result (stores_of begun.new.items ++ into_iter_items stores.new
         ≡ stores_of begun.old.items ++ into_iter_items stores.old) }
 {
-    if names.has(table.name()) {
-        return begin_over(tables, version, table, stores, begun);
+    match kept_table(tables, places, table.name(), names.has(table.name())) {
+        Some((place, _)) => Ok(place),
+        // What is not made is stored at one of these places (`others`), so this one is made.
+        None => begin_over(tables, version, table, stores, begun),
     }
-    // A table that is not made is stored under its name at one of these places (`others`).
-    Ok(kept_table(tables, places, table.name()).0)
 }
 
 /// The tables of a version, in the order of their names: those that are made, which have these

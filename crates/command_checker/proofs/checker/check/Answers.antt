@@ -1,6 +1,4 @@
-use Rattle.command_spelling.specs.Reader.{command}
 use Rattle.command_checker.proofs.Answering.{command_fits, alone_answers, stuck_answers}
-use Rattle.command_checker.proofs.Steps.{is_stuck}
 use Rattle.command_checker.proofs.checker.check.Goals as goal
 
 pub alone-requires : goal.alone-requires
@@ -16,18 +14,12 @@ returns-in-Ok-clause-exact c = (alone_answers c.args.bytes.now c.check_command.n
 
 pub overflow_sub-result : goal.overflow_sub-result
 overflow_sub-result c = (stuck_answers c.args.bytes.now c.check_command.new.reader.rest.now
-    (is_stuck (command c.args.bytes.now) c.in-Err-Unexpected.field-0
-    c.check_command.new.reader.rest.now c.in-Err-Unexpected.field-0-is
-    c.in-Err-Unexpected.ensures)).0
+    c.in-Err.ensures).0
 
-pub returns-in-Err-Unexpected-clause-right : goal.returns-in-Err-Unexpected-clause-right
-returns-in-Err-Unexpected-clause-right c = (stuck_answers c.args.bytes.now
-    c.check_command.new.reader.rest.now (is_stuck (command c.args.bytes.now)
-    c.in-Err-Unexpected.field-0 c.check_command.new.reader.rest.now c.in-Err-Unexpected.field-0-is
-    c.in-Err-Unexpected.ensures)).1.right
+pub returns-in-Err-clause-right : goal.returns-in-Err-clause-right
+returns-in-Err-clause-right c = (stuck_answers c.args.bytes.now
+    c.check_command.new.reader.rest.now c.in-Err.ensures).1.right
 
-pub returns-in-Err-Unexpected-clause-exact : goal.returns-in-Err-Unexpected-clause-exact
-returns-in-Err-Unexpected-clause-exact c = (stuck_answers c.args.bytes.now
-    c.check_command.new.reader.rest.now (is_stuck (command c.args.bytes.now)
-    c.in-Err-Unexpected.field-0 c.check_command.new.reader.rest.now c.in-Err-Unexpected.field-0-is
-    c.in-Err-Unexpected.ensures)).1.exact
+pub returns-in-Err-clause-exact : goal.returns-in-Err-clause-exact
+returns-in-Err-clause-exact c = (stuck_answers c.args.bytes.now
+    c.check_command.new.reader.rest.now c.in-Err.ensures).1.exact

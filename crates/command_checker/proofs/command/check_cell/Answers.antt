@@ -7,7 +7,7 @@ pub returns-in_err-check_name : goal.returns-in_err-check_name
 unfolding cell
 returns-in_err-check_name c =
     let f = err_from_is_err_and c.from_residual.result c.from_residual.ensures.1 in
-    rw (f.1, f.2) (first_of_pair_halts name value c.args.reader.now.rest.now
+    rw f.1 (first_of_pair_halts name value c.args.reader.now.rest.now
     c.in_err-check_name.field-0.0 c.check_name.new.reader.rest.now c.in_err-check_name.ensures)
 
 pub returns : goal.returns

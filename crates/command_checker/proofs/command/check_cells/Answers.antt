@@ -16,13 +16,13 @@ unfolding cells
 returns-in_err-check_cell c =
     let f = err_from_is_err_and c.from_residual-in_err-check_cell.result
     c.from_residual-in_err-check_cell.ensures.1 in
-    rw (f.1, f.2) (one_listed_halts cell 4 4294967295 c.in_ok-count.count c.loop.counter
+    rw f.1 (one_listed_halts cell 4 4294967295 c.in_ok-count.count c.loop.counter
     c.args.reader.now.rest.now c.number.new.self.rest.now c.loop.reader.rest.now
-    c.in_ok-count.ensures.reads c.loop.invariant c.in_err-check_cell.field-0.0
+    c.in_ok-count.ensures c.loop.invariant c.in_err-check_cell.field-0.0
     c.check_cell.new.reader.rest.now c.loop-test.true c.in_err-check_cell.ensures)
 
 pub returns : goal.returns
 unfolding cells
 returns c = all_listed cell 4 4294967295 c.in_ok-count.count c.loop.counter
     c.args.reader.now.rest.now c.number.new.self.rest.now c.loop.reader.rest.now
-    c.in_ok-count.ensures.reads c.loop.invariant c.loop-test.false
+    c.in_ok-count.ensures c.loop.invariant c.loop-test.false

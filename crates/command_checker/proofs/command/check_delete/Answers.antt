@@ -8,7 +8,7 @@ use Rattle.command_checker.proofs.command.check_delete.Goals as goal
 pub returns-in_err-check_name : goal.returns-in_err-check_name
 returns-in_err-check_name c =
     let f = err_from_is_err_and c.from_residual.result c.from_residual.ensures.1 in
-    rw (f.1, f.2) (mapped_halts deleted (pair name (outermost.cond))
+    rw f.1 (mapped_halts deleted (pair name (outermost.cond))
     c.args.reader.now.rest.now c.in_err-check_name.field-0.0 c.check_name.new.reader.rest.now
     (first_of_pair_halts name (outermost.cond) c.args.reader.now.rest.now
     c.in_err-check_name.field-0.0 c.check_name.new.reader.rest.now c.in_err-check_name.ensures))

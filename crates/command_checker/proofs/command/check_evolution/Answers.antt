@@ -8,7 +8,7 @@ use Rattle.command_checker.proofs.command.check_evolution.Goals as goal
 pub returns-in_err-check_op : goal.returns-in_err-check_op
 returns-in_err-check_op c =
     let f = err_from_is_err_and c.from_residual.result c.from_residual.ensures.1 in
-    rw (f.1, f.2) (mapped_halts evolved (pair operator operators)
+    rw f.1 (mapped_halts evolved (pair operator operators)
     c.args.reader.now.rest.now c.in_err-check_op.field-0.0 c.check_op.new.reader.rest.now
     (first_of_pair_halts operator operators c.args.reader.now.rest.now
     c.in_err-check_op.field-0.0 c.check_op.new.reader.rest.now c.in_err-check_op.ensures))

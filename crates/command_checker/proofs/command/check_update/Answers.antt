@@ -9,7 +9,7 @@ use Rattle.command_checker.proofs.command.check_update.Goals as goal
 pub returns-in_err-check_name : goal.returns-in_err-check_name
 returns-in_err-check_name c =
     let f = err_from_is_err_and c.from_residual.result c.from_residual.ensures.1 in
-    rw (f.1, f.2) (mapped_halts updated
+    rw f.1 (mapped_halts updated
     (pair (pair name sets) (outermost.cond)) c.args.reader.now.rest.now
     c.in_err-check_name.field-0.0 c.check_name.new.reader.rest.now
     (first_of_pair_halts (pair name sets) (outermost.cond) c.args.reader.now.rest.now
@@ -21,7 +21,7 @@ pub returns-in_err-check_sets : goal.returns-in_err-check_sets
 returns-in_err-check_sets c =
     let f = err_from_is_err_and c.from_residual-in_err-check_sets.result
     c.from_residual-in_err-check_sets.ensures.1 in
-    rw (f.1, f.2) (mapped_halts updated
+    rw f.1 (mapped_halts updated
     (pair (pair name sets) (outermost.cond)) c.args.reader.now.rest.now
     c.in_err-check_sets.field-0.0 c.check_sets.new.reader.rest.now
     (first_of_pair_halts (pair name sets) (outermost.cond) c.args.reader.now.rest.now

@@ -1,15 +1,13 @@
 use Rattle.std.proofs.lemmas.Result.{err_from_is_err_and}
 use Rattle.command_spelling.specs.Reader.{column_type}
-use Rattle.command_checker.proofs.Steps.{passed, halted}
+use Rattle.command_checker.proofs.Steps.{passed}
 use Rattle.command_checker.proofs.field.check_column_type.Goals as goal
 
 pub returns-in_err-column_type : goal.returns-in_err-column_type
 returns-in_err-column_type c =
     let f = err_from_is_err_and c.from_residual.result c.from_residual.ensures.1 in
-    rw (f.1, f.2) (halted (column_type c.args.reader.now.rest.now) c.in_err-column_type.field-0.0
-    c.column_type.new.reader.rest.now c.in_err-column_type.ensures.reads
-    c.in_err-column_type.ensures.memory)
+    rw f.1 c.in_err-column_type.ensures
 
 pub returns : goal.returns
 returns c = passed _ (column_type c.args.reader.now.rest.now) c.column_type.new.reader.rest.now
-    c.in_ok-column_type.ensures.reads
+    c.in_ok-column_type.ensures

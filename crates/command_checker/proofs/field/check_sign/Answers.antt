@@ -1,14 +1,13 @@
 use Rattle.std.proofs.lemmas.Result.{err_from_is_err_and}
 use Rattle.command_spelling.specs.Reader.{sign}
-use Rattle.command_checker.proofs.Steps.{passed, halted}
+use Rattle.command_checker.proofs.Steps.{passed}
 use Rattle.command_checker.proofs.field.check_sign.Goals as goal
 
 pub returns-in_err-sign : goal.returns-in_err-sign
 returns-in_err-sign c =
     let f = err_from_is_err_and c.from_residual.result c.from_residual.ensures.1 in
-    rw (f.1, f.2) (halted (sign c.args.reader.now.rest.now) c.in_err-sign.field-0.0
-    c.sign.new.reader.rest.now c.in_err-sign.ensures.reads c.in_err-sign.ensures.memory)
+    rw f.1 c.in_err-sign.ensures
 
 pub returns : goal.returns
 returns c = passed _ (sign c.args.reader.now.rest.now) c.sign.new.reader.rest.now
-    c.in_ok-sign.ensures.reads
+    c.in_ok-sign.ensures

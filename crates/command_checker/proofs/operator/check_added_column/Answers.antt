@@ -8,7 +8,7 @@ use Rattle.command_checker.proofs.operator.check_added_column.Goals as goal
 pub returns-in_err-check_two_names : goal.returns-in_err-check_two_names
 returns-in_err-check_two_names c =
     let f = err_from_is_err_and c.from_residual.result c.from_residual.ensures.1 in
-    rw (f.1, f.2) (mapped_halts added_column (pair two_names (outermost.expr))
+    rw f.1 (mapped_halts added_column (pair two_names (outermost.expr))
     c.args.reader.now.rest.now c.in_err-check_two_names.field-0.0
     c.check_two_names.new.reader.rest.now
     (first_of_pair_halts two_names (outermost.expr) c.args.reader.now.rest.now

@@ -16,13 +16,13 @@ unfolding columns
 returns-in_err-check_column c =
     let f = err_from_is_err_and c.from_residual-in_err-check_column.result
     c.from_residual-in_err-check_column.ensures.1 in
-    rw (f.1, f.2) (one_listed_halts column_of 1 255 c.in_ok-count.count c.loop.counter
+    rw f.1 (one_listed_halts column_of 1 255 c.in_ok-count.count c.loop.counter
     c.args.reader.now.rest.now c.number.new.self.rest.now c.loop.reader.rest.now
-    c.in_ok-count.ensures.reads c.loop.invariant c.in_err-check_column.field-0.0
+    c.in_ok-count.ensures c.loop.invariant c.in_err-check_column.field-0.0
     c.check_column.new.reader.rest.now c.loop-test.true c.in_err-check_column.ensures)
 
 pub returns : goal.returns
 unfolding columns
 returns c = all_listed column_of 1 255 c.in_ok-count.count c.loop.counter c.args.reader.now.rest.now
-    c.number.new.self.rest.now c.loop.reader.rest.now c.in_ok-count.ensures.reads c.loop.invariant
+    c.number.new.self.rest.now c.loop.reader.rest.now c.in_ok-count.ensures c.loop.invariant
     c.loop-test.false

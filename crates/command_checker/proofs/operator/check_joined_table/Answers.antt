@@ -7,7 +7,7 @@ use Rattle.command_checker.proofs.operator.check_joined_table.Goals as goal
 pub returns-in_err-check_three_names : goal.returns-in_err-check_three_names
 returns-in_err-check_three_names c =
     let f = err_from_is_err_and c.from_residual.result c.from_residual.ensures.1 in
-    rw (f.1, f.2) (mapped_halts joined_tables (pair three_names (outermost.cond))
+    rw f.1 (mapped_halts joined_tables (pair three_names (outermost.cond))
     c.args.reader.now.rest.now
     c.in_err-check_three_names.field-0.0 c.check_three_names.new.reader.rest.now
     (first_of_pair_halts three_names (outermost.cond) c.args.reader.now.rest.now

@@ -16,13 +16,13 @@ unfolding operators
 returns-in_err-check_op c =
     let f = err_from_is_err_and c.from_residual-in_err-check_op.result
     c.from_residual-in_err-check_op.ensures.1 in
-    rw (f.1, f.2) (one_listed_halts operator 4 4294967295 c.in_ok-count.count c.loop.counter
+    rw f.1 (one_listed_halts operator 4 4294967295 c.in_ok-count.count c.loop.counter
     c.args.reader.now.rest.now c.number.new.self.rest.now c.loop.reader.rest.now
-    c.in_ok-count.ensures.reads c.loop.invariant c.in_err-check_op.field-0.0
+    c.in_ok-count.ensures c.loop.invariant c.in_err-check_op.field-0.0
     c.check_op.new.reader.rest.now c.loop-test.true c.in_err-check_op.ensures)
 
 pub returns : goal.returns
 unfolding operators
 returns c = all_listed operator 4 4294967295 c.in_ok-count.count c.loop.counter
     c.args.reader.now.rest.now c.number.new.self.rest.now c.loop.reader.rest.now
-    c.in_ok-count.ensures.reads c.loop.invariant c.loop-test.false
+    c.in_ok-count.ensures c.loop.invariant c.loop-test.false

@@ -8,7 +8,7 @@ use Rattle.command_checker.proofs.operator.check_partitioned_table.Goals as goal
 pub returns-in_err-check_two_names : goal.returns-in_err-check_two_names
 returns-in_err-check_two_names c =
     let f = err_from_is_err_and c.from_residual.result c.from_residual.ensures.1 in
-    rw (f.1, f.2) (mapped_halts partitioned (pair (pair two_names (outermost.cond)) name)
+    rw f.1 (mapped_halts partitioned (pair (pair two_names (outermost.cond)) name)
     c.args.reader.now.rest.now
     c.in_err-check_two_names.field-0.0 c.check_two_names.new.reader.rest.now
     (first_of_pair_halts (pair two_names (outermost.cond)) name c.args.reader.now.rest.now
@@ -21,7 +21,7 @@ pub returns-in_err-check_outer_cond : goal.returns-in_err-check_outer_cond
 returns-in_err-check_outer_cond c =
     let f = err_from_is_err_and c.from_residual-in_err-check_outer_cond.result
     c.from_residual-in_err-check_outer_cond.ensures.1 in
-    rw (f.1, f.2) (mapped_halts partitioned (pair (pair two_names (outermost.cond)) name)
+    rw f.1 (mapped_halts partitioned (pair (pair two_names (outermost.cond)) name)
     c.args.reader.now.rest.now
     c.in_err-check_outer_cond.field-0.0 c.check_outer_cond.new.reader.rest.now
     (first_of_pair_halts (pair two_names (outermost.cond)) name c.args.reader.now.rest.now

@@ -7,7 +7,7 @@ pub returns-in_err-check_two_names : goal.returns-in_err-check_two_names
 unfolding three_names
 returns-in_err-check_two_names c =
     let f = err_from_is_err_and c.from_residual.result c.from_residual.ensures.1 in
-    rw (f.1, f.2) (first_of_pair_halts two_names name c.args.reader.now.rest.now
+    rw f.1 (first_of_pair_halts two_names name c.args.reader.now.rest.now
     c.in_err-check_two_names.field-0.0 c.check_two_names.new.reader.rest.now
     c.in_err-check_two_names.ensures)
 

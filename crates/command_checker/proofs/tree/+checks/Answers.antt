@@ -5,7 +5,7 @@ use Rattle.cond_expr.specs.Trees.{joined}
 use Rattle.command_spelling.specs.Reading.{pair, digits, items, listed}
 use Rattle.command_spelling.specs.Reader.{sign, level, most_parts}
 use Rattle.command_spelling.specs.Reader.{chosen, comparison}
-use Rattle.command_checker.proofs.Steps.{halted, first_halts, after, mapped, mapped_halts, paired}
+use Rattle.command_checker.proofs.Steps.{first_halts, after, mapped, mapped_halts, paired}
 use Rattle.command_checker.proofs.Steps.{both_pass, first_of_pair_halts, second_of_pair_halts}
 use Rattle.command_checker.proofs.ListSteps.{none_passed, one_passed, one_halts, all_passed}
 use Rattle.command_checker.proofs.TreeSteps.{expr_levels, cond_levels}
@@ -23,7 +23,7 @@ check_exprs-loop-preserved t c = one_passed (level c.args.levels).expr c.args.co
 pub check_exprs-returns-in_err-check_expr : goal.check_exprs-returns-in_err-check_expr
 check_exprs-returns-in_err-check_expr t c =
     let f = err_from_is_err_and c.from_residual.result c.from_residual.ensures.1 in
-    rw (f.1, f.2) (one_halts (level c.args.levels).expr c.args.count c.loop.counter
+    rw f.1 (one_halts (level c.args.levels).expr c.args.count c.loop.counter
     c.args.reader.now.rest.now c.loop.reader.rest.now c.loop.invariant
     c.in_err-check_expr.field-0.0 c.check_expr.new.reader.rest.now c.loop-test.true
     c.in_err-check_expr.ensures)
@@ -44,7 +44,7 @@ check_conds-loop-preserved t c = one_passed (level c.args.levels).cond c.args.co
 pub check_conds-returns-in_err-check_cond : goal.check_conds-returns-in_err-check_cond
 check_conds-returns-in_err-check_cond t c =
     let f = err_from_is_err_and c.from_residual.result c.from_residual.ensures.1 in
-    rw (f.1, f.2) (one_halts (level c.args.levels).cond c.args.count c.loop.counter
+    rw f.1 (one_halts (level c.args.levels).cond c.args.count c.loop.counter
     c.args.reader.now.rest.now c.loop.reader.rest.now c.loop.invariant
     c.in_err-check_cond.field-0.0 c.check_cond.new.reader.rest.now c.loop-test.true
     c.in_err-check_cond.ensures)
@@ -56,15 +56,12 @@ check_conds-returns t c = all_passed (level c.args.levels).cond c.args.count c.l
 pub check_concat-returns-in_err-count : goal.check_concat-returns-in_err-count
 check_concat-returns-in_err-count t c =
     let f = err_from_is_err_and c.from_residual.result c.from_residual.ensures.1 in
-    let h = halted (digits (most_parts (nat_lt 0 c.args.levels) 255) 1 0 c.args.reader.now.rest.now)
-    c.in_err-count.field-0.0 c.part_count.new.reader.rest.now c.in_err-count.ensures.reads
-    c.in_err-count.ensures.memory in
-    rw (f.1, f.2) (mapped_halts (λ l. joined (trees_of l))
+    rw f.1 (mapped_halts (λ l. joined (trees_of l))
     (listed 1 (most_parts (nat_lt 0 c.args.levels) 255) (level c.args.levels).expr)
     c.args.reader.now.rest.now c.in_err-count.field-0.0 c.part_count.new.reader.rest.now
     (first_halts (digits (most_parts (nat_lt 0 c.args.levels) 255) 1 0)
     (λ n. items (level c.args.levels).expr n) c.args.reader.now.rest.now
-    c.in_err-count.field-0.0 c.part_count.new.reader.rest.now h))
+    c.in_err-count.field-0.0 c.part_count.new.reader.rest.now c.in_err-count.ensures))
 
 pub check_concat-returns : goal.check_concat-returns
 check_concat-returns t c = mapped (λ l. joined (trees_of l))
@@ -73,28 +70,25 @@ check_concat-returns t c = mapped (λ l. joined (trees_of l))
     (after (digits (most_parts (nat_lt 0 c.args.levels) 255) 1 0)
     (λ n. items (level c.args.levels).expr n) c.args.reader.now.rest.now c.in_ok-count.count
     c.part_count.new.reader.rest.now c.check_exprs.result c.check_exprs.new.reader.rest.now
-    c.in_ok-count.ensures.reads c.check_exprs.ensures)
+    c.in_ok-count.ensures c.check_exprs.ensures)
 
 pub check_parts-returns-in_err-count : goal.check_parts-returns-in_err-count
 check_parts-returns-in_err-count t c =
     let f = err_from_is_err_and c.from_residual.result c.from_residual.ensures.1 in
-    let h = halted (digits (most_parts (nat_lt 0 c.args.levels) 65535) 2 0
-    c.args.reader.now.rest.now) c.in_err-count.field-0.0 c.part_count.new.reader.rest.now
-    c.in_err-count.ensures.reads c.in_err-count.ensures.memory in
-    rw (f.1, f.2) (first_halts (digits (most_parts (nat_lt 0 c.args.levels) 65535) 2 0)
+    rw f.1 (first_halts (digits (most_parts (nat_lt 0 c.args.levels) 65535) 2 0)
     (λ n. items (level c.args.levels).cond n) c.args.reader.now.rest.now
-    c.in_err-count.field-0.0 c.part_count.new.reader.rest.now h)
+    c.in_err-count.field-0.0 c.part_count.new.reader.rest.now c.in_err-count.ensures)
 
 pub check_parts-returns : goal.check_parts-returns
 check_parts-returns t c = after (digits (most_parts (nat_lt 0 c.args.levels) 65535) 2 0)
     (λ n. items (level c.args.levels).cond n) c.args.reader.now.rest.now c.in_ok-count.count
     c.part_count.new.reader.rest.now c.check_conds.result c.check_conds.new.reader.rest.now
-    c.in_ok-count.ensures.reads c.check_conds.ensures
+    c.in_ok-count.ensures c.check_conds.ensures
 
 pub check_case-returns-in_err-check_cond : goal.check_case-returns-in_err-check_cond
 check_case-returns-in_err-check_cond t c =
     let f = err_from_is_err_and c.from_residual.result c.from_residual.ensures.1 in
-    rw (f.1, f.2) (mapped_halts chosen
+    rw f.1 (mapped_halts chosen
     (pair (pair (level c.args.levels).cond (level c.args.levels).expr)
     (level c.args.levels).expr) c.args.reader.now.rest.now c.in_err-check_cond.field-0.0
     c.check_cond.new.reader.rest.now (first_of_pair_halts
@@ -108,7 +102,7 @@ pub check_case-returns-in_err-check_expr : goal.check_case-returns-in_err-check_
 check_case-returns-in_err-check_expr t c =
     let f = err_from_is_err_and c.from_residual-in_err-check_expr.result
     c.from_residual-in_err-check_expr.ensures.1 in
-    rw (f.1, f.2) (mapped_halts chosen
+    rw f.1 (mapped_halts chosen
     (pair (pair (level c.args.levels).cond (level c.args.levels).expr)
     (level c.args.levels).expr) c.args.reader.now.rest.now c.in_err-check_expr.field-0.0
     c.check_expr.new.reader.rest.now (first_of_pair_halts
@@ -132,7 +126,7 @@ check_case-returns t c = mapped chosen
 pub check_comparison-returns-in_err-check_sign : goal.check_comparison-returns-in_err-check_sign
 check_comparison-returns-in_err-check_sign t c =
     let f = err_from_is_err_and c.from_residual.result c.from_residual.ensures.1 in
-    rw (f.1, f.2) (mapped_halts comparison
+    rw f.1 (mapped_halts comparison
     (pair (pair sign (level c.args.levels).expr) (level c.args.levels).expr)
     c.args.reader.now.rest.now c.in_err-check_sign.field-0.0 c.check_sign.new.reader.rest.now
     (first_of_pair_halts (pair sign (level c.args.levels).expr) (level c.args.levels).expr
@@ -145,7 +139,7 @@ pub check_comparison-returns-in_err-check_expr : goal.check_comparison-returns-i
 check_comparison-returns-in_err-check_expr t c =
     let f = err_from_is_err_and c.from_residual-in_err-check_expr.result
     c.from_residual-in_err-check_expr.ensures.1 in
-    rw (f.1, f.2) (mapped_halts comparison
+    rw f.1 (mapped_halts comparison
     (pair (pair sign (level c.args.levels).expr) (level c.args.levels).expr)
     c.args.reader.now.rest.now c.in_err-check_expr.field-0.0 c.check_expr.new.reader.rest.now
     (first_of_pair_halts (pair sign (level c.args.levels).expr) (level c.args.levels).expr

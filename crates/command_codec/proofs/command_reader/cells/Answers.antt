@@ -10,7 +10,7 @@ returns-in_err-cell c =
     c.from_residual-in_err-cell.ensures.1 in
     rw (f.1, f.2) (no_counted_item cell 4 4294967295 c.in_ok-count.count c.loop.counter
     c.args.reader.now.rest.now c.number.new.self.rest.now c.loop.reader.rest.now _
-    c.in_ok-count.ensures.reads c.loop.invariant c.in_err-cell.field-0.0
+    c.in_ok-count.ensures c.loop.invariant c.in_err-cell.field-0.0
     c.cell.new.reader.rest.now c.loop-test.true c.in_err-cell.ensures)
 
 pub loop-preserved : goal.loop-preserved
@@ -23,4 +23,4 @@ pub returns : goal.returns
 unfolding cells
 returns c = all_counted cell 4 4294967295 c.in_ok-count.count c.loop.counter
     c.args.reader.now.rest.now c.number.new.self.rest.now c.loop.reader.rest.now _
-    c.in_ok-count.ensures.reads c.loop.invariant c.loop-test.false
+    c.in_ok-count.ensures c.loop.invariant c.loop-test.false

@@ -11,7 +11,7 @@ returns-in_err-change c =
     c.from_residual-in_err-change.ensures.1 in
     rw (f.1, f.2) (no_counted_item change 4 4294967295 c.in_ok-count.count c.loop.counter
     c.args.reader.now.rest.now c.number.new.self.rest.now c.loop.reader.rest.now _
-    c.in_ok-count.ensures.reads c.loop.invariant c.in_err-change.field-0.0
+    c.in_ok-count.ensures c.loop.invariant c.in_err-change.field-0.0
     c.change.new.reader.rest.now c.loop-test.true c.in_err-change.ensures)
 
 pub loop-preserved : goal.loop-preserved
@@ -24,4 +24,4 @@ pub returns : goal.returns
 unfolding changes
 returns c = all_counted change 4 4294967295 c.in_ok-count.count c.loop.counter
     c.args.reader.now.rest.now c.number.new.self.rest.now c.loop.reader.rest.now _
-    c.in_ok-count.ensures.reads c.loop.invariant c.loop-test.false
+    c.in_ok-count.ensures c.loop.invariant c.loop-test.false

@@ -10,7 +10,7 @@ returns-in_err-name c =
     c.from_residual-in_err-name.ensures.1 in
     rw (f.1, f.2) (no_counted_item name 1 255 c.in_ok-count.count c.loop.counter
     c.args.reader.now.rest.now c.number.new.self.rest.now c.loop.reader.rest.now _
-    c.in_ok-count.ensures.reads c.loop.invariant c.in_err-name.field-0.0
+    c.in_ok-count.ensures c.loop.invariant c.in_err-name.field-0.0
     c.name.new.reader.rest.now c.loop-test.true c.in_err-name.ensures)
 
 pub loop-preserved : goal.loop-preserved
@@ -22,5 +22,5 @@ loop-preserved c = one_more_item name c.in_ok-count.count c.loop.counter c.numbe
 pub returns : goal.returns
 unfolding names
 returns c = all_counted name 1 255 c.in_ok-count.count c.loop.counter c.args.reader.now.rest.now
-    c.number.new.self.rest.now c.loop.reader.rest.now _ c.in_ok-count.ensures.reads c.loop.invariant
+    c.number.new.self.rest.now c.loop.reader.rest.now _ c.in_ok-count.ensures c.loop.invariant
     c.loop-test.false

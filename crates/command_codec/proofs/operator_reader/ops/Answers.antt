@@ -11,7 +11,7 @@ returns-in_err-op c =
     c.from_residual-in_err-op.ensures.1 in
     rw (f.1, f.2) (no_counted_item operator 4 4294967295 c.in_ok-count.count c.loop.counter
     c.args.reader.now.rest.now c.number.new.self.rest.now c.loop.reader.rest.now _
-    c.in_ok-count.ensures.reads c.loop.invariant c.in_err-op.field-0.0 c.op.new.reader.rest.now
+    c.in_ok-count.ensures c.loop.invariant c.in_err-op.field-0.0 c.op.new.reader.rest.now
     c.loop-test.true c.in_err-op.ensures)
 
 pub loop-preserved : goal.loop-preserved
@@ -24,4 +24,4 @@ pub returns : goal.returns
 unfolding operators
 returns c = all_counted operator 4 4294967295 c.in_ok-count.count c.loop.counter
     c.args.reader.now.rest.now c.number.new.self.rest.now c.loop.reader.rest.now _
-    c.in_ok-count.ensures.reads c.loop.invariant c.loop-test.false
+    c.in_ok-count.ensures c.loop.invariant c.loop-test.false

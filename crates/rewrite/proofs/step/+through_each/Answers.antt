@@ -4,11 +4,6 @@ use Rattle.piece_ir.specs.Shown.{pieces_of}
 use Rattle.rewrite.proofs.CodeSteps.{first_accepted, rest_typed, all_are}
 use Rattle.rewrite.proofs.step.+through_each.Goals as goal
 
-pub schema_after-requires-clause-accepted : goal.schema_after-requires-clause-accepted
-schema_after-requires-clause-accepted g t c =
-    first_accepted c.args.tables.now c.args.ops.now c.op-item.result c.in-len1-up.len_at_least
-    c.op-item.is c.requires.accepted
-
 pub through-requires-clause-accepted : goal.through-requires-clause-accepted
 through-requires-clause-accepted g t c =
     first_accepted c.args.tables.now c.args.ops.now c.op-item.result c.in-len1-up.len_at_least
@@ -16,17 +11,21 @@ through-requires-clause-accepted g t c =
 
 pub through-requires-clause-typed : goal.through-requires-clause-typed
 through-requires-clause-typed g t c =
+    let accepted = first_accepted c.args.tables.now c.args.ops.now c.op-item.result
+    c.in-len1-up.len_at_least c.op-item.is c.requires.accepted in
     rest_typed _ c.known.ensures c.args.tables.now c.in_ok-next-in-len1-up.next c.args.ops.now
     c.op-item.result (pieces_of c.args.pieces.items) (pieces_of c.deref.result.now)
     c.requires.valid c.in-len1-up.len_at_least c.op-item.is c.requires.accepted c.requires.typed
-    c.in_ok-next-in-len1-up.ensures.after
+    (c.in_ok-next-in-len1-up.ensures.after accepted)
     (ap pieces_of c.deref.ensures.value ∙ c.in_ok-taken-in-len1-up.ensures)
 
 pub returns-in_ok-taken-in-len1-up : goal.returns-in_ok-taken-in-len1-up
 returns-in_ok-taken-in-len1-up g t c =
+    let accepted = first_accepted c.args.tables.now c.args.ops.now c.op-item.result
+    c.in-len1-up.len_at_least c.op-item.is c.requires.accepted in
     IfOk-weaker c.through.result _ _ (λ news h.
     all_are _ c.args.tables.now c.in_ok-next-in-len1-up.next c.args.ops.now c.op-item.result
     (pieces_of c.args.pieces.items) (pieces_of c.deref.result.now) (pieces_of news.items)
-    c.in-len1-up.len_at_least c.op-item.is c.in_ok-next-in-len1-up.ensures.after
+    c.in-len1-up.len_at_least c.op-item.is (c.in_ok-next-in-len1-up.ensures.after accepted)
     (ap pieces_of c.deref.ensures.value ∙ c.in_ok-taken-in-len1-up.ensures) h)
     c.through.ensures

@@ -3,8 +3,8 @@ use Rattle.std.proofs.lemmas.List.{take-append-drop}
 use Rattle.command_spelling.specs.Reading.{digits}
 use Rattle.command_codec.proofs.reader.Reader.number_64.Goals as goal
 
-pub returns-in-Some-clause-reads : goal.returns-in-Some-clause-reads
-returns-in-Some-clause-reads c =
+pub returns-in-Some : goal.returns-in-Some
+returns-in-Some c =
     let ts = c.args.self.now.rest.now in
     let parts = c.in-Some.ensures.cases in
     sym (ap (digits 18446744073709551615 8 0)
