@@ -1,5 +1,5 @@
 -- From the records of a file to what mounting it says.
-use Rattle.std.proofs.Common.{◌≡◌, inl, inr, ℕ, ◌+◌, ◌<◌, ◌≤◌, ◌^◌, List, [], ◌∷◌, ◌++◌}
+use Rattle.std.proofs.Common.{◌≡◌, inl, inr, ℕ, ◌+◌, ◌≤◌, List, [], ◌∷◌, ◌++◌}
 use Rattle.std.proofs.Common.{length, refl, sym, subst, ap, ◌∙◌, arith, Some, None}
 use Rattle.std.specs.Prelude.{Option, nat_le, false, if◌then◌else◌}
 use Rattle.std.proofs.lemmas.Bool.Decides.{nat_tests}
@@ -14,22 +14,10 @@ use Rattle.archive_file.specs.LogRecords.{LogRecord, logged, records_of, gate_af
 use Rattle.archive_file.specs.Opening.{HasFaultAt, Damages, Opens}
 use Rattle.archive_state.specs.ArchiveContents.{ArchiveContent}
 use Rattle.archive_replay.specs.declared.opened.Opened.{Opened}
-use Rattle.archive_replay.specs.Reading.{AreInPlace}
 use Rattle.archive_replay.specs.Restoring.{IsRestored}
 use Rattle.archive_core.specs.Mounting.{IsMounted}
 use Rattle.archive_core.specs.Holding.{HoldsAt}
 use Rattle.archive_core.proofs.Held.{held_opened}
-
-pub in_place : (file : List ℕ) (recs : List Rec) (at : ℕ) → at < 2 ^ 64 → IsOpened file recs at
-    → AreInPlace recs
-in_place file recs at small (inl short) = subst AreInPlace (sym short.1)
-    (record { known = tt; places = refl; short = omega arith })
-in_place file recs at small (inr read) = record {
-  known = read.1.holds.known;
-  places =
-      read.1.places;
-  short = omega (arith, read.1.end, small);
-}
 
 gate_is : (file : List ℕ) (recs : List Rec) (at : ℕ) (log : List LogRecord) → IsOpened file recs at
     → records_in recs ≡ records_of log → at ≡ gate_after log
@@ -39,11 +27,9 @@ gate_is file recs at log (inr read) same = read.1.end
     ∙ ap (λ (l : List Record). length (before_gate l)) same
 
 mounted : (file : List ℕ) (recs : List Rec) (at : ℕ) (archive : ArchiveContent) (opened : Opened)
-    → at < 2 ^ 64 → IsOpened file recs at → (AreInPlace recs
-    → IsRestored (records_in recs) archive opened)
+    → IsOpened file recs at → IsRestored (records_in recs) archive opened
     → IsMounted file archive at opened
-mounted file recs at archive opened small is_opened restores =
-    let made = restores (in_place file recs at small is_opened) in
+mounted file recs at archive opened is_opened made =
     record {
       log = made.log;
       opens = record {
@@ -79,24 +65,22 @@ kept_file file new recs at place (inr read) e fault =
 
 -- the same of what a disk tells
 pub tell_mounted : (seen : Option (List ℕ)) (recs : List Rec) (at : ℕ) (archive : ArchiveContent)
-    (opened : Opened) → at < 2 ^ 64 → Tells seen (λ file. IsOpened file recs at)
-    → (AreInPlace recs → IsRestored (records_in recs) archive opened)
+    (opened : Opened) → Tells seen (λ file. IsOpened file recs at)
+    → IsRestored (records_in recs) archive opened
     → Tells seen (λ file. IsMounted file archive at opened)
-tell_mounted None recs at archive opened small is_opened restores = tt
-tell_mounted (Some file) recs at archive opened small is_opened restores =
-    mounted file recs at archive opened small is_opened restores
+tell_mounted None recs at archive opened is_opened made = tt
+tell_mounted (Some file) recs at archive opened is_opened made =
+    mounted file recs at archive opened is_opened made
 
-pub tell_damaged : (seen : Option (List ℕ)) (recs : List Rec) (at place : ℕ) → at < 2 ^ 64
-    → Tells seen (λ file. IsOpened file recs at)
-    → (AreInPlace recs → HasFaultAt (records_in recs) place)
+pub tell_damaged : (seen : Option (List ℕ)) (recs : List Rec) (at place : ℕ)
+    → Tells seen (λ file. IsOpened file recs at) → HasFaultAt (records_in recs) place
     → Tells seen (λ file. Damages file place)
-tell_damaged None recs at place small opened fault = tt
-tell_damaged (Some file) recs at place small opened fault =
+tell_damaged None recs at place opened fault = tt
+tell_damaged (Some file) recs at place opened fault =
     inr (record {
       records = records_in recs;
       stands = opened_stands file recs at opened;
-      fault =
-          fault (in_place file recs at small opened);
+      fault = fault;
     })
 
 pub tell_frames : (seen : Option (List ℕ)) (P Q : List ℕ → Type 0)
@@ -109,16 +93,14 @@ pub tell_all : (seen : Option (List ℕ)) (P : List ℕ → Type 0) → ((file :
 tell_all None P all = tt
 tell_all (Some file) P all = all file
 
-pub tell_untouched : (old new : Option (List ℕ)) (recs : List Rec) (at place : ℕ) → at < 2 ^ 64
+pub tell_untouched : (old new : Option (List ℕ)) (recs : List Rec) (at place : ℕ)
     → Tells old (λ file. IsOpened file recs at)
-    → Told (λ o n. n ≡ opened_file o) old new
-    → (AreInPlace recs → HasFaultAt (records_in recs) place) → new ≡ old
-tell_untouched None None recs at place small opened told fault = refl
-tell_untouched None (Some new) recs at place small opened told fault = absurd told
-tell_untouched (Some file) None recs at place small opened told fault = absurd told
-tell_untouched (Some file) (Some new) recs at place small opened told fault =
-    ap Some (kept_file file new recs at place opened told
-    (fault (in_place file recs at small opened)))
+    → Told (λ o n. n ≡ opened_file o) old new → HasFaultAt (records_in recs) place → new ≡ old
+tell_untouched None None recs at place opened told fault = refl
+tell_untouched None (Some new) recs at place opened told fault = absurd told
+tell_untouched (Some file) None recs at place opened told fault = absurd told
+tell_untouched (Some file) (Some new) recs at place opened told fault =
+    ap Some (kept_file file new recs at place opened told fault)
 
 pub tell_cost : (seen : Option (List ℕ)) (recs : List Rec) (at old new : ℕ)
     → Tells seen (λ file. IsOpened file recs at) → new ≤ old + length recs
@@ -134,15 +116,13 @@ tell_cost (Some file) recs at old new opened cost = λ records stands.
       length-map recs plain_record,
     )
 
-pub tell_cost_open : (seen : Option (List ℕ)) (recs : List Rec) (at old new : ℕ) → at < 2 ^ 64
+pub tell_cost_open : (seen : Option (List ℕ)) (recs : List Rec) (at old new : ℕ)
     → Tells seen (λ file. IsOpened file recs at)
-    → (AreInPlace recs → (log : List LogRecord) → records_in recs ≡ records_of log
-    → new ≤ old + replayed_of log)
+    → ((log : List LogRecord) → records_in recs ≡ records_of log → new ≤ old + replayed_of log)
     → Tells seen (λ file. (log : List LogRecord) → Opens file log → new ≤ old + replayed_of log)
-tell_cost_open None recs at old new small opened cost = tt
-tell_cost_open (Some file) recs at old new small opened cost = λ log opens.
-    cost (in_place file recs at small opened) log
-    (sym (opened_records file (records_of log) recs at opens.stands opened))
+tell_cost_open None recs at old new opened cost = tt
+tell_cost_open (Some file) recs at old new opened cost = λ log opens.
+    cost log (sym (opened_records file (records_of log) recs at opens.stands opened))
 
 pub stands_as : (d : Meaning) (seen : Option (List ℕ)) (recs : List Rec) (at : ℕ) (file : List ℕ)
     (log : List LogRecord) → seen ≡ Some file

@@ -152,7 +152,7 @@ impl<D: Disk> Archive<D> {
         ensures commits { (past : Past) → RepresentsPast (standing_of self.old) past
             → Commits past (command_of command) (place_of self.old) (limit_of self.old)
             (standing_of self.old) result (standing_of self.new) }
-        ensures represents { is_broken self.old ≡ false → RepresentsSome (standing_of self.old)
+        ensures represents { RepresentsSome (standing_of self.old)
             × RepresentsSome (standing_of self.new) }
         ensures untouched { IfErr result (λ e. (e ≡ fault.Disk → ⊥)
             → (disk_of self.new ≡ disk_of self.old) × (place_of self.new ≡ place_of self.old)) }
@@ -178,6 +178,8 @@ impl<D: Disk> Archive<D> {
             (place_of self.old) (place_of self.new) (record_of (logged (command_of command)))) }
     {
         if self.broken {
+            // what stands in memory represents a past all the same
+            let _last = self.state.last();
             return Err(CommitFault::Broken);
         }
         let (accepted, sealed) = judge_and_seal(self.alloc, &self.state, command)?;

@@ -15,7 +15,7 @@ use Rattle.command_spelling.specs.Valid.{IsCommand}
 use Rattle.image_spelling.specs.Images.{Image, IsImage}
 use Rattle.image_spelling.specs.ShownPast.{image_past}
 use Rattle.journal.specs.Records.{Record, AreKnown, IsKnown, before_gate}
-use Rattle.journal.specs.Reading.{records_in, record_of as plain_record}
+use Rattle.journal.specs.Reading.{records_in, record_of as plain_record, AreInPlace}
 use Rattle.journal.specs.declared.rec.Rec.{Rec}
 use Rattle.archive_file.specs.LogRecords.{LogRecord, logged, checkpointed, record_of, records_of}
 use Rattle.archive_file.specs.LogRecords.{gate_after, IsSpelled, AreSpelled, commands_in}
@@ -26,7 +26,7 @@ use Rattle.archive_file.proofs.Records.{accepted_commands, accepted_image, no_im
 use Rattle.archive_file.proofs.Records.{replayed_after}
 use Rattle.archive_state.specs.ArchiveContents.{ArchiveContent, RepresentsPast}
 use Rattle.archive_replay.specs.declared.record_reader.ReadRecords.{ReadRecords}
-use Rattle.archive_replay.specs.Reading.{AreInPlace, IsRefusedIn, EndsWithImage, commands_kept}
+use Rattle.archive_replay.specs.Reading.{IsRefusedIn, EndsWithImage, commands_kept}
 use Rattle.archive_replay.specs.Reading.{AreJudged, AreKept, IsRead}
 use Rattle.archive_replay.proofs.Gates.{gate_of, ends_before}
 

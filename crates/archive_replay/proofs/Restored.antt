@@ -6,7 +6,7 @@ use Rattle.std.proofs.lemmas.List.{length-map, map-append, get_or-drop}
 use Rattle.smo_types.specs.Commands.{PlainCommand, command_of}
 use Rattle.smo_meaning.specs.Accepts.{command_fault}
 use Rattle.journal.specs.Records.{Record, before_gate}
-use Rattle.journal.specs.Reading.{records_in, record_of as plain_record}
+use Rattle.journal.specs.Reading.{records_in, record_of as plain_record, AreInPlace}
 use Rattle.journal.specs.declared.rec.Rec.{Rec}
 use Rattle.archive_file.specs.LogRecords.{LogRecord, logged, record_of, records_of, gate_after}
 use Rattle.archive_file.specs.LogRecords.{AreSpelled, past_recorded}
@@ -15,7 +15,7 @@ use Rattle.archive_file.proofs.Records.{no_images}
 use Rattle.archive_state.specs.ArchiveContents.{ArchiveContent, RepresentsPast}
 use Rattle.archive_replay.specs.declared.opened.Opened.{Opened}
 use Rattle.archive_replay.specs.declared.record_reader.ReadRecords.{ReadRecords}
-use Rattle.archive_replay.specs.Reading.{AreInPlace, AreKept, commands_kept}
+use Rattle.archive_replay.specs.Reading.{AreKept, commands_kept}
 use Rattle.archive_replay.specs.Replaying.{IsStoppedAt, IsReplayed}
 use Rattle.archive_replay.specs.Restoring.{IsRestored}
 use Rattle.archive_replay.proofs.Gates.{gate_of}

@@ -3,20 +3,14 @@ use Rattle.std.specs.Prelude.{◌≡◌, ◌⊎◌, ℕ, ◌+◌, ◌<◌, ◌^�
 use Rattle.std.specs.Prelude.{map}
 use Rattle.smo_types.specs.Commands.{command_of, PlainCommand}
 use Rattle.image_spelling.specs.Images.{Image}
-use Rattle.journal.specs.Records.{Record, before_gate, IsKnown, AreKnown}
-use Rattle.journal.specs.Reading.{records_in, record_of as plain_record, gates}
+use Rattle.journal.specs.Records.{Record, IsKnown}
+use Rattle.journal.specs.Reading.{record_of as plain_record}
 use Rattle.journal.specs.declared.rec.Rec.{Rec}
 use Rattle.archive_file.specs.LogRecords.{LogRecord, logged, checkpointed, records_of, AreSpelled}
 use Rattle.archive_file.specs.LogRecords.{commands_in, past_recorded}
 use Rattle.archive_file.specs.Opening.{IsRefusedAt}
 use Rattle.archive_state.specs.ArchiveContents.{RepresentsPast}
 use Rattle.archive_replay.specs.declared.record_reader.ReadRecords.{ReadRecords}
-
--- records of known kinds, each with the place of its gate in a file that has them all
-pub record AreInPlace (recs : List Rec) : Type 0 where
-  pub known : AreKnown (records_in recs)
-  pub places : map (λ rec. rec.at) recs ≡ gates 8 (records_in recs)
-  pub short : length (before_gate (records_in recs)) < 2 ^ 64
 
 -- the payload of the record at this gate is none of its kind, and this is where it is refused, by
 -- its place in the file

@@ -9,11 +9,11 @@ ghost use Rattle.image_spelling.specs.Images.{Image, IsImage};
 ghost use Rattle.image_spelling.specs.Spelling.{image_bytes};
 ghost use Rattle.image_spelling.specs.ShownPast.{image_past};
 ghost use Rattle.journal.specs.Records.{Record, IsKnown};
-ghost use Rattle.journal.specs.Reading.{records_in, record_of};
+ghost use Rattle.journal.specs.Reading.{records_in, record_of, AreInPlace};
 ghost use Rattle.journal.specs.declared.rec.Rec.{Rec as ARecord};
 ghost use Rattle.version_groups.specs.Representation.{Represents};
 ghost use Rattle.archive_file.specs.Opening.{HasNoSpellingAt};
-ghost use Rattle.archive_replay.specs.Reading.{AreInPlace, IsRefusedIn, IsRead, AreKept};
+ghost use Rattle.archive_replay.specs.Reading.{IsRefusedIn, IsRead, AreKept};
 ghost use Rattle.archive_replay.specs.declared.fault.MountFault.TheVariants as mounting;
 
 use crate::MountFault;
@@ -140,9 +140,10 @@ fn before_last_image(recs: &[Rec]) -> usize
 /// What the records stand for, all of them before any command is carried out. Only the commands
 /// after the last image are made; those before it are judged by their bytes alone.
 pub(crate) fn read_all(alloc: Global, recs: &[Rec]) -> Result<ReadRecords, MountFault>
-    ensures kept { IfOk result (λ kept. AreInPlace recs.now → AreKept (records_in recs.now) kept) }
+    requires { AreInPlace recs.now }
+    ensures kept { IfOk result (λ kept. AreKept (records_in recs.now) kept) }
     ensures few { IfOk result (λ kept. length kept.commands.items ≤ length recs.now) }
-    ensures damaged { (place : _) → result ≡ Err (mounting.Damaged place) → AreInPlace recs.now
+    ensures damaged { (place : _) → result ≡ Err (mounting.Damaged place)
         → HasNoSpellingAt (records_in recs.now) place }
     ensures disk { result ≡ Err mounting.Disk → ⊥ }
 {

@@ -3,11 +3,10 @@
 ghost use Rattle.std.specs.Prelude.{◌≡◌, ◌+◌, ◌≤◌, List, length, map, IfOk, OnOk, Err};
 ghost use Rattle.smo_types.specs.Commands.{command_of};
 ghost use Rattle.smo_meaning.specs.Past.{Past};
-ghost use Rattle.journal.specs.Reading.{records_in};
+ghost use Rattle.journal.specs.Reading.{records_in, AreInPlace};
 ghost use Rattle.archive_state.specs.ArchiveContents.{RepresentsPast, RepresentsSome};
 ghost use Rattle.archive_file.specs.LogRecords.{LogRecord, records_of, replayed_of};
 ghost use Rattle.archive_file.specs.Opening.{HasFaultAt};
-ghost use Rattle.archive_replay.specs.Reading.{AreInPlace};
 ghost use Rattle.archive_replay.specs.Replaying.{Replays, IsStoppedAt, IsReplayed};
 ghost use Rattle.archive_replay.specs.Restoring.{IsRestored};
 ghost use Rattle.archive_replay.specs.declared.fault.MountFault.TheVariants as mounting;
@@ -65,15 +64,15 @@ pub fn restore<L: Ledger>(
     recs: &[Rec],
     steps: &mut Steps<L>,
 ) -> Result<(ArchiveState, Opened), MountFault>
-    ensures restored { IfOk result (λ it. AreInPlace recs.now
-        → IsRestored (records_in recs.now) it.0 it.1) }
+    requires { AreInPlace recs.now }
+    ensures restored { IfOk result (λ it. IsRestored (records_in recs.now) it.0 it.1) }
     ensures represents { IfOk result (λ it. RepresentsSome it.0) }
-    ensures damaged { (place : _) → result ≡ Err (mounting.Damaged place) → AreInPlace recs.now
+    ensures damaged { (place : _) → result ≡ Err (mounting.Damaged place)
         → HasFaultAt (records_in recs.now) place }
     ensures disk { result ≡ Err mounting.Disk → ⊥ }
     ensures cost { steps.new ≤ steps.old + length recs.now }
-    ensures cost_open { AreInPlace recs.now → (log : List LogRecord)
-        → records_in recs.now ≡ records_of log → steps.new ≤ steps.old + replayed_of log }
+    ensures cost_open { (log : List LogRecord) → records_in recs.now ≡ records_of log
+        → steps.new ≤ steps.old + replayed_of log }
     ensures steps { IfOk result (λ it. steps.new ≤ steps.old + it.1.replayed) }
 {
     let kept = read_all(alloc, recs)?;

@@ -95,9 +95,9 @@ answers past command (Err NoMemory) refused same found stamp hold = tt
 
 -- an accepted command with changes is so, however they are borrowed
 pub borrowed : (past : Past) (stamp : ℕ) (changes : Vec Change) (places : Vec ℕ)
-    (lent : Bor (List Change)) → lent.now ≡ changes.items
+    (slice : Bor (List Change)) → slice.now ≡ changes.items
     → IsAcceptedAfter past (Changes stamp changes places)
-    → IsAccepted past (judged.Changes stamp lent places)
-borrowed past stamp changes places lent is accepted = subst (λ (items : List Change).
+    → IsAccepted past (judged.Changes stamp slice places)
+borrowed past stamp changes places slice is accepted = subst (λ (items : List Change).
     IsAcceptedAs past (a_command stamp (changing (changes_of items)))
     (StandAt (newest_tables past) (changes_of items) places.items)) (sym is) accepted

@@ -133,7 +133,8 @@ pub fn eval<'a>(
     values: &[Val<'a>],
 ) -> Result<Val<'a>, NoMemory>
     requires { AreValid values.now }
-    ensures value { IfOk result (λ v. shown v ≡ value (flat columns.now values.now) (tree expr.now)) }
+    ensures value { IfOk result (λ v. shown v
+        ≡ value (flat columns.now values.now) (tree expr.now)) }
     ensures valid { IfOk result (λ v. IsValid (shown v)) }
     ensures borrowed { IfOk result (λ v. (w : WhoseColumn) → (n : List ℕ)
         → chosen (flat columns.now values.now) (tree expr.now) ≡ column w n
@@ -187,7 +188,8 @@ fn side<'a>(
     values: &'a [Val<'_>],
 ) -> Result<Val<'a>, NoMemory>
     requires { AreValid values.now }
-    ensures value { IfOk result (λ v. shown v ≡ value (flat columns.now values.now) (tree expr.now)) }
+    ensures value { IfOk result (λ v. shown v
+        ≡ value (flat columns.now values.now) (tree expr.now)) }
     ensures valid { IfOk result (λ v. IsValid (shown v)) }
     ensures borrowed { IfOk result (λ v. (w : WhoseColumn) → (n : List ℕ)
         → tree expr.now ≡ column w n → IsBorrowed v) }

@@ -13,7 +13,8 @@ pub trait Fill {
 
     /// What is put for the reference. The one error is that there was no memory for it.
     fn put(&self, alloc: Global, reference: &ColRef) -> Result<Expr, NoMemory>
-        ensures { IfOk result (λ e. tree e ≡ puts self.now reference.now.whose reference.now.name) };
+        ensures { IfOk result (λ e. tree e
+            ≡ puts self.now reference.now.whose reference.now.name) };
 }
 
 /// The expression in which each reference is replaced by what is put for it: substitution, all at
@@ -38,7 +39,8 @@ pub fn fill_expr<F: Fill>(by: &F, alloc: Global, expr: &Expr) -> Result<Expr, No
 
 #[cycle(fill)]
 fn fill_exprs<F: Fill>(by: &F, alloc: Global, parts: &[Expr]) -> Result<Vec<Expr>, NoMemory>
-    ensures { IfOk result (λ v. map tree v.items ≡ map (fill (F.puts by.now)) (map tree parts.now)) }
+    ensures { IfOk result (λ v. map tree v.items
+        ≡ map (fill (F.puts by.now)) (map tree parts.now)) }
 {
     let mut filled = Vec::with_capacity(alloc, parts.len())?;
     for part in parts {

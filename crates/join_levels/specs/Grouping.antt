@@ -1,6 +1,7 @@
 -- The order of rows that suits a level, what is kept of a run of rows beside these, and the rows of
 -- several runs.
-use Rattle.std.specs.Prelude.{◌≡◌, ℕ, ◌-◌, ◌<◌, ◌≤◌, ◌++◌, true, List, length, get_or}
+use Rattle.std.specs.Prelude.{◌≡◌, ℕ, ◌-◌, ◌<◌, ◌≤◌, ◌++◌, ◌==◌, Bool, true, List, [], ◌∷◌, length}
+use Rattle.std.specs.Prelude.{get_or}
 use Rattle.std.specs.Int.{w64, leading_zeros}
 use Rattle.std.specs.List.{flat_map}
 use Rattle.std.specs.Ordering.{nat_cmp, ordering_then}
@@ -14,6 +15,11 @@ use Rattle.join_levels.specs.declared.group.Run.TheInside.{Inside}
 -- a longer one has a lower
 abbrev pub magnitude : Span → ℕ
 magnitude period = leading_zeros w64 (period.end - period.start)
+
+-- the period is of the magnitude of the first of the rows, where there is one
+abbrev pub is_of_run : Span → List TimedRow → Bool
+is_of_run period [] = true
+is_of_run period (t ∷ ts) = magnitude t.period == magnitude period
 
 -- rows by the magnitudes of their periods, and those of one magnitude by their starts
 abbrev pub turn_cmp : TimedRow → TimedRow → Ordering

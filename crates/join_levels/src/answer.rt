@@ -1,6 +1,6 @@
 //! What outputs and a condition answer of choices, and what is answered so far.
 
-ghost use Rattle.std.specs.Prelude.{◌≡◌, ◌++◌, ℕ, true, List, [], map, IfOk, OnOk};
+ghost use Rattle.std.specs.Prelude.{◌≡◌, ◌++◌, ℕ, true, List, [], map, IfOk, OnOk, OnErr};
 ghost use Rattle.relations.specs.Spans.{covers};
 ghost use Rattle.relations.specs.Timed.{held_at, at};
 ghost use Rattle.prima_base.specs.Order.{row_cmp, shown};
@@ -62,7 +62,8 @@ fn output_row<'a>(
     Ok(row)
 }
 
-/// Puts the values of the outputs after the other rows, where the choice meets the condition.
+/// Puts the values of the outputs after the other rows, where the choice meets the condition. On
+/// `NoMemory` the rows are as before.
 pub fn put_answer<'a>(
     alloc: Global,
     rows: &mut Vec<TimedRow<'a>>,
@@ -78,6 +79,7 @@ pub fn put_answer<'a>(
         → OnOk result (AllStayBorrowed which (map tree outs.now) rows.new.items) }
     ensures rows { OnOk result (entries_of rows.new.items ≡ entries_of rows.old.items
         ++ answer columns.now (map tree outs.now) (test cond.now) (entry_of choice.now)) }
+    ensures unchanged { OnErr result (rows.new.items ≡ rows.old.items) }
 {
     if !is_met(alloc, cond, columns, &choice.values)? {
         return Ok(());

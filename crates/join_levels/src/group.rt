@@ -11,7 +11,7 @@ ghost use Rattle.prima_base.specs.declared.timed_row.TimedRow.{TimedRow as OneRo
 ghost use Rattle.prima_base.specs.Order.{row_cmp};
 ghost use Rattle.prima_base.specs.Timed.{entry_of};
 ghost use Rattle.timed_choices.specs.Keeping.{picked, in_group};
-ghost use Rattle.join_levels.specs.Grouping.{rows_of_runs, magnitude, turn_cmp};
+ghost use Rattle.join_levels.specs.Grouping.{rows_of_runs, magnitude, turn_cmp, is_of_run};
 
 use crate::key::{Key, values_at};
 use prima_base::{NoMemory, Period, TimedRow};
@@ -28,7 +28,6 @@ pub(crate) struct Run<'a> {
     ends: Vec<u64>,
     // whether no row starts earlier than one before it
     in_turn: bool,
-    magnitude: u32,
 }
 
 impl<'a> Model for Run<'a> {
@@ -130,24 +129,35 @@ fn is_next(rows: &[TimedRow<'_>], moment: u64) -> bool
     }
 }
 
+// Whether the period is of the magnitude of the rows, which all are of one: the first tells it.
+fn is_of_run(rows: &[TimedRow<'_>], period: Period) -> bool
+    ensures { result ≡ is_of_run period rows.now }
+{
+    match rows {
+        [] => true,
+        [first, ..] => magnitude(first.period) == magnitude(period),
+    }
+}
+
 impl<'a> Run<'a> {
     ghost use Rattle.std.specs.Prelude.{◌≡◌, [], ◌∷◌, ◌++◌, OnOk};
-    ghost use Rattle.join_levels.specs.Grouping.{IsNear};
+    ghost use Rattle.join_levels.specs.Grouping.{IsNear, is_of_run};
 
-    fn new(alloc: Global, magnitude: u32) -> Run<'a>
+    fn new(alloc: Global) -> Run<'a>
         ensures { result ≡ [] }
     {
         Run {
             rows: Vec::new(alloc),
             ends: Vec::new(alloc),
             in_turn: true,
-            magnitude,
         }
     }
 
     // Whether the period is of the run's magnitude.
-    fn takes(&self, period: Period) -> bool {
-        self.magnitude == magnitude(period)
+    fn takes(&self, period: Period) -> bool
+        ensures { result ≡ is_of_run period self.now }
+    {
+        is_of_run(&self.rows, period)
     }
 
     // Puts the row after the others.
@@ -183,7 +193,7 @@ impl<'a> Run<'a> {
 fn run_of<'a>(alloc: Global, row: TimedRow<'a>) -> Result<Run<'a>, NoMemory>
     ensures { IfOk result (λ run. run ≡ row.entry ∷ []) }
 {
-    let mut run = Run::new(alloc, magnitude(row.period));
+    let mut run = Run::new(alloc);
     run.push(row)?;
     Ok(run)
 }

@@ -9,7 +9,7 @@ use cond_expr::Cond;
 use prima_base::NoMemory;
 
 /// Puts the parts of a condition after what is there. Parts of an AND inside an AND are parts;
-/// nothing under OR or NOT is.
+/// nothing under OR or NOT is. On `NoMemory` some of the parts may have been put.
 #[cycle(parts)]
 #[tactic(auto, using(cond_expr::proofs::SeenLaws::test_of_and, cond_expr::proofs::SeenLaws::test_of_or, cond_expr::proofs::SeenLaws::test_of_cmp))]
 pub fn gather_parts<'c>(into: &mut Vec<&'c Cond>, cond: &'c Cond) -> Result<(), NoMemory>

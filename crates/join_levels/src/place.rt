@@ -10,7 +10,7 @@ ghost use Rattle.cond_expr.specs.Faults.{test_references};
 ghost use Rattle.cond_expr.specs.Values.{value};
 ghost use Rattle.timed_choices.specs.Keeping.{value_at, meets};
 ghost use Rattle.timed_choices.specs.Placing.{place, is_below, all_below};
-ghost use Rattle.join_levels.specs.Places.{column_place, equal_places, key_places};
+ghost use Rattle.join_levels.specs.Places.{column_place, equal_places, key_places, none_below};
 ghost use Rattle.cond_expr.specs.References.{borrowed};
 
 use cond_expr::{CmpOp, ColRef, Column, Cond, Expr, gather_references};
@@ -63,7 +63,9 @@ pub fn is_settled(
 }
 
 // Whether none of the references stands among the first so many values.
-fn are_after(columns: &[Column], references: &[&ColRef], taken: usize) -> bool {
+fn are_after(columns: &[Column], references: &[&ColRef], taken: usize) -> bool
+    ensures { result ≡ none_below columns.now taken (borrowed references.now) }
+{
     for reference in references {
         if is_within(columns, reference, taken, 0) {
             return false;
@@ -78,7 +80,10 @@ pub(crate) fn is_after(
     columns: &[Column],
     cond: &Cond,
     taken: usize,
-) -> Result<bool, NoMemory> {
+) -> Result<bool, NoMemory>
+    ensures { IfOk result (λ b. b ≡ none_below columns.now taken
+        (test_references (test cond.now))) }
+{
     let mut references = Vec::new(alloc);
     gather_references(&mut references, &[], cond)?;
     Ok(are_after(columns, &references, taken))

@@ -7,6 +7,7 @@ ghost use Rattle.cond_expr.specs.Seen.{test};
 ghost use Rattle.cond_expr.specs.Faults.{test_references};
 ghost use Rattle.timed_choices.specs.Placing.{all_below};
 ghost use Rattle.timed_choices.specs.Keeping.{meets_all, picked, borrowed_tests};
+ghost use Rattle.join_levels.specs.Places.{own_keys, other_keys};
 
 use crate::place::{is_after, is_settled, key_places};
 use cond_expr::{Column, Cond};
@@ -20,7 +21,8 @@ pub(crate) struct Keys {
     pub(crate) other: Vec<usize>,
 }
 
-/// The places by which rows of so many values are looked up beside a choice of so many.
+/// The places by which rows of so many values are looked up beside a choice of so many: those of
+/// each part that is an equality of a column of the one with a column of the other.
 pub(crate) fn keys_of(
     alloc: Global,
     columns: &[Column],
@@ -28,7 +30,11 @@ pub(crate) fn keys_of(
     taken: usize,
     width: usize,
 ) -> Result<Keys, NoMemory>
-    ensures { (p y c : List OneValue) → length p ≡ taken → length y ≡ width
+    ensures own { IfOk result (λ k. k.own.items ≡ own_keys columns.now
+        (borrowed_tests parts.now) taken width) }
+    ensures other { IfOk result (λ k. k.other.items ≡ other_keys columns.now
+        (borrowed_tests parts.now) taken width) }
+    ensures same { (p y c : List OneValue) → length p ≡ taken → length y ≡ width
         → meets_all columns.now (borrowed_tests parts.now) ((p ++ y) ++ c) ≡ true
         → IfOk result (λ k. picked k.other.items y ≡ picked k.own.items p) }
 {

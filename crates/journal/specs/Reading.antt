@@ -1,7 +1,7 @@
 -- The records that are read from a file.
 use Rattle.std.specs.Prelude.{◌≡◌, ◌⊎◌, ◌≤◌, ℕ, ◌+◌, ◌<◌, ◌^◌, List, [], ◌∷◌, ◌++◌, length}
 use Rattle.std.specs.Prelude.{map, drop, get_or}
-use Rattle.journal.specs.Records.{Record, IsKnown, Holds, before_gate, body}
+use Rattle.journal.specs.Records.{Record, IsKnown, AreKnown, Holds, before_gate, body}
 use Rattle.journal.specs.declared.rec.Rec.{Rec}
 
 abbrev pub record_of : Rec → Record
@@ -20,6 +20,12 @@ pub record AreRead (file : List ℕ) (recs : List Rec) (at : ℕ) : Type 0 where
   pub holds : Holds file (records_in recs)
   pub places : map (λ rec. rec.at) recs ≡ gates 8 (records_in recs)
   pub end : at ≡ length (before_gate (records_in recs))
+
+-- records of known kinds, each with the place of its gate in a file that has them all
+pub record AreInPlace (recs : List Rec) : Type 0 where
+  pub known : AreKnown (records_in recs)
+  pub places : map (λ rec. rec.at) recs ≡ gates 8 (records_in recs)
+  pub short : length (before_gate (records_in recs)) < 2 ^ 64
 
 -- what a file stands for that is not damaged
 abbrev pub IsOpened : List ℕ → List Rec → ℕ → Type 0

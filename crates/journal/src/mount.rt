@@ -9,7 +9,7 @@ ghost use Rattle.disk_model.specs.Moments.{GoesOn, Leaves};
 ghost use Rattle.disk_model.specs.DeviceCalls.{Reads};
 ghost use Rattle.journal.specs.Damage.{IsDamagedAt};
 ghost use Rattle.journal.specs.Mounting.{SameOrNine, IsNotSynced, KeepsFile};
-ghost use Rattle.journal.specs.Reading.{IsOpened, records_in};
+ghost use Rattle.journal.specs.Reading.{IsOpened, AreInPlace, records_in};
 ghost use Rattle.journal.specs.Records.{empty_journal, opened_file};
 ghost use Rattle.journal.specs.JournalFiles.{Stands, HasGate};
 ghost use Rattle.journal.specs.declared.fault.JournalFault.TheVariants as mounting;
@@ -78,6 +78,7 @@ fn open_synced<D: Disk>(alloc: Global, disk: &mut D) -> Result<(Vec<Rec>, u64), 
         → Leaves (D.meaning disk.old) (D.meaning disk.new) (SameOrNine file) }
     ensures opened { IfOk result
         (λ it. Tells (D.meaning disk.old).seen (λ file. IsOpened file it.0.items it.1)) }
+    ensures in_place { IfOk result (λ it. AreInPlace it.0.items) }
     ensures stands { IfOk result (λ it. (file : List ℕ) → IsTrue (D.meaning disk.old).is_honest
         → (D.meaning disk.old).seen ≡ Some file → Only file (D.meaning disk.old).may_leave
         → Stands (D.meaning disk.new) it.1 (records_in it.0.items)) }
@@ -119,6 +120,7 @@ impl<D: Disk> Journal<D> {
         ensures limit { IfOk result (λ it. limit_of it.0 ≡ min limit (2 ^ 64 - 2)) }
         ensures opened { IfOk result (λ it. Tells (D.meaning disk).seen
             (λ file. IsOpened file it.1.items (place_of it.0))) }
+        ensures in_place { IfOk result (λ it. AreInPlace it.1.items) }
         ensures ready { IfOk result (λ it. HasGate (below it.0) (place_of it.0)) }
         ensures file { IfOk result (λ it. Told (λ old new. new ≡ opened_file old)
             (D.meaning disk).seen (below it.0).seen) }

@@ -22,9 +22,9 @@ pub enum Stop {
 
 impl From<AllocError> for Stop {
     ghost use Rattle.std.specs.Prelude.{◌≡◌};
-    ghost use Rattle.parser_combinators.specs.declared.cursor.Stop.TheVariants.{NoMemory as OutOfMemory};
+    ghost use Rattle.parser_combinators.specs.declared.cursor.Stop.TheVariants as stop;
 
-    ghost from_gives = { λ _ e. e ≡ OutOfMemory };
+    ghost from_gives = { λ _ e. e ≡ stop.NoMemory };
 
     fn from(_error: AllocError) -> Stop {
         Stop::NoMemory
@@ -33,9 +33,9 @@ impl From<AllocError> for Stop {
 
 impl<T: Drop> From<std::alloc::AllocFailed<T>> for Stop {
     ghost use Rattle.std.specs.Prelude.{◌≡◌};
-    ghost use Rattle.parser_combinators.specs.declared.cursor.Stop.TheVariants.{NoMemory as OutOfMemory};
+    ghost use Rattle.parser_combinators.specs.declared.cursor.Stop.TheVariants as stop;
 
-    ghost from_gives = { λ _ e. e ≡ OutOfMemory };
+    ghost from_gives = { λ _ e. e ≡ stop.NoMemory };
 
     fn from(_error: std::alloc::AllocFailed<T>) -> Stop {
         Stop::NoMemory
@@ -44,9 +44,9 @@ impl<T: Drop> From<std::alloc::AllocFailed<T>> for Stop {
 
 impl From<NoMemory> for Stop {
     ghost use Rattle.std.specs.Prelude.{◌≡◌};
-    ghost use Rattle.parser_combinators.specs.declared.cursor.Stop.TheVariants.{NoMemory as OutOfMemory};
+    ghost use Rattle.parser_combinators.specs.declared.cursor.Stop.TheVariants as stop;
 
-    ghost from_gives = { λ _ e. e ≡ OutOfMemory };
+    ghost from_gives = { λ _ e. e ≡ stop.NoMemory };
 
     fn from(_error: NoMemory) -> Stop {
         Stop::NoMemory

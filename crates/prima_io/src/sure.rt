@@ -50,7 +50,8 @@ impl Source for SureSource {
         ensures bytes { ReadConsumes (Some (sure_left self.old)) (Some (sure_left self.new)) result
             buf.new }
         ensures cause { HasCause 0 0 result }
-        ensures count { IsOkAnd result (λ n. n ≡ min (length buf.old) (length (sure_left self.old))) }
+        ensures count { IsOkAnd result (λ n. n
+            ≡ min (length buf.old) (length (sure_left self.old))) }
     {
         let n = hand_out(&self.bytes, self.at, usize::MAX, buf);
         self.at += n;

@@ -11,7 +11,8 @@ use std::alloc::Global;
 
 // Whether each column is in one of two parts.
 fn all_in_either(columns: &[(Name, ColType)], left: &[Name], right: &[Name]) -> bool
-    ensures { result ≡ list_all (λ n. among n left.now || among n right.now) (names_of columns.now) }
+    ensures { result ≡ list_all (λ n. among n left.now || among n right.now)
+        (names_of columns.now) }
 {
     for (name, _) in columns {
         if !is_among(name, left) && !is_among(name, right) {

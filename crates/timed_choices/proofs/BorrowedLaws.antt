@@ -140,14 +140,14 @@ module _ (which : BorrowedValues) where
       → ((w : Whose) → (n : List ℕ) → chosen (flat columns values) (tree out) ≡ column w n
       → is_borrowed v ≡ lies_elsewhere columns values w n)
       → new ≡ row ++ v ∷ [] → StaysBorrowed which (map tree (take (i + 1) outs)) new
-  stays_more columns values outs i out row new v below is lends before e b made =
+  stays_more columns values outs i out row new v below is borrows before e b made =
       let more : map tree (take (i + 1) outs) ≡ map tree (take i outs) ++ tree out ∷ [] =
       ap (map tree) (take_more outs i out below)
       ∙ map-append tree (take i outs) (get_or outs i out ∷ [])
       ∙ ap (λ (x : Expr). map tree (take i outs) ++ tree x ∷ []) (sym is) in
       let there : StaysBorrowed which (map tree (take i outs) ++ tree out ∷ []) (row ++ v ∷ []) =
       stays_with (map tree (take i outs)) row (tree out) v before
-      (value_borrowed columns values (tree out) v lends e b) in
+      (value_borrowed columns values (tree out) v borrows e b) in
       subst (λ (ts : List Tree). StaysBorrowed which ts new) (sym more)
       (subst (λ (vs : List Val). StaysBorrowed which (map tree (take i outs) ++ tree out ∷ []) vs)
       (sym made) there)

@@ -9,17 +9,17 @@ use Rattle.archive_replay.proofs.ReadRecords.{none_read, one_more_read, all_read
 use Rattle.archive_replay.proofs.record_reader.read_all.Goals as goal
 
 pub returns-in_err-read-clause-damaged : goal.returns-in_err-read-clause-damaged
-returns-in_err-read-clause-damaged c place is places =
+returns-in_err-read-clause-damaged c place is =
     let p = err_from_is_err_and c.from_residual.result c.from_residual.ensures.1 in
     let same : Err c.in_err-read.field-0.0 ≡ Err (Damaged place) = cc (p.1, p.2, is) in
     not_read c.args.recs.now c.loop-index.index c.index-recs-index.result c.loop-index.kept.count
-    place c.loop-index-test.true (c.loop-index.invariant.read places).judged
+    place c.loop-index-test.true c.loop-index.invariant.read.judged
     (subst (λ r. IsKnown r.kind → IsRefusedIn r.at (record_of r) place) c.index-recs-index.is
-    (c.in_err-read.ensures.damaged place same)) places
+    (c.in_err-read.ensures.damaged place same)) c.requires
 
 pub loop-index-init : goal.loop-index-init
 loop-index-init c = record {
-  read = λ places. none_read c.args.recs.now c.before_last_image-before.result
+  read = none_read c.args.recs.now c.before_last_image-before.result
       (record { state = c.new.result; commands = c.new-2.result; count = 0 }) c.new.ensures
       c.new-2.ensures.items refl;
   few = omega arith;
@@ -28,18 +28,18 @@ loop-index-init c = record {
 
 pub loop-index-preserved : goal.loop-index-preserved
 loop-index-preserved c = record {
-  read = λ places. one_more_read c.args.recs.now c.before_last_image-before.result
+  read = one_more_read c.args.recs.now c.before_last_image-before.result
       c.loop-index.index c.index-recs-index.result c.loop-index.kept c.read.new.self
       (nat_le c.before_last_image-before.result c.loop-index.index) c.loop-index-test.true
       (λ le. grind (arith, nat_tests, le)) c.before_last_image-before.ensures.image
       (subst (λ r. IsRead r (nat_le c.before_last_image-before.result c.loop-index.index)
-      c.loop-index.kept c.read.new.self) c.index-recs-index.is c.in_ok-read.ensures.read) places
-      (c.loop-index.invariant.read places);
+      c.loop-index.kept c.read.new.self) c.index-recs-index.is c.in_ok-read.ensures.read) c.requires
+      c.loop-index.invariant.read;
   few = omega (arith, c.in_ok-read.ensures.few, c.loop-index.invariant.few);
   count = omega (arith, c.in_ok-read.ensures.count, c.loop-index.invariant.count);
 }
 
 pub returns-clause-kept : goal.returns-clause-kept
-returns-clause-kept c places = all_read c.args.recs.now c.before_last_image-before.result
+returns-clause-kept c = all_read c.args.recs.now c.before_last_image-before.result
     c.loop-index.index c.loop-index.kept c.loop-index-test.false
-    c.before_last_image-before.ensures.image (c.loop-index.invariant.read places)
+    c.before_last_image-before.ensures.image c.loop-index.invariant.read

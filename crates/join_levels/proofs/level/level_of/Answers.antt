@@ -81,4 +81,4 @@ returns-clause-joined c = λ ps f m rest.
     one_joined c.args.columns.now c.in_ok-keys.keys.own.items c.in_ok-keys.keys.other.items
     (borrowed_tests c.in_ok-tests.tests.items) c.args.taken c.args.source.width ps
     (entries_of c.args.source.rows.items) (made_here g ps) (made g ps) f c.args.source.fit
-    (borrowed_tests c.args.parts.now) c.in_ok-keys.ensures c.in_ok-tests.ensures m rest
+    (borrowed_tests c.args.parts.now) c.in_ok-keys.ensures.same c.in_ok-tests.ensures m rest

@@ -8,8 +8,8 @@ use Rattle.row_order.proofs.cut.lend_now.Given as goal
 
 abbrev pub invariant-loop-column : goal.invariant-loop-column
 invariant-loop-column l = record {
-  borrowed : row_now l.id (cells_of l.columns) ≡ map shown l.row.items
+  values : row_now l.id (cells_of l.columns) ≡ map shown l.row.items
       ++ row_now l.id (cells_of (drop l.column-index l.columns));
   valid : All (λ v. IsValid (shown v)) l.row.items;
-  lent : All IsBorrowed l.row.items;
+  borrowed : All IsBorrowed l.row.items;
 }

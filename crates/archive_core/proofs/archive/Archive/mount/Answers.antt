@@ -1,12 +1,14 @@
-use Rattle.std.proofs.Common.{◌≡◌, ◌≤◌, ◌+◌, List, inl, length, sym, subst, ap, ◌∙◌, arith}
+use Rattle.std.proofs.Common.{◌≡◌, ◌≤◌, ◌+◌, List, inl, length, sym, subst, ap, ◌∙◌}
 use Rattle.journal.specs.Damage.{IsDamagedAt}
-use Rattle.journal.specs.Reading.{records_in}
+use Rattle.journal.specs.Reading.{records_in, AreInPlace}
 use Rattle.archive_file.specs.LogRecords.{LogRecord, records_of, replayed_of}
 use Rattle.archive_file.specs.Opening.{Damages, HasFaultAt}
-use Rattle.archive_replay.specs.Reading.{AreInPlace}
 use Rattle.archive_core.proofs.Mounted.{tell_frames, tell_damaged, tell_untouched, tell_cost}
 use Rattle.archive_core.proofs.Mounted.{tell_cost_open, stands_as, holds_as}
 use Rattle.archive_core.proofs.archive.Archive.mount.Goals as goal
+
+pub restore-requires : goal.restore-requires
+restore-requires g c = subst AreInPlace (sym c.deref.ensures.value) c.in-Ok.ensures.in_place
 
 pub returns-in-Err-clause-damaged : goal.returns-in-Err-clause-damaged
 returns-in-Err-clause-damaged g c place is =
@@ -17,21 +19,18 @@ returns-in-Err-clause-damaged g c place is =
 pub returns-in-Err-restore-clause-damaged : goal.returns-in-Err-restore-clause-damaged
 returns-in-Err-restore-clause-damaged g c place is =
     tell_damaged (g.D.Disk.meaning c.args.disk).seen c.in-Ok.recs.items c.in-Ok.journal.at place
-    (omega (arith, c.place-end.ensures, c.place-end.type_inv)) c.in-Ok.ensures.opened
-    (λ places. subst (λ l. HasFaultAt (records_in l) place) c.deref.ensures.value
-    (c.in-Err-restore.ensures.damaged place (cc (is))
-    (subst AreInPlace (sym c.deref.ensures.value) places)))
+    c.in-Ok.ensures.opened
+    (subst (λ l. HasFaultAt (records_in l) place) c.deref.ensures.value
+    (c.in-Err-restore.ensures.damaged place (cc (is))))
 
 pub returns-in-Err-restore-clause-untouched : goal.returns-in-Err-restore-clause-untouched
 returns-in-Err-restore-clause-untouched g c place is =
     ap (λ d. (g.D.Disk.meaning d).seen) c.into_disk.ensures
     ∙ tell_untouched (g.D.Disk.meaning c.args.disk).seen
     (g.D.Disk.meaning c.in-Ok.journal.disk).seen c.in-Ok.recs.items c.in-Ok.journal.at place
-    (omega (arith, c.place-end.ensures, c.place-end.type_inv))
     c.in-Ok.ensures.opened c.in-Ok.ensures.file
-    (λ places. subst (λ l. HasFaultAt (records_in l) place) c.deref.ensures.value
-    (c.in-Err-restore.ensures.damaged place (cc (is))
-    (subst AreInPlace (sym c.deref.ensures.value) places)))
+    (subst (λ l. HasFaultAt (records_in l) place) c.deref.ensures.value
+    (c.in-Err-restore.ensures.damaged place (cc (is))))
 
 pub returns-in-Err-restore-clause-cost : goal.returns-in-Err-restore-clause-cost
 returns-in-Err-restore-clause-cost g c =
@@ -56,18 +55,16 @@ returns-clause-cost g c =
 pub returns-in-Err-restore-clause-cost_open : goal.returns-in-Err-restore-clause-cost_open
 returns-in-Err-restore-clause-cost_open g c =
     tell_cost_open (g.D.Disk.meaning c.args.disk).seen c.in-Ok.recs.items c.in-Ok.journal.at
-    c.args.steps.now c.restore.new.steps (omega
-    (arith, c.place-end.ensures, c.place-end.type_inv)) c.in-Ok.ensures.opened
-    (subst (λ l. AreInPlace l → (log : List LogRecord) → records_in l ≡ records_of log
+    c.args.steps.now c.restore.new.steps c.in-Ok.ensures.opened
+    (subst (λ l. (log : List LogRecord) → records_in l ≡ records_of log
     → c.restore.new.steps ≤ c.args.steps.now + replayed_of log) c.deref.ensures.value
     c.restore.ensures.cost_open)
 
 pub returns-clause-cost_open : goal.returns-clause-cost_open
 returns-clause-cost_open g c =
     tell_cost_open (g.D.Disk.meaning c.args.disk).seen c.in-Ok.recs.items c.in-Ok.journal.at
-    c.args.steps.now c.restore.new.steps (omega
-    (arith, c.place-end.ensures, c.place-end.type_inv)) c.in-Ok.ensures.opened
-    (subst (λ l. AreInPlace l → (log : List LogRecord) → records_in l ≡ records_of log
+    c.args.steps.now c.restore.new.steps c.in-Ok.ensures.opened
+    (subst (λ l. (log : List LogRecord) → records_in l ≡ records_of log
     → c.restore.new.steps ≤ c.args.steps.now + replayed_of log) c.deref.ensures.value
     c.restore.ensures.cost_open)
 
