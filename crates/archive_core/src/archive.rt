@@ -8,7 +8,7 @@ ghost use Rattle.smo_types.specs.Commands.{command_of};
 ghost use Rattle.smo_meaning.specs.Past.{Past};
 ghost use Rattle.command_spelling.specs.Valid.{IsCommand};
 ghost use Rattle.query_types.specs.Queries.{query_of};
-ghost use Rattle.rewrite.specs.Books.{meaning_of, EachOf};
+ghost use Rattle.rewrite.specs.Books.{meaning_of};
 ghost use Rattle.journal.specs.Mounting.{IsNotSynced, KeepsFile};
 ghost use Rattle.journal.specs.Puts.{Puts, Acknowledges};
 ghost use Rattle.journal.specs.Records.{Record, StandsFor, opened_file};
@@ -253,35 +253,34 @@ impl<D: Disk> Archive<D> {
     /// What a query lists over all of history, and else its first refusal in the one order, as the
     /// archive in memory answers it (`ArchiveState::query`), in at most and at least as many steps.
     /// It calls no device, and may be asked after any answer.
-    pub fn query<'a, L: Ledger>(
+    pub fn query<'a, L: Ledger, R: Rule>(
         &'a self,
-        book: &RuleBook,
+        book: &RuleBook<R>,
         query: &Query,
         steps: &mut Steps<L>,
     ) -> Result<Listing<'a>, AskFault>
-        requires each { EachOf book.now.rules.items (λ r. handles (r.vtable, r.value)) }
         ensures asked { (past : Past) → RepresentsPast (standing_of self.now) past
             → IsAsked past (query_of query.now) result }
         ensures way_back { (past : Past) → RepresentsPast (standing_of self.now) past
             → TellsWayBack past (query_of query.now) result }
         ensures represents { RepresentsSome (standing_of self.now) }
         ensures borrowed { (past : Past) → RepresentsPast (standing_of self.now) past
-            → (pieces : List PlainExplained) → ArePiecesOf
-            (meaning_of book.now.rules.items (λ r. handles (r.vtable, r.value))
-            (λ r. answers (r.vtable, r.value))) past (query_of query.now) pieces
+            → (pieces : List PlainExplained)
+            → ArePiecesOf (meaning_of book.now.rules.items R.handles R.answers) past
+            (query_of query.now) pieces
             → (by_branch : BorrowedByBranch)
             → AreSpared (standing_of self.now).groups by_branch pieces
             → IfOk result (λ listing. AreBorrowedBy past
             (query_asked past (query_of query.now)) by_branch listing.rows.items) }
         ensures cost { (past : Past) → RepresentsPast (standing_of self.now) past
-            → (pieces : List PlainExplained) → ArePiecesOf
-            (meaning_of book.now.rules.items (λ r. handles (r.vtable, r.value))
-            (λ r. answers (r.vtable, r.value))) past (query_of query.now) pieces
+            → (pieces : List PlainExplained)
+            → ArePiecesOf (meaning_of book.now.rules.items R.handles R.answers) past
+            (query_of query.now) pieces
             → steps.new ≤ steps.old + reads_of (standing_of self.now).groups pieces }
         ensures least { (past : Past) → RepresentsPast (standing_of self.now) past
-            → (pieces : List PlainExplained) → ArePiecesOf
-            (meaning_of book.now.rules.items (λ r. handles (r.vtable, r.value))
-            (λ r. answers (r.vtable, r.value))) past (query_of query.now) pieces
+            → (pieces : List PlainExplained)
+            → ArePiecesOf (meaning_of book.now.rules.items R.handles R.answers) past
+            (query_of query.now) pieces
             → (e : PlainExplained) → In e pieces
             → IfOk result (λ _. steps.old + explained_read (standing_of self.now).groups e ≤
             steps.new) }
@@ -293,11 +292,14 @@ impl<D: Disk> Archive<D> {
     /// The pieces that a query reads, and else its first refusal in the one order, as the archive
     /// in memory tells them (`ArchiveState::explain`). It calls no device, and may be asked after
     /// any answer.
-    pub fn explain(&self, book: &RuleBook, query: &Query) -> Result<Vec<Explained>, AskFault>
-        requires each { EachOf book.now.rules.items (λ r. handles (r.vtable, r.value)) }
+    pub fn explain<R: Rule>(
+        &self,
+        book: &RuleBook<R>,
+        query: &Query,
+    ) -> Result<Vec<Explained>, AskFault>
         ensures explained { (past : Past) → RepresentsPast (standing_of self.now) past
-            → IsExplained (meaning_of book.now.rules.items (λ r. handles (r.vtable, r.value))
-            (λ r. answers (r.vtable, r.value))) past (query_of query.now) result }
+            → IsExplained (meaning_of book.now.rules.items R.handles R.answers) past
+            (query_of query.now) result }
         ensures represents { RepresentsSome (standing_of self.now) }
     {
         self.state.explain(book, query)

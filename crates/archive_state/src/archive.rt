@@ -71,7 +71,7 @@ impl ArchiveState {
     ghost use Rattle.query_types.specs.Queries.{query_of};
     ghost use Rattle.archive_state.specs.AcceptedCommands.{accepted_command, IsAcceptedAfter};
     ghost use Rattle.archive_state.specs.Committing.{IsAsBefore, IsDone, Accepts};
-    ghost use Rattle.rewrite.specs.Books.{meaning_of, EachOf};
+    ghost use Rattle.rewrite.specs.Books.{meaning_of};
     ghost use Rattle.piece_texts.specs.ExplainedPieces.{PlainExplained};
     ghost use Rattle.query_exec.specs.Borrowed.{BorrowedByBranch, AreSpared, AreBorrowedBy};
     ghost use Rattle.query_exec.specs.Reads.{explained_read, reads_of};
@@ -205,7 +205,7 @@ impl ArchiveState {
     /// and last (33), where by names alone a table of the query is lost on the way from a version
     /// in force in its slice: only where at the least such moment the version that is told is gone
     /// back over, names no inverse, and loses a table of the query. Of the entries those stay that
-    /// meet every condition of KEEP. The book has a rule for each kind of operator.
+    /// meet every condition of KEEP.
     ///
     /// It takes at most as many steps as there are, for each of the query's pieces, which are those
     /// that `explain` tells, keys of the piece's tables and entries of the columns that it names of
@@ -214,33 +214,32 @@ impl ArchiveState {
     /// what the archive keeps, unless one of these pieces computes that text for the column of its
     /// item: each row is so of one of the branches that answer it where its period begins. The one
     /// other error is `NoMemory`, where memory runs out.
-    pub fn query<'a, L: Ledger>(
+    pub fn query<'a, L: Ledger, R: Rule>(
         &'a self,
-        book: &RuleBook,
+        book: &RuleBook<R>,
         query: &Query,
         steps: &mut Steps<L>,
     ) -> Result<Listing<'a>, AskFault>
-        requires each { EachOf book.now.rules.items (λ r. handles (r.vtable, r.value)) }
         ensures asked { (past : Past) → RepresentsPast self.now past
             → IsAsked past (query_of query.now) result }
         ensures way_back { (past : Past) → RepresentsPast self.now past
             → TellsWayBack past (query_of query.now) result }
         ensures represents { RepresentsSome self.now }
         ensures borrowed { (past : Past) → RepresentsPast self.now past
-            → (pieces : List PlainExplained) → ArePiecesOf
-            (meaning_of book.now.rules.items (λ r. handles (r.vtable, r.value))
-            (λ r. answers (r.vtable, r.value))) past (query_of query.now) pieces
+            → (pieces : List PlainExplained)
+            → ArePiecesOf (meaning_of book.now.rules.items R.handles R.answers) past
+            (query_of query.now) pieces
             → (by_branch : BorrowedByBranch) → AreSpared self.now.groups by_branch pieces
             → IfOk result (λ listing. AreBorrowedBy past
             (query_asked past (query_of query.now)) by_branch listing.rows.items) }
         ensures cost { (past : Past) → RepresentsPast self.now past → (pieces : List PlainExplained)
-            → ArePiecesOf (meaning_of book.now.rules.items (λ r. handles (r.vtable, r.value))
-            (λ r. answers (r.vtable, r.value))) past (query_of query.now) pieces
+            → ArePiecesOf (meaning_of book.now.rules.items R.handles R.answers) past
+            (query_of query.now) pieces
             → steps.new ≤ steps.old + reads_of self.now.groups pieces }
         ensures least { (past : Past) → RepresentsPast self.now past
-            → (pieces : List PlainExplained) → ArePiecesOf
-            (meaning_of book.now.rules.items (λ r. handles (r.vtable, r.value))
-            (λ r. answers (r.vtable, r.value))) past (query_of query.now) pieces
+            → (pieces : List PlainExplained)
+            → ArePiecesOf (meaning_of book.now.rules.items R.handles R.answers) past
+            (query_of query.now) pieces
             → (e : PlainExplained) → In e pieces
             → IfOk result (λ _. steps.old + explained_read self.now.groups e ≤ steps.new) }
         ensures rises { steps.old ≤ steps.new }
@@ -252,13 +251,15 @@ impl ArchiveState {
     /// order, and for each version that is in force in the slice, those into which what is asked of
     /// the item's table unfolds there, the rows that meet the condition that is pushed to it with
     /// the columns that the branch names, but for the dead. A query is refused as by `query`. The
-    /// book has a rule for each kind of operator. The one other error is `NoMemory`, where memory
-    /// runs out.
-    pub fn explain(&self, book: &RuleBook, query: &Query) -> Result<Vec<Explained>, AskFault>
-        requires each { EachOf book.now.rules.items (λ r. handles (r.vtable, r.value)) }
+    /// one other error is `NoMemory`, where memory runs out.
+    pub fn explain<R: Rule>(
+        &self,
+        book: &RuleBook<R>,
+        query: &Query,
+    ) -> Result<Vec<Explained>, AskFault>
         ensures explained { (past : Past) → RepresentsPast self.now past
-            → IsExplained (meaning_of book.now.rules.items (λ r. handles (r.vtable, r.value))
-            (λ r. answers (r.vtable, r.value))) past (query_of query.now) result }
+            → IsExplained (meaning_of book.now.rules.items R.handles R.answers) past
+            (query_of query.now) result }
         ensures represents { RepresentsSome self.now }
     {
         explain_query(self.alloc, &self.groups, book, query)

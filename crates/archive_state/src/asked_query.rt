@@ -10,7 +10,7 @@ ghost use Rattle.query_exec.specs.Borrowed.{BorrowedByBranch, AreSpared, AreBorr
 ghost use Rattle.relations.specs.Sets.{In};
 ghost use Rattle.query_exec.specs.Reads.{explained_read, reads_of};
 ghost use Rattle.version_groups.specs.Representation.{Represents};
-ghost use Rattle.rewrite.specs.Books.{meaning_of, EachOf};
+ghost use Rattle.rewrite.specs.Books.{meaning_of};
 ghost use Rattle.archive_state.specs.Asking.{tells_periods, ArePiecesOf, IsAsked, IsExplained};
 ghost use Rattle.archive_state.specs.Asking.{query_asked};
 ghost use Rattle.archive_state.specs.Asking.{IsWrong, IsAskedSchema, IsChecked, IsReady};
@@ -112,31 +112,30 @@ fn tells_periods(when: When) -> bool
 }
 
 /// What the archive's versions and tables answer to a query.
-pub(crate) fn ask<'a, L: Ledger>(
+pub(crate) fn ask<'a, L: Ledger, R: Rule>(
     alloc: Global,
     groups: &'a Groups,
-    book: &RuleBook,
+    book: &RuleBook<R>,
     query: &Query,
     steps: &mut Steps<L>,
 ) -> Result<Listing<'a>, AskFault>
-    requires each { EachOf book.now.rules.items (λ r. handles (r.vtable, r.value)) }
     requires represents { (past : Past) × Represents groups.now past }
     ensures asked { (past : Past) → Represents groups.now past
         → IsAsked past (query_of query.now) result }
     ensures borrowed { (past : Past) → Represents groups.now past → (pieces : List PlainExplained)
-        → ArePiecesOf (meaning_of book.now.rules.items (λ r. handles (r.vtable, r.value))
-        (λ r. answers (r.vtable, r.value))) past (query_of query.now) pieces
+        → ArePiecesOf (meaning_of book.now.rules.items R.handles R.answers) past
+        (query_of query.now) pieces
         → (by_branch : BorrowedByBranch) → AreSpared groups.now by_branch pieces
         → IfOk result (λ listing. AreBorrowedBy past (query_asked past (query_of query.now))
         by_branch
         listing.rows.items) }
     ensures cost { (past : Past) → Represents groups.now past → (pieces : List PlainExplained)
-        → ArePiecesOf (meaning_of book.now.rules.items (λ r. handles (r.vtable, r.value))
-        (λ r. answers (r.vtable, r.value))) past (query_of query.now) pieces
+        → ArePiecesOf (meaning_of book.now.rules.items R.handles R.answers) past
+        (query_of query.now) pieces
         → steps.new ≤ steps.old + reads_of groups.now pieces }
     ensures least { (past : Past) → Represents groups.now past → (pieces : List PlainExplained)
-        → ArePiecesOf (meaning_of book.now.rules.items (λ r. handles (r.vtable, r.value))
-        (λ r. answers (r.vtable, r.value))) past (query_of query.now) pieces → (e : PlainExplained)
+        → ArePiecesOf (meaning_of book.now.rules.items R.handles R.answers) past
+        (query_of query.now) pieces → (e : PlainExplained)
         → In e pieces
         → IfOk result (λ _. steps.old + explained_read groups.now e ≤ steps.new) }
     ensures rises { steps.old ≤ steps.new }
@@ -151,17 +150,16 @@ pub(crate) fn ask<'a, L: Ledger>(
 }
 
 /// The pieces of a query, just those that are read to answer it.
-pub(crate) fn explain_query(
+pub(crate) fn explain_query<R: Rule>(
     alloc: Global,
     groups: &Groups,
-    book: &RuleBook,
+    book: &RuleBook<R>,
     query: &Query,
 ) -> Result<Vec<Explained>, AskFault>
-    requires each { EachOf book.now.rules.items (λ r. handles (r.vtable, r.value)) }
     requires represents { (past : Past) × Represents groups.now past }
     ensures { (past : Past) → Represents groups.now past
-        → IsExplained (meaning_of book.now.rules.items (λ r. handles (r.vtable, r.value))
-        (λ r. answers (r.vtable, r.value))) past (query_of query.now) result }
+        → IsExplained (meaning_of book.now.rules.items R.handles R.answers) past
+        (query_of query.now) result }
 {
     let atoms = judged(alloc, groups, query)?;
     let pieces = explain(alloc, groups, book, &atoms)?;

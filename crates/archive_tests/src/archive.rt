@@ -2,7 +2,6 @@
 //! archive keeps, on each version and over joins, and those that are computed are not. Its versions
 //! are asked in `version.rt`, and how often a query reads in `counter.rt`.
 ghost use Rattle.std.specs.Prelude.{◌≡◌, ◌<◌};
-ghost use Rattle.rewrite.specs.Books.{EachOf};
 
 use crate::counter::reads_are_counted;
 use crate::version::{tables_over_versions, versions_in_force};
@@ -78,13 +77,12 @@ pub(crate) fn query_of(alloc: Global, text: &str) -> Result<Query, Fail> {
 }
 
 // What the archive answers to the query, with a counter of the ledger.
-fn answer_by<'a, L: Ledger>(
+fn answer_by<'a, L: Ledger, R: Rule>(
     archive: &'a ArchiveState,
-    book: &RuleBook,
+    book: &RuleBook<R>,
     query: &Query,
     blank: Blank,
 ) -> Result<Listing<'a>, AskFault>
-    requires each { EachOf book.now.rules.items (λ r. handles (r.vtable, r.value)) }
     requires name { blank.name ≡ L.name }
     requires parts { blank.parts ≡ L.parts }
     requires some { 0 < blank.parts }
@@ -94,16 +92,14 @@ fn answer_by<'a, L: Ledger>(
 }
 
 // The same for the query of this text.
-fn ask<'a>(
+fn ask<'a, R: Rule>(
     alloc: Global,
     archive: &'a ArchiveState,
-    book: &RuleBook,
+    book: &RuleBook<R>,
     text: &str,
-) -> Result<Listing<'a>, Fail>
-    requires { EachOf book.now.rules.items (λ r. handles (r.vtable, r.value)) }
-{
+) -> Result<Listing<'a>, Fail> {
     let query = query_of(alloc, text)?;
-    match answer_by::<Brand>(archive, book, &query, Blank::new(1)) {
+    match answer_by::<Brand, R>(archive, book, &query, Blank::new(1)) {
         Ok(listing) => Ok(listing),
         Err(_) => Err(Fail::new("the query is answered")),
     }
@@ -142,9 +138,11 @@ fn only_value<'a, 'b>(row: &'b TimedRow<'a>) -> Result<&'b Val<'a>, Fail> {
 }
 
 // Texts of a plain column lie in what the archive keeps.
-fn texts_are_borrowed(alloc: Global, archive: &ArchiveState, book: &RuleBook) -> Result<(), Fail>
-    requires { EachOf book.now.rules.items (λ r. handles (r.vtable, r.value)) }
-{
+fn texts_are_borrowed<R: Rule>(
+    alloc: Global,
+    archive: &ArchiveState,
+    book: &RuleBook<R>,
+) -> Result<(), Fail> {
     let listing = ask(alloc, archive, book, "QUERY VERSION 1 SELECT b FROM t")?;
     let [first, second] = listing.rows.as_slice() else {
         return Err(Fail::new("the row has two periods"));
@@ -159,9 +157,11 @@ fn texts_are_borrowed(alloc: Global, archive: &ArchiveState, book: &RuleBook) ->
 }
 
 // A text that is computed is made for the answer, beside one that is not.
-fn computed_text_is_made(alloc: Global, archive: &ArchiveState, book: &RuleBook) -> Result<(), Fail>
-    requires { EachOf book.now.rules.items (λ r. handles (r.vtable, r.value)) }
-{
+fn computed_text_is_made<R: Rule>(
+    alloc: Global,
+    archive: &ArchiveState,
+    book: &RuleBook<R>,
+) -> Result<(), Fail> {
     let text = "QUERY VERSION 2 SELECT p.b, CONCAT(q.b, '!') FROM u p, u q AS OF 9";
     let listing = ask(alloc, archive, book, text)?;
     let [row] = listing.rows.as_slice() else {
@@ -189,13 +189,11 @@ fn just_computed_is_made(listing: &Listing<'_>) -> bool {
 
 // Beside a text that an operator computes for a row of an older version, that row's other text is
 // borrowed.
-fn text_beside_a_computed_one(
+fn text_beside_a_computed_one<R: Rule>(
     alloc: Global,
     archive: &mut ArchiveState,
-    book: &RuleBook,
-) -> Result<(), Fail>
-    requires { EachOf book.now.rules.items (λ r. handles (r.vtable, r.value)) }
-{
+    book: &RuleBook<R>,
+) -> Result<(), Fail> {
     let add = "AT 11 EVOLVE ADD COLUMN c AS 'unknown' INTO u INVERSE DROP COLUMN c FROM u";
     commit(alloc, archive, add)?;
     let text = "QUERY VERSION 3 SELECT b, c FROM u AS OF 10";
@@ -207,13 +205,11 @@ fn text_beside_a_computed_one(
 }
 
 // Texts that are joined on are borrowed.
-fn joined_texts_are_borrowed(
+fn joined_texts_are_borrowed<R: Rule>(
     alloc: Global,
     archive: &ArchiveState,
-    book: &RuleBook,
-) -> Result<(), Fail>
-    requires { EachOf book.now.rules.items (λ r. handles (r.vtable, r.value)) }
-{
+    book: &RuleBook<R>,
+) -> Result<(), Fail> {
     let text = "QUERY VERSION 2 SELECT p.b FROM u p, u q WHERE p.b = q.b AS OF 9";
     let listing = ask(alloc, archive, book, text)?;
     let [row] = listing.rows.as_slice() else {
@@ -243,13 +239,11 @@ fn is_all_borrowed(row: &TimedRow<'_>, first_text: &[u8], second_text: &[u8]) ->
 
 // Asked over all time, a column that an operator computes for the rows of an older version is
 // borrowed in those of a later one.
-fn texts_of_a_later_version(
+fn texts_of_a_later_version<R: Rule>(
     alloc: Global,
     archive: &mut ArchiveState,
-    book: &RuleBook,
-) -> Result<(), Fail>
-    requires { EachOf book.now.rules.items (λ r. handles (r.vtable, r.value)) }
-{
+    book: &RuleBook<R>,
+) -> Result<(), Fail> {
     commit(
         alloc,
         archive,
@@ -267,13 +261,11 @@ fn texts_of_a_later_version(
 }
 
 // Beside a branch that computes its output, the texts of another branch are borrowed.
-fn texts_beside_a_computed_branch(
+fn texts_beside_a_computed_branch<R: Rule>(
     alloc: Global,
     archive: &ArchiveState,
-    book: &RuleBook,
-) -> Result<(), Fail>
-    requires { EachOf book.now.rules.items (λ r. handles (r.vtable, r.value)) }
-{
+    book: &RuleBook<R>,
+) -> Result<(), Fail> {
     let text = "QUERY VERSION 3 SELECT CONCAT(c, '!') FROM u UNION SELECT b FROM u AS OF 12";
     let listing = ask(alloc, archive, book, text)?;
     let [kept, unknown, y, z] = listing.rows.as_slice() else {
@@ -287,13 +279,11 @@ fn texts_beside_a_computed_branch(
 }
 
 // A text that a CASE chooses is borrowed.
-fn chosen_texts_are_borrowed(
+fn chosen_texts_are_borrowed<R: Rule>(
     alloc: Global,
     archive: &ArchiveState,
-    book: &RuleBook,
-) -> Result<(), Fail>
-    requires { EachOf book.now.rules.items (λ r. handles (r.vtable, r.value)) }
-{
+    book: &RuleBook<R>,
+) -> Result<(), Fail> {
     let text = "QUERY VERSION 3 SELECT CASE WHEN a = 1 THEN b ELSE c END FROM u AS OF 12";
     let listing = ask(alloc, archive, book, text)?;
     let [kept, y] = listing.rows.as_slice() else {
@@ -305,11 +295,8 @@ fn chosen_texts_are_borrowed(
     Err(Fail::new("both texts are borrowed"))
 }
 
-#[test]
-fn an_archive_answers(rt: HostRuntime) -> Result<(), Fail> {
-    let alloc = rt.alloc();
-    let mut rules: Vec<Box<dyn Rule>> = Vec::new(alloc);
-    push_every_rule!(alloc, rules);
+// All of this, with the book of these rules.
+fn asked_by<R: Rule>(alloc: Global, rules: Vec<R>) -> Result<(), Fail> {
     let Ok(book) = RuleBook::new(alloc, rules) else {
         return Err(Fail::new("twelve rules make a book"));
     };
@@ -325,4 +312,12 @@ fn an_archive_answers(rt: HostRuntime) -> Result<(), Fail> {
     texts_of_a_later_version(alloc, &mut archive, &book)?;
     texts_beside_a_computed_branch(alloc, &archive, &book)?;
     chosen_texts_are_borrowed(alloc, &archive, &book)
+}
+
+#[test]
+fn an_archive_answers(rt: HostRuntime) -> Result<(), Fail> {
+    let alloc = rt.alloc();
+    let mut rules: Vec<Box<dyn Rule>> = Vec::new(alloc);
+    push_every_rule!(alloc, rules);
+    asked_by(alloc, rules)
 }

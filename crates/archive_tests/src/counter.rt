@@ -1,6 +1,5 @@
 //! The counter that a query of an archive on a disk is given: it has the steps of what was read.
 ghost use Rattle.std.specs.Prelude.{◌≡◌, ◌<◌};
-ghost use Rattle.rewrite.specs.Books.{EachOf};
 
 use crate::archive::{FILLING, command_of, query_of};
 use archive_core::Archive;
@@ -45,13 +44,12 @@ fn fill(alloc: Global, archive: &mut Archive<SureDisk>) -> Result<(), Fail> {
 
 // How many rows the archive lists for the query, and how many steps of reading the counter has that
 // the query is given.
-fn rows_and_steps<L: Ledger>(
+fn rows_and_steps<L: Ledger, R: Rule>(
     archive: &Archive<SureDisk>,
-    book: &RuleBook,
+    book: &RuleBook<R>,
     query: &Query,
     blank: Blank,
 ) -> Result<(usize, u64), Fail>
-    requires each { EachOf book.now.rules.items (λ r. handles (r.vtable, r.value)) }
     requires name { blank.name ≡ L.name }
     requires parts { blank.parts ≡ L.parts }
     requires some { 0 < blank.parts }
@@ -64,13 +62,11 @@ fn rows_and_steps<L: Ledger>(
 }
 
 /// The counter that a query is given has the steps of what it read.
-pub(crate) fn reads_are_counted(alloc: Global, book: &RuleBook) -> Result<(), Fail>
-    requires { EachOf book.now.rules.items (λ r. handles (r.vtable, r.value)) }
-{
+pub(crate) fn reads_are_counted<R: Rule>(alloc: Global, book: &RuleBook<R>) -> Result<(), Fail> {
     let mut archive = mounted::<Brand>(alloc, Blank::new(1))?;
     fill(alloc, &mut archive)?;
     let query = query_of(alloc, "QUERY VERSION 2 SELECT a FROM u")?;
-    let (rows, steps) = rows_and_steps::<Brand>(&archive, book, &query, Blank::new(1))?;
+    let (rows, steps) = rows_and_steps::<Brand, R>(&archive, book, &query, Blank::new(1))?;
     // A key and an entry of the one row, in each of the tables that it has stood in.
     if rows == 1 && 2 <= steps && steps <= 4 {
         return Ok(());

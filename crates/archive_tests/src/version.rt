@@ -8,7 +8,6 @@ ghost use Rattle.cond_expr.specs.Trees.{always};
 ghost use Rattle.smo_types.specs.Commands.{versions_of};
 ghost use Rattle.smo_meaning.specs.Past.{no_tables};
 ghost use Rattle.smo_meaning.specs.ValidPast.{AreVersions};
-ghost use Rattle.rewrite.specs.Books.{EachOf};
 ghost use Rattle.rewrite_chains.specs.Beginnings.{asking};
 ghost use Rattle.rewrite_chains.specs.UnfoldedPieces.{MayBeAsked};
 
@@ -78,16 +77,14 @@ fn may_be_asked(
 
 // The pieces over version `stored` that stand for all rows of a table of version `asked`, with none
 // of its columns; none where there is no such version or table.
-fn pieces_over(
+fn pieces_over<R: Rule>(
     alloc: Global,
     archive: &ArchiveState,
-    book: &RuleBook,
+    book: &RuleBook<R>,
     stored: u32,
     asked: u32,
     table: &Name,
-) -> Result<Option<Vec<Piece>>, RewriteFault>
-    requires { EachOf book.now.rules.items (λ r. handles (r.vtable, r.value)) }
-{
+) -> Result<Option<Vec<Piece>>, RewriteFault> {
     let versions = evolved(archive);
     if stored as usize > versions.list.len() {
         return Ok(None);
@@ -115,13 +112,11 @@ fn is_over(pieces: &[Piece], table: &[u8]) -> bool {
 }
 
 /// The table of each version is that of the other, under the name that it has there.
-pub(crate) fn tables_over_versions(
+pub(crate) fn tables_over_versions<R: Rule>(
     alloc: Global,
     archive: &ArchiveState,
-    book: &RuleBook,
-) -> Result<(), Fail>
-    requires { EachOf book.now.rules.items (λ r. handles (r.vtable, r.value)) }
-{
+    book: &RuleBook<R>,
+) -> Result<(), Fail> {
     let t = Name::new(alloc, b"t")?;
     let u = Name::new(alloc, b"u")?;
     let Ok(Some(earlier)) = pieces_over(alloc, archive, book, 1, 2, &u) else {

@@ -29,6 +29,21 @@ struct Played {
     code: u8,
 }
 
+// Runs a script over an empty disk in memory, with these rules.
+fn run_by<S: Source, K: Sink, R: Rule>(
+    alloc: Global,
+    rules: Vec<R>,
+    words: &[Word],
+    source: &mut S,
+    sink: &mut K,
+) -> Result<Status, NoMemory> {
+    let Ok(book) = RuleBook::new(alloc, rules) else {
+        return Err(NoMemory);
+    };
+    let mut disk = MemDisk::new(alloc, Vec::new(alloc), DISK_CALLS, DISK_ROOM)?;
+    Ok(run(alloc, words, &book, source, sink, &mut disk))
+}
+
 /// Runs a script over an empty disk in memory, with one rule for each kind of operator. The one
 /// error comes where there is no memory for the rules or the disk.
 pub fn run_with_rules<S: Source, K: Sink>(
@@ -39,11 +54,7 @@ pub fn run_with_rules<S: Source, K: Sink>(
 ) -> Result<Status, NoMemory> {
     let mut rules: Vec<Box<dyn Rule>> = Vec::new(alloc);
     push_every_rule!(alloc, rules);
-    let Ok(book) = RuleBook::new(alloc, rules) else {
-        return Err(NoMemory);
-    };
-    let mut disk = MemDisk::new(alloc, Vec::new(alloc), DISK_CALLS, DISK_ROOM)?;
-    Ok(run(alloc, words, &book, source, sink, &mut disk))
+    run_by(alloc, rules, words, source, sink)
 }
 
 // Plays one script.

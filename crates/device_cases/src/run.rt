@@ -72,15 +72,14 @@ pub(crate) struct Played {
     pub(crate) text: Vec<u8>,
 }
 
-// Runs a script over a disk, with one rule for each kind of operator.
-fn run_over<D: Disk>(
+// Runs a script over a disk, with these rules.
+fn run_by<D: Disk, R: Rule>(
     alloc: Global,
+    rules: Vec<R>,
     runs: Runs<'_>,
     devices: Devices,
     disk: &mut D,
 ) -> Result<Ended, NoMemory> {
-    let mut rules: Vec<Box<dyn Rule>> = Vec::new(alloc);
-    push_every_rule!(alloc, rules);
     let Ok(book) = RuleBook::new(alloc, rules) else {
         return Err(NoMemory);
     };
@@ -92,6 +91,18 @@ fn run_over<D: Disk>(
         code: status.code(),
         replies: Vec::from_slice(alloc, sink.written())?,
     })
+}
+
+// Runs a script over a disk, with one rule for each kind of operator.
+fn run_over<D: Disk>(
+    alloc: Global,
+    runs: Runs<'_>,
+    devices: Devices,
+    disk: &mut D,
+) -> Result<Ended, NoMemory> {
+    let mut rules: Vec<Box<dyn Rule>> = Vec::new(alloc);
+    push_every_rule!(alloc, rules);
+    run_by(alloc, rules, runs, devices, disk)
 }
 
 // What a disk holds.

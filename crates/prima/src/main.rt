@@ -27,7 +27,23 @@ fn without(error: &io::Error, otherwise: Status) -> Status {
     }
 }
 
-// Runs the script with one rule for each kind of operator.
+// Runs the script with these rules.
+fn run_by<S: Source, K: Sink, D: Disk, R: Rule>(
+    alloc: Global,
+    rules: Vec<R>,
+    words: &[Word],
+    source: &mut S,
+    sink: &mut K,
+    disk: &mut D,
+) -> Result<Status, NoMemory> {
+    // No kind is missing and none stands twice, so that memory ran out where there is no book.
+    let Ok(book) = RuleBook::new(alloc, rules) else {
+        return Err(NoMemory);
+    };
+    Ok(run(alloc, words, &book, source, sink, disk))
+}
+
+// Runs the script with one boxed rule for each kind of operator.
 fn run_with_rules<S: Source, K: Sink, D: Disk>(
     alloc: Global,
     words: &[Word],
@@ -37,11 +53,7 @@ fn run_with_rules<S: Source, K: Sink, D: Disk>(
 ) -> Result<Status, NoMemory> {
     let mut rules: Vec<Box<dyn Rule>> = Vec::new(alloc);
     push_every_rule!(alloc, rules);
-    // No kind is missing and none stands twice, so that memory ran out where there is no book.
-    let Ok(book) = RuleBook::new(alloc, rules) else {
-        return Err(NoMemory);
-    };
-    Ok(run(alloc, words, &book, source, sink, disk))
+    run_by(alloc, rules, words, source, sink, disk)
 }
 
 // Runs over the file of the archive. The words are judged before it is opened, so that wrong ones

@@ -14,7 +14,7 @@ ghost use Rattle.version_groups.specs.Groups.{versions_in};
 ghost use Rattle.version_groups.specs.Representation.{Represents};
 ghost use Rattle.plain_answers.specs.Branches.{branch_answers, plain};
 ghost use Rattle.query_types.specs.Branches.{branch_of, branches_of};
-ghost use Rattle.rewrite.specs.Books.{meaning_of, EachOf};
+ghost use Rattle.rewrite.specs.Books.{meaning_of};
 ghost use Rattle.query_exec.specs.Accepted.{MayItems, MayBranch, MayBranches, AreRead};
 ghost use Rattle.query_exec.specs.Routes.{IsRoute};
 ghost use Rattle.piece_texts.specs.ExplainedPieces.{PlainExplained};
@@ -39,10 +39,10 @@ use temporal_lang::Branch;
 use version_groups::Groups;
 
 // What is read of each item's table, as the atom that is its place.
-fn read_items<'a, L: Ledger>(
+fn read_items<'a, L: Ledger, R: Rule>(
     alloc: Global,
     groups: &'a Groups,
-    book: &RuleBook,
+    book: &RuleBook<R>,
     route: &Route,
     schema: &Schema,
     from: &[(Name, Name)],
@@ -50,7 +50,6 @@ fn read_items<'a, L: Ledger>(
     cond: &Cond,
     steps: &mut Steps<L>,
 ) -> Result<Vec<Atom<'a>>, NoMemory>
-    requires each { EachOf book.now.rules.items (λ r. handles (r.vtable, r.value)) }
     requires represents { (past : Past) × Represents groups.now past }
     requires route { IsRoute (versions_in groups.now) route.now }
     requires schema { schema.now ≡ tables_from no_tables (versions_in groups.now) route.now.asked }
@@ -61,22 +60,22 @@ fn read_items<'a, L: Ledger>(
         → IfOk result (λ atoms. AreRead past route.now (borrowed references.now) (test cond.now) 0
         from.now atoms.items) }
     ensures borrowed { (branch : ℕ) → (by_branch : BorrowedByBranch)
-        → AllSpare groups.now by_branch
-        (items_pieces (meaning_of book.now.rules.items (λ r. handles (r.vtable, r.value))
-        (λ r. answers (r.vtable, r.value))) (versions_in groups.now) route.now.asked
-        route.now.parts.items (borrowed references.now) (test cond.now) branch 0 from.now)
+        → AllSpare groups.now by_branch (items_pieces
+        (meaning_of book.now.rules.items R.handles R.answers) (versions_in groups.now)
+        route.now.asked route.now.parts.items (borrowed references.now) (test cond.now) branch 0
+        from.now)
         → IfOk result (λ atoms. AtomsBorrow (by_branch branch) atoms.items) }
     ensures cost { (branch : ℕ) → (alive : List PlainExplained)
-        → AreAlive (versions_in groups.now) (items_pieces
-        (meaning_of book.now.rules.items (λ r. handles (r.vtable, r.value))
-        (λ r. answers (r.vtable, r.value))) (versions_in groups.now) route.now.asked
-        route.now.parts.items (borrowed references.now) (test cond.now) branch 0 from.now) alive
+        → AreAlive (versions_in groups.now)
+        (items_pieces (meaning_of book.now.rules.items R.handles R.answers) (versions_in groups.now)
+        route.now.asked route.now.parts.items (borrowed references.now) (test cond.now) branch 0
+        from.now) alive
         → steps.new ≤ steps.old + reads_of groups.now alive }
     ensures least { (branch : ℕ) → (e : PlainExplained)
-        → IsAlive (versions_in groups.now) (items_pieces
-        (meaning_of book.now.rules.items (λ r. handles (r.vtable, r.value))
-        (λ r. answers (r.vtable, r.value))) (versions_in groups.now) route.now.asked
-        route.now.parts.items (borrowed references.now) (test cond.now) branch 0 from.now) e
+        → IsAlive (versions_in groups.now)
+        (items_pieces (meaning_of book.now.rules.items R.handles R.answers) (versions_in groups.now)
+        route.now.asked route.now.parts.items (borrowed references.now) (test cond.now) branch 0
+        from.now) e
         → IfOk result (λ _. steps.old + explained_read groups.now e ≤ steps.new) }
     ensures rises { steps.old ≤ steps.new }
 {
@@ -93,16 +92,15 @@ fn read_items<'a, L: Ledger>(
 }
 
 // What a branch answers at each moment of the slice.
-fn answer_branch<'a, L: Ledger>(
+fn answer_branch<'a, L: Ledger, R: Rule>(
     alloc: Global,
     groups: &'a Groups,
-    book: &RuleBook,
+    book: &RuleBook<R>,
     route: &Route,
     schema: &Schema,
     branch: &Branch,
     steps: &mut Steps<L>,
 ) -> Result<Vec<TimedRow<'a>>, NoMemory>
-    requires each { EachOf book.now.rules.items (λ r. handles (r.vtable, r.value)) }
     requires represents { (past : Past) × Represents groups.now past }
     requires route { IsRoute (versions_in groups.now) route.now }
     requires schema { schema.now ≡ tables_from no_tables (versions_in groups.now) route.now.asked }
@@ -115,23 +113,22 @@ fn answer_branch<'a, L: Ledger>(
     ensures inside { (m : ℕ) → covers route.now.slice m ≡ false
         → IfOk result (λ rows. rows_at rows.items m ≡ []) }
     ensures borrowed { (number : ℕ) → (by_branch : BorrowedByBranch)
-        → AllSpare groups.now by_branch
-        (branch_pieces (meaning_of book.now.rules.items (λ r. handles (r.vtable, r.value))
-        (λ r. answers (r.vtable, r.value))) (versions_in groups.now) route.now.asked
-        route.now.parts.items number (branch_of branch.now))
+        → AllSpare groups.now by_branch (branch_pieces
+        (meaning_of book.now.rules.items R.handles R.answers) (versions_in groups.now)
+        route.now.asked route.now.parts.items number (branch_of branch.now))
         → IfOk result (λ rows. AllStayBorrowed (by_branch number) (branch_of branch.now).outs
         rows.items) }
     ensures cost { (number : ℕ) → (alive : List PlainExplained)
-        → AreAlive (versions_in groups.now) (branch_pieces
-        (meaning_of book.now.rules.items (λ r. handles (r.vtable, r.value))
-        (λ r. answers (r.vtable, r.value))) (versions_in groups.now) route.now.asked
-        route.now.parts.items number (branch_of branch.now)) alive
+        → AreAlive (versions_in groups.now)
+        (branch_pieces (meaning_of book.now.rules.items R.handles R.answers)
+        (versions_in groups.now) route.now.asked route.now.parts.items number
+        (branch_of branch.now)) alive
         → steps.new ≤ steps.old + reads_of groups.now alive }
     ensures least { (number : ℕ) → (e : PlainExplained)
-        → IsAlive (versions_in groups.now) (branch_pieces
-        (meaning_of book.now.rules.items (λ r. handles (r.vtable, r.value))
-        (λ r. answers (r.vtable, r.value))) (versions_in groups.now) route.now.asked
-        route.now.parts.items number (branch_of branch.now)) e
+        → IsAlive (versions_in groups.now)
+        (branch_pieces (meaning_of book.now.rules.items R.handles R.answers)
+        (versions_in groups.now) route.now.asked route.now.parts.items number
+        (branch_of branch.now)) e
         → IfOk result (λ _. steps.old + explained_read groups.now e ≤ steps.new) }
     ensures rises { steps.old ≤ steps.new }
 {
@@ -152,16 +149,15 @@ fn answer_branch<'a, L: Ledger>(
 }
 
 /// What branches answer at each moment of the slice, all together.
-pub(crate) fn answer_branches<'a, L: Ledger>(
+pub(crate) fn answer_branches<'a, L: Ledger, R: Rule>(
     alloc: Global,
     groups: &'a Groups,
-    book: &RuleBook,
+    book: &RuleBook<R>,
     route: &Route,
     schema: &Schema,
     branches: &[Branch],
     steps: &mut Steps<L>,
 ) -> Result<Vec<TimedRow<'a>>, NoMemory>
-    requires each { EachOf book.now.rules.items (λ r. handles (r.vtable, r.value)) }
     requires represents { (past : Past) × Represents groups.now past }
     requires route { IsRoute (versions_in groups.now) route.now }
     requires schema { schema.now ≡ tables_from no_tables (versions_in groups.now) route.now.asked }
@@ -173,22 +169,22 @@ pub(crate) fn answer_branches<'a, L: Ledger>(
         (migrated past m route.now.asked)) }
     ensures borrowed { (past : Past) → Represents groups.now past → (number : ℕ)
         → (by_branch : BorrowedByBranch) → AllSpare groups.now by_branch
-        (branches_pieces (meaning_of book.now.rules.items (λ r. handles (r.vtable, r.value))
-        (λ r. answers (r.vtable, r.value))) (versions_in groups.now) route.now.asked
-        route.now.parts.items number (branches_of branches.now))
+        (branches_pieces (meaning_of book.now.rules.items R.handles R.answers)
+        (versions_in groups.now) route.now.asked route.now.parts.items number
+        (branches_of branches.now))
         → IfOk result (λ rows. AlwaysBorrowedBy past route.now.asked by_branch number
         (branches_of branches.now) rows.items) }
     ensures cost { (number : ℕ) → (alive : List PlainExplained)
-        → AreAlive (versions_in groups.now) (branches_pieces
-        (meaning_of book.now.rules.items (λ r. handles (r.vtable, r.value))
-        (λ r. answers (r.vtable, r.value))) (versions_in groups.now) route.now.asked
-        route.now.parts.items number (branches_of branches.now)) alive
+        → AreAlive (versions_in groups.now)
+        (branches_pieces (meaning_of book.now.rules.items R.handles R.answers)
+        (versions_in groups.now) route.now.asked route.now.parts.items number
+        (branches_of branches.now)) alive
         → steps.new ≤ steps.old + reads_of groups.now alive }
     ensures least { (number : ℕ) → (e : PlainExplained)
-        → IsAlive (versions_in groups.now) (branches_pieces
-        (meaning_of book.now.rules.items (λ r. handles (r.vtable, r.value))
-        (λ r. answers (r.vtable, r.value))) (versions_in groups.now) route.now.asked
-        route.now.parts.items number (branches_of branches.now)) e
+        → IsAlive (versions_in groups.now)
+        (branches_pieces (meaning_of book.now.rules.items R.handles R.answers)
+        (versions_in groups.now) route.now.asked route.now.parts.items number
+        (branches_of branches.now)) e
         → IfOk result (λ _. steps.old + explained_read groups.now e ≤ steps.new) }
     ensures rises { steps.old ≤ steps.new }
 {

@@ -10,7 +10,7 @@ ghost use Rattle.query_types.specs.Branches.{branch_of, branches_of};
 ghost use Rattle.query_types.specs.Queries.{query_of, IsLasting};
 ghost use Rattle.version_groups.specs.Groups.{versions_in};
 ghost use Rattle.version_groups.specs.Representation.{Represents};
-ghost use Rattle.rewrite.specs.Books.{meaning_of, EachOf};
+ghost use Rattle.rewrite.specs.Books.{meaning_of};
 ghost use Rattle.query_exec.specs.Accepted.{MayItems, MayBranch, MayBranches, IsAnswerable};
 ghost use Rattle.query_exec.specs.Planned.{planned_pieces};
 ghost use Rattle.query_exec.specs.Questions.{own_read};
@@ -82,10 +82,10 @@ fn push_plan(
 }
 
 // Puts the pieces of an item's table after the others.
-fn explain_item(
+fn explain_item<R: Rule>(
     alloc: Global,
     groups: &Groups,
-    book: &RuleBook,
+    book: &RuleBook<R>,
     route: &Route,
     table: &Name,
     references: &[&ColRef],
@@ -95,7 +95,6 @@ fn explain_item(
     atom: u32,
     into: &mut Vec<Explained>,
 ) -> Result<(), NoMemory>
-    requires each { EachOf book.now.rules.items (λ r. handles (r.vtable, r.value)) }
     requires represents { (past : Past) × Represents groups.now past }
     requires route { IsRoute (versions_in groups.now) route.now }
     requires read { MayBeRead (versions_in groups.now) route.now table.now
@@ -103,8 +102,7 @@ fn explain_item(
     ensures { (before : List PlainExplained) → AreLeft (versions_in groups.now) before
         (all_explained into.old.items)
         → OnOk result (AreLeft (versions_in groups.now)
-        (before ++ table_pieces (meaning_of book.now.rules.items
-        (λ r. handles (r.vtable, r.value)) (λ r. answers (r.vtable, r.value)))
+        (before ++ table_pieces (meaning_of book.now.rules.items R.handles R.answers)
         (versions_in groups.now) route.now.asked table.now
         (own_read place (borrowed references.now) (test cond.now)) branch atom
         route.now.parts.items) (all_explained into.new.items)) }
@@ -116,10 +114,10 @@ fn explain_item(
 }
 
 // Puts the pieces of items' tables after the others.
-fn explain_items(
+fn explain_items<R: Rule>(
     alloc: Global,
     groups: &Groups,
-    book: &RuleBook,
+    book: &RuleBook<R>,
     route: &Route,
     from: &[(Name, Name)],
     references: &[&ColRef],
@@ -127,7 +125,6 @@ fn explain_items(
     branch: u32,
     into: &mut Vec<Explained>,
 ) -> Result<(), NoMemory>
-    requires each { EachOf book.now.rules.items (λ r. handles (r.vtable, r.value)) }
     requires represents { (past : Past) × Represents groups.now past }
     requires route { IsRoute (versions_in groups.now) route.now }
     requires read { MayItems (versions_in groups.now) route.now (borrowed references.now)
@@ -136,8 +133,7 @@ fn explain_items(
     ensures { (before : List PlainExplained) → AreLeft (versions_in groups.now) before
         (all_explained into.old.items)
         → OnOk result (AreLeft (versions_in groups.now)
-        (before ++ items_pieces (meaning_of book.now.rules.items
-        (λ r. handles (r.vtable, r.value)) (λ r. answers (r.vtable, r.value)))
+        (before ++ items_pieces (meaning_of book.now.rules.items R.handles R.answers)
         (versions_in groups.now) route.now.asked route.now.parts.items (borrowed references.now)
         (test cond.now) branch 0 from.now) (all_explained into.new.items)) }
 {
@@ -153,24 +149,22 @@ fn explain_items(
 }
 
 // Puts the pieces of a branch after the others.
-fn explain_branch(
+fn explain_branch<R: Rule>(
     alloc: Global,
     groups: &Groups,
-    book: &RuleBook,
+    book: &RuleBook<R>,
     route: &Route,
     branch: &Branch,
     number: u32,
     into: &mut Vec<Explained>,
 ) -> Result<(), NoMemory>
-    requires each { EachOf book.now.rules.items (λ r. handles (r.vtable, r.value)) }
     requires represents { (past : Past) × Represents groups.now past }
     requires route { IsRoute (versions_in groups.now) route.now }
     requires read { MayBranch (versions_in groups.now) route.now (branch_of branch.now) }
     ensures { (before : List PlainExplained) → AreLeft (versions_in groups.now) before
         (all_explained into.old.items)
         → OnOk result (AreLeft (versions_in groups.now)
-        (before ++ branch_pieces (meaning_of book.now.rules.items
-        (λ r. handles (r.vtable, r.value)) (λ r. answers (r.vtable, r.value)))
+        (before ++ branch_pieces (meaning_of book.now.rules.items R.handles R.answers)
         (versions_in groups.now) route.now.asked route.now.parts.items number
         (branch_of branch.now)) (all_explained into.new.items)) }
 {
@@ -191,22 +185,21 @@ fn explain_branch(
 }
 
 // The pieces of branches, the first of which is number 1.
-fn explain_branches(
+fn explain_branches<R: Rule>(
     alloc: Global,
     groups: &Groups,
-    book: &RuleBook,
+    book: &RuleBook<R>,
     route: &Route,
     branches: &[Branch],
 ) -> Result<Vec<Explained>, NoMemory>
-    requires each { EachOf book.now.rules.items (λ r. handles (r.vtable, r.value)) }
     requires represents { (past : Past) × Represents groups.now past }
     requires route { IsRoute (versions_in groups.now) route.now }
     requires read { MayBranches (versions_in groups.now) route.now (branches_of branches.now) }
     requires few { length branches.now ≤ 16 }
     ensures { IfOk result (λ v. AreLeft (versions_in groups.now)
-        (branches_pieces (meaning_of book.now.rules.items (λ r. handles (r.vtable, r.value))
-        (λ r. answers (r.vtable, r.value))) (versions_in groups.now) route.now.asked
-        route.now.parts.items 1 (branches_of branches.now)) (all_explained v.items)) }
+        (branches_pieces (meaning_of book.now.rules.items R.handles R.answers)
+        (versions_in groups.now) route.now.asked route.now.parts.items 1 (branches_of branches.now))
+        (all_explained v.items)) }
 {
     let mut pieces = Vec::new(alloc);
     let mut number: u32 = 0;
@@ -220,25 +213,22 @@ fn explain_branches(
 /// The pieces of a query, just those that `answer` reads: for each branch and item in text order,
 /// and for each version that is in force in the slice, those into which what is asked of the item's
 /// table unfolds there, but for the dead. The query is one that is not refused, with each reference
-/// made one to an atom; the groups represent the past, and the book has a rule for each kind of
-/// operator. The one error is `NoMemory`, where memory runs out.
-pub fn explain(
+/// made one to an atom, and the groups represent the past. The one error is `NoMemory`, where
+/// memory runs out.
+pub fn explain<R: Rule>(
     alloc: Global,
     groups: &Groups,
-    book: &RuleBook,
+    book: &RuleBook<R>,
     query: &Query,
 ) -> Result<Vec<Explained>, NoMemory>
-    requires each { EachOf book.now.rules.items (λ r. handles (r.vtable, r.value)) }
     requires answerable { IsAnswerable groups.now (query_of query.now) }
     requires there { query.now.version ≤ length groups.now.versions }
     requires lasting { IsLasting query.now.when }
-    ensures are { IfOk result (λ v. ArePieces
-        (meaning_of book.now.rules.items (λ r. handles (r.vtable, r.value))
-        (λ r. answers (r.vtable, r.value))) (versions_in groups.now) (query_of query.now)
-        (all_explained v.items)) }
+    ensures are { IfOk result (λ v. ArePieces (meaning_of book.now.rules.items R.handles R.answers)
+        (versions_in groups.now) (query_of query.now) (all_explained v.items)) }
     ensures told { IfOk result (λ v. all_explained v.items
-        ≡ living_pieces (meaning_of book.now.rules.items (λ r. handles (r.vtable, r.value))
-        (λ r. answers (r.vtable, r.value))) (versions_in groups.now) (query_of query.now)) }
+        ≡ living_pieces (meaning_of book.now.rules.items R.handles R.answers)
+        (versions_in groups.now) (query_of query.now)) }
 {
     let slice = slice(query);
     let route = route_of(alloc, groups, slice, query.version)?;

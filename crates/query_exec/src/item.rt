@@ -9,7 +9,7 @@ ghost use Rattle.smo_meaning.specs.Past.{Past, no_tables, tables_from};
 ghost use Rattle.version_groups.specs.Groups.{versions_in};
 ghost use Rattle.version_groups.specs.Representation.{Represents};
 ghost use Rattle.cond_expr.specs.AtomColumns.{columns_at};
-ghost use Rattle.rewrite.specs.Books.{meaning_of, EachOf};
+ghost use Rattle.rewrite.specs.Books.{meaning_of};
 ghost use Rattle.query_exec.specs.Accepted.{IsRead};
 ghost use Rattle.query_exec.specs.Questions.{own_read};
 ghost use Rattle.piece_texts.specs.ExplainedPieces.{PlainExplained};
@@ -54,10 +54,10 @@ fn named_columns(
 /// What is read of an item's table over the slice, in the columns that are named of it and the rows
 /// that meet the condition that is pushed to it, as the atom that is the item's place. The texts of
 /// a column that no piece of the item computes are borrowed.
-pub(crate) fn read_item<'a, L: Ledger>(
+pub(crate) fn read_item<'a, L: Ledger, R: Rule>(
     alloc: Global,
     groups: &'a Groups,
-    book: &RuleBook,
+    book: &RuleBook<R>,
     route: &Route,
     schema: &Schema,
     place: u32,
@@ -66,7 +66,6 @@ pub(crate) fn read_item<'a, L: Ledger>(
     cond: &Cond,
     steps: &mut Steps<L>,
 ) -> Result<Atom<'a>, NoMemory>
-    requires each { EachOf book.now.rules.items (λ r. handles (r.vtable, r.value)) }
     requires represents { (past : Past) × Represents groups.now past }
     requires route { IsRoute (versions_in groups.now) route.now }
     requires schema { schema.now ≡ tables_from no_tables (versions_in groups.now) route.now.asked }
@@ -76,24 +75,24 @@ pub(crate) fn read_item<'a, L: Ledger>(
         → IfOk result (λ a. IsRead past route.now place table.now
         (own_read place (borrowed references.now) (test cond.now)) a) }
     ensures borrowed { (branch : ℕ) → (by_branch : BorrowedByBranch)
-        → AllSpare groups.now by_branch
-        (table_pieces (meaning_of book.now.rules.items (λ r. handles (r.vtable, r.value))
-        (λ r. answers (r.vtable, r.value))) (versions_in groups.now) route.now.asked table.now
-        (own_read place (borrowed references.now) (test cond.now)) branch (place + 1)
+        → AllSpare groups.now by_branch (table_pieces
+        (meaning_of book.now.rules.items R.handles R.answers) (versions_in groups.now)
+        route.now.asked table.now (own_read place (borrowed references.now) (test cond.now)) branch
+        (place + 1)
         route.now.parts.items)
         → IfOk result (λ a. RowsBorrow (by_branch branch) a.columns.items a.rows.items) }
     ensures cost { (branch : ℕ) → (atom : ℕ) → (alive : List PlainExplained)
-        → AreAlive (versions_in groups.now) (table_pieces
-        (meaning_of book.now.rules.items (λ r. handles (r.vtable, r.value))
-        (λ r. answers (r.vtable, r.value))) (versions_in groups.now) route.now.asked table.now
-        (own_read place (borrowed references.now) (test cond.now)) branch atom
+        → AreAlive (versions_in groups.now)
+        (table_pieces (meaning_of book.now.rules.items R.handles R.answers) (versions_in groups.now)
+        route.now.asked table.now (own_read place (borrowed references.now) (test cond.now)) branch
+        atom
         route.now.parts.items) alive
         → steps.new ≤ steps.old + reads_of groups.now alive }
     ensures least { (branch : ℕ) → (atom : ℕ) → (e : PlainExplained)
-        → IsAlive (versions_in groups.now) (table_pieces
-        (meaning_of book.now.rules.items (λ r. handles (r.vtable, r.value))
-        (λ r. answers (r.vtable, r.value))) (versions_in groups.now) route.now.asked table.now
-        (own_read place (borrowed references.now) (test cond.now)) branch atom
+        → IsAlive (versions_in groups.now)
+        (table_pieces (meaning_of book.now.rules.items R.handles R.answers) (versions_in groups.now)
+        route.now.asked table.now (own_read place (borrowed references.now) (test cond.now)) branch
+        atom
         route.now.parts.items) e
         → IfOk result (λ _. steps.old + explained_read groups.now e ≤ steps.new) }
     ensures rises { steps.old ≤ steps.new }

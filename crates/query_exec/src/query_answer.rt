@@ -11,7 +11,7 @@ ghost use Rattle.query_meaning.specs.Answers.{asked_at, answer};
 ghost use Rattle.query_types.specs.Queries.{PlainQuery, query_of, slice_of, IsLasting};
 ghost use Rattle.version_groups.specs.Groups.{versions_in};
 ghost use Rattle.version_groups.specs.Representation.{Represents};
-ghost use Rattle.rewrite.specs.Books.{meaning_of, EachOf};
+ghost use Rattle.rewrite.specs.Books.{meaning_of};
 ghost use Rattle.query_exec.specs.Accepted.{IsAccepted, IsAnswerable};
 ghost use Rattle.piece_texts.specs.ExplainedPieces.{PlainExplained};
 ghost use Rattle.query_exec.specs.Borrowed.{BorrowedByBranch, AreSpared, AreBorrowedBy};
@@ -30,8 +30,8 @@ use version_groups::Groups;
 
 /// What a query lists, over all of history: each row with the longest periods of its slice in which
 /// it holds, over the borders of versions too, ascending by row and start. KEEP is left to the
-/// caller. The query is one that is not refused, with each reference made one to an atom; the
-/// groups represent the past, and the book has a rule for each kind of operator.
+/// caller. The query is one that is not refused, with each reference made one to an atom, and the
+/// groups represent the past.
 ///
 /// A table's pieces at a version are made from those at its neighbour, so each rule is asked once a
 /// version and piece. It takes at most as many steps as there are, for each of the query's pieces,
@@ -41,14 +41,13 @@ use version_groups::Groups;
 /// one of these pieces computes that text for the column of its item: each row is so of one of the
 /// branches that answer it where its period begins. The one error is `NoMemory`, where memory runs
 /// out.
-pub fn answer<'a, L: Ledger>(
+pub fn answer<'a, L: Ledger, R: Rule>(
     alloc: Global,
     groups: &'a Groups,
-    book: &RuleBook,
+    book: &RuleBook<R>,
     query: &Query,
     steps: &mut Steps<L>,
 ) -> Result<Vec<TimedRow<'a>>, NoMemory>
-    requires each { EachOf book.now.rules.items (λ r. handles (r.vtable, r.value)) }
     requires answerable { IsAnswerable groups.now (query_of query.now) }
     requires there { query.now.version ≤ length groups.now.versions }
     requires lasting { IsLasting query.now.when }
@@ -60,17 +59,17 @@ pub fn answer<'a, L: Ledger>(
         → IsAccepted past asked (query_of query.now)
         → IfOk result (λ rows. kept asked.keep (entries_of rows.items) ≡ answer past asked) }
     ensures borrowed { (past : Past) → Represents groups.now past → (pieces : List PlainExplained)
-        → ArePieces (meaning_of book.now.rules.items (λ r. handles (r.vtable, r.value))
-        (λ r. answers (r.vtable, r.value))) (versions_in groups.now) (query_of query.now) pieces
+        → ArePieces (meaning_of book.now.rules.items R.handles R.answers) (versions_in groups.now)
+        (query_of query.now) pieces
         → (by_branch : BorrowedByBranch) → AreSpared groups.now by_branch pieces
         → IfOk result (λ rows. AreBorrowedBy past (query_of query.now) by_branch rows.items) }
     ensures cost { (pieces : List PlainExplained)
-        → ArePieces (meaning_of book.now.rules.items (λ r. handles (r.vtable, r.value))
-        (λ r. answers (r.vtable, r.value))) (versions_in groups.now) (query_of query.now) pieces
+        → ArePieces (meaning_of book.now.rules.items R.handles R.answers) (versions_in groups.now)
+        (query_of query.now) pieces
         → steps.new ≤ steps.old + reads_of groups.now pieces }
     ensures least { (pieces : List PlainExplained)
-        → ArePieces (meaning_of book.now.rules.items (λ r. handles (r.vtable, r.value))
-        (λ r. answers (r.vtable, r.value))) (versions_in groups.now) (query_of query.now) pieces
+        → ArePieces (meaning_of book.now.rules.items R.handles R.answers) (versions_in groups.now)
+        (query_of query.now) pieces
         → (e : PlainExplained) → In e pieces
         → IfOk result (λ _. steps.old + explained_read groups.now e ≤ steps.new) }
     ensures rises { steps.old ≤ steps.new }

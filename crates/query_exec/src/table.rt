@@ -14,7 +14,7 @@ ghost use Rattle.version_groups.specs.Representation.{Represents};
 ghost use Rattle.piece_meaning.specs.Pieces.{all_mean};
 ghost use Rattle.piece_meaning.specs.Typed.{AllTyped};
 ghost use Rattle.piece_ir.specs.Shown.{pieces_of};
-ghost use Rattle.rewrite.specs.Books.{meaning_of, EachOf};
+ghost use Rattle.rewrite.specs.Books.{meaning_of};
 ghost use Rattle.query_pieces.specs.Gathering.{IsGathered};
 ghost use Rattle.query_exec.specs.Asked.{read_asked};
 ghost use Rattle.query_exec.specs.Questions.{table_read};
@@ -44,21 +44,19 @@ use version_groups::Groups;
 
 /// The pieces of the table over each version of the slice, in the order of the versions. Each rule
 /// of the book is asked once a version and piece.
-pub(crate) fn table_pieces(
+pub(crate) fn table_pieces<R: Rule>(
     alloc: Global,
     groups: &Groups,
-    book: &RuleBook,
+    book: &RuleBook<R>,
     route: &Route,
     table: &Name,
     question: &Question,
 ) -> Result<Vec<PartPieces>, NoMemory>
-    requires each { EachOf book.now.rules.items (λ r. handles (r.vtable, r.value)) }
     requires represents { (past : Past) × Represents groups.now past }
     requires route { IsRoute (versions_in groups.now) route.now }
     requires read { MayBeRead (versions_in groups.now) route.now table.now (read_asked
         question.now) }
-    ensures { IfOk result (λ v. ArePlanned (meaning_of book.now.rules.items
-        (λ r. handles (r.vtable, r.value)) (λ r. answers (r.vtable, r.value)))
+    ensures { IfOk result (λ v. ArePlanned (meaning_of book.now.rules.items R.handles R.answers)
         (versions_in groups.now) route.now.asked table.now (read_asked question.now)
         route.now.parts.items v.items) }
 {
@@ -132,16 +130,15 @@ fn read_parts<'a, L: Ledger>(
 /// with its longest periods, over the borders of versions too. Its pieces are read, each of them,
 /// and nothing else; the texts that are those of a plain column in each of them that answers them
 /// are borrowed.
-pub(crate) fn read_table<'a, L: Ledger>(
+pub(crate) fn read_table<'a, L: Ledger, R: Rule>(
     alloc: Global,
     groups: &'a Groups,
-    book: &RuleBook,
+    book: &RuleBook<R>,
     route: &Route,
     table: &Name,
     question: &Question,
     steps: &mut Steps<L>,
 ) -> Result<Vec<TimedRow<'a>>, NoMemory>
-    requires each { EachOf book.now.rules.items (λ r. handles (r.vtable, r.value)) }
     requires represents { (past : Past) × Represents groups.now past }
     requires route { IsRoute (versions_in groups.now) route.now }
     requires read { MayBeRead (versions_in groups.now) route.now table.now (read_asked
@@ -153,22 +150,19 @@ pub(crate) fn read_table<'a, L: Ledger>(
     ensures borrowed { (branch : ℕ) → (atom : ℕ) → (which : BorrowedValues)
         → (columns : List AtomColumn)
         → ((e : PlainExplained) → IsAlive (versions_in groups.now)
-        (table_pieces (meaning_of book.now.rules.items (λ r. handles (r.vtable, r.value))
-        (λ r. answers (r.vtable, r.value))) (versions_in groups.now) route.now.asked table.now
-        (read_asked question.now) branch atom route.now.parts.items) e
+        (table_pieces (meaning_of book.now.rules.items R.handles R.answers) (versions_in groups.now)
+        route.now.asked table.now (read_asked question.now) branch atom route.now.parts.items) e
         → IsPlainIn groups.now which columns e)
         → IfOk result (λ rows. RowsBorrow which columns rows.items) }
     ensures cost { (branch : ℕ) → (atom : ℕ) → (alive : List PlainExplained)
-        → AreAlive (versions_in groups.now) (table_pieces
-        (meaning_of book.now.rules.items (λ r. handles (r.vtable, r.value))
-        (λ r. answers (r.vtable, r.value))) (versions_in groups.now) route.now.asked table.now
-        (read_asked question.now) branch atom route.now.parts.items) alive
+        → AreAlive (versions_in groups.now)
+        (table_pieces (meaning_of book.now.rules.items R.handles R.answers) (versions_in groups.now)
+        route.now.asked table.now (read_asked question.now) branch atom route.now.parts.items) alive
         → steps.new ≤ steps.old + reads_of groups.now alive }
     ensures least { (branch : ℕ) → (atom : ℕ) → (e : PlainExplained)
-        → IsAlive (versions_in groups.now) (table_pieces
-        (meaning_of book.now.rules.items (λ r. handles (r.vtable, r.value))
-        (λ r. answers (r.vtable, r.value))) (versions_in groups.now) route.now.asked table.now
-        (read_asked question.now) branch atom route.now.parts.items) e
+        → IsAlive (versions_in groups.now)
+        (table_pieces (meaning_of book.now.rules.items R.handles R.answers) (versions_in groups.now)
+        route.now.asked table.now (read_asked question.now) branch atom route.now.parts.items) e
         → IfOk result (λ _. steps.old + explained_read groups.now e ≤ steps.new) }
     ensures rises { steps.old ≤ steps.new }
 {

@@ -4,7 +4,7 @@ ghost use Rattle.std.specs.Prelude.{IfOk};
 ghost use Rattle.smo_meaning.specs.Past.{Past};
 ghost use Rattle.version_groups.specs.Groups.{versions_in};
 ghost use Rattle.version_groups.specs.Representation.{Represents};
-ghost use Rattle.rewrite.specs.Books.{meaning_of, EachOf};
+ghost use Rattle.rewrite.specs.Books.{meaning_of};
 ghost use Rattle.query_exec.specs.Asked.{read_asked};
 ghost use Rattle.query_exec.specs.Planned.{ArePlanned};
 ghost use Rattle.query_exec.specs.Routes.{AreAlong};
@@ -19,21 +19,19 @@ use version_groups::Groups;
 
 /// What is planned for the table at the versions of parts, to which a walk from the asked version
 /// comes in their order.
-pub(crate) fn pieces_along(
+pub(crate) fn pieces_along<R: Rule>(
     alloc: Global,
     groups: &Groups,
-    book: &RuleBook,
+    book: &RuleBook<R>,
     asked: u32,
     parts: &[(Period, u32)],
     table: &Name,
     question: &Question,
 ) -> Result<Vec<PartPieces>, NoMemory>
-    requires each { EachOf book.now.rules.items (λ r. handles (r.vtable, r.value)) }
     requires represents { (past : Past) × Represents groups.now past }
     requires along { AreAlong (versions_in groups.now) asked table.now (read_asked question.now)
         parts.now }
-    ensures { IfOk result (λ v. ArePlanned (meaning_of book.now.rules.items
-        (λ r. handles (r.vtable, r.value)) (λ r. answers (r.vtable, r.value)))
+    ensures { IfOk result (λ v. ArePlanned (meaning_of book.now.rules.items R.handles R.answers)
         (versions_in groups.now) asked table.now (read_asked question.now) parts.now v.items) }
 {
     book.known();

@@ -7,7 +7,7 @@ ghost use Rattle.smo_meaning.specs.Inverses.{schema_after_each, AllOperatorsAcce
 ghost use Rattle.smo_meaning.specs.Past.{no_tables, tables_from};
 ghost use Rattle.smo_meaning.specs.ValidPast.{AreVersions};
 ghost use Rattle.piece_meaning.specs.Typed.{AllTyped};
-ghost use Rattle.rewrite.specs.Books.{meaning_of, EachOf};
+ghost use Rattle.rewrite.specs.Books.{meaning_of};
 ghost use Rattle.piece_ir.specs.Shown.{pieces_of};
 ghost use Rattle.rewrite_chains.specs.Chains.{through, through_each, to_previous, to_next};
 
@@ -21,8 +21,8 @@ use std::alloc::Global;
 
 // Pieces over the tables after an operator, taken through it: what the book answers, piece by
 // piece.
-fn through(
-    book: &RuleBook,
+fn through<R: Rule>(
+    book: &RuleBook<R>,
     alloc: Global,
     op: &Op,
     before: &Schema,
@@ -33,9 +33,8 @@ fn through(
     requires typed { AllTyped (schema_after before.now (operator_of op.now))
         (pieces_of pieces.now) }
     ensures { IfOk result (λ news. pieces_of news.items
-        ≡ through (meaning_of book.now.rules.items (λ r. handles (r.vtable, r.value))
-        (λ r. answers (r.vtable, r.value))) (operator_of op.now) before.now
-        (pieces_of pieces.now)) }
+        ≡ through (meaning_of book.now.rules.items R.handles R.answers) (operator_of op.now)
+        before.now (pieces_of pieces.now)) }
 {
     let mut all = Vec::new(alloc);
     for piece in pieces {
@@ -47,23 +46,21 @@ fn through(
 
 // Through operators that stand one after the other, from the last to the first, each on the tables
 // before it.
-fn through_each(
-    book: &RuleBook,
+fn through_each<R: Rule>(
+    book: &RuleBook<R>,
     alloc: Global,
     tables: &Schema,
     ops: &[Op],
     pieces: Vec<Piece>,
 ) -> Result<Vec<Piece>, NoMemory>
-    requires each { EachOf book.now.rules.items (λ r. handles (r.vtable, r.value)) }
     requires valid { IsValid tables.now }
     requires accepted { AllOperatorsAccepted tables.now (operators_of ops.now) }
     requires few { HaveFewNodes (operators_of ops.now) }
     requires typed { AllTyped (schema_after_each tables.now (operators_of ops.now))
         (pieces_of pieces.items) }
     ensures { IfOk result (λ news. pieces_of news.items
-        ≡ through_each (meaning_of book.now.rules.items (λ r. handles (r.vtable, r.value))
-        (λ r. answers (r.vtable, r.value))) tables.now (operators_of ops.now)
-        (pieces_of pieces.items)) }
+        ≡ through_each (meaning_of book.now.rules.items R.handles R.answers) tables.now
+        (operators_of ops.now) (pieces_of pieces.items)) }
 {
     match ops {
         [] => Ok(pieces),
@@ -90,8 +87,8 @@ fn tables_at<'a>(nothing: &'a Schema, versions: &'a Versions, k: usize) -> &'a S
 }
 
 /// Pieces over version `k + 1`, taken to version `k`: through the operator of version `k + 1`.
-pub(crate) fn to_previous(
-    book: &RuleBook,
+pub(crate) fn to_previous<R: Rule>(
+    book: &RuleBook<R>,
     alloc: Global,
     versions: &Versions,
     k: usize,
@@ -102,8 +99,8 @@ pub(crate) fn to_previous(
     requires typed { AllTyped (tables_from no_tables (versions_of versions.now) (k + 1))
         (pieces_of pieces.now) }
     ensures { IfOk result (λ news. pieces_of news.items
-        ≡ to_previous (meaning_of book.now.rules.items (λ r. handles (r.vtable, r.value))
-        (λ r. answers (r.vtable, r.value))) (versions_of versions.now) k (pieces_of pieces.now)) }
+        ≡ to_previous (meaning_of book.now.rules.items R.handles R.answers)
+        (versions_of versions.now) k (pieces_of pieces.now)) }
 {
     let nothing = Schema::empty(alloc);
     let before = tables_at(&nothing, versions, k);
@@ -113,21 +110,20 @@ pub(crate) fn to_previous(
 
 /// Pieces over version `k`, taken to version `k + 1`: through the operators of its inverse. With
 /// none named they stay.
-pub(crate) fn to_next(
-    book: &RuleBook,
+pub(crate) fn to_next<R: Rule>(
+    book: &RuleBook<R>,
     alloc: Global,
     versions: &Versions,
     k: usize,
     pieces: Vec<Piece>,
 ) -> Result<Vec<Piece>, NoMemory>
-    requires each { EachOf book.now.rules.items (λ r. handles (r.vtable, r.value)) }
     requires there { k < vec_len versions.now.list }
     requires versions { AreVersions None no_tables (versions_of versions.now) }
     requires typed { AllTyped (tables_from no_tables (versions_of versions.now) k)
         (pieces_of pieces.items) }
     ensures { IfOk result (λ news. pieces_of news.items
-        ≡ to_next (meaning_of book.now.rules.items (λ r. handles (r.vtable, r.value))
-        (λ r. answers (r.vtable, r.value))) (versions_of versions.now) k (pieces_of pieces.items)) }
+        ≡ to_next (meaning_of book.now.rules.items R.handles R.answers) (versions_of versions.now) k
+        (pieces_of pieces.items)) }
 {
     let version = &versions.list[k];
     if version.inverse.is_empty() {

@@ -14,7 +14,7 @@ ghost use Rattle.plain_answers.specs.Reading.{Read, read_of};
 ghost use Rattle.piece_meaning.specs.Pieces.{PlainPiece, all_mean};
 ghost use Rattle.piece_meaning.specs.Typed.{AllTyped, output_types};
 ghost use Rattle.piece_meaning.specs.Rules.{IsValidDatabase};
-ghost use Rattle.rewrite.specs.Books.{meaning_of, EachOf};
+ghost use Rattle.rewrite.specs.Books.{meaning_of};
 ghost use Rattle.rewrite.specs.WalkedPieces.{AreBack, AreOn, AreAway, LeadsAway};
 ghost use Rattle.piece_ir.specs.Shown.{pieces_of};
 ghost use Rattle.rewrite_chains.specs.Chains.{to_previous, to_next, unfolded_to};
@@ -68,9 +68,9 @@ impl Walk {
 
     /// To the version before, through the operator of this one. The pieces are well-typed here. The
     /// one error is `NoMemory`, where memory runs out.
-    pub fn to_previous(
+    pub fn to_previous<R: Rule>(
         self,
-        book: &RuleBook,
+        book: &RuleBook<R>,
         alloc: Global,
         versions: &Versions,
     ) -> Result<Walk, NoMemory>
@@ -81,9 +81,8 @@ impl Walk {
             (pieces_of self.pieces.items) }
         ensures version { IfOk result (λ w. w.version + 1 ≡ self.version) }
         ensures pieces { IfOk result (λ w. pieces_of w.pieces.items
-            ≡ to_previous (meaning_of book.now.rules.items (λ r. handles (r.vtable, r.value))
-            (λ r. answers (r.vtable, r.value))) (versions_of versions.now) w.version
-            (pieces_of self.pieces.items)) }
+            ≡ to_previous (meaning_of book.now.rules.items R.handles R.answers)
+            (versions_of versions.now) w.version (pieces_of self.pieces.items)) }
     {
         let version = self.version - 1;
         let pieces = to_previous(book, alloc, versions, version as usize, &self.pieces)?;
@@ -92,13 +91,12 @@ impl Walk {
 
     /// To the next version, through the operators of its inverse; with none named the pieces stay.
     /// They are well-typed here. The one error is `NoMemory`, where memory runs out.
-    pub fn to_next(
+    pub fn to_next<R: Rule>(
         self,
-        book: &RuleBook,
+        book: &RuleBook<R>,
         alloc: Global,
         versions: &Versions,
     ) -> Result<Walk, NoMemory>
-        requires each { EachOf book.now.rules.items (λ r. handles (r.vtable, r.value)) }
         requires there { self.version < vec_len versions.now.list }
         requires next { self.version + 1 < 2 ^ 32 }
         requires versions { AreVersions None no_tables (versions_of versions.now) }
@@ -106,9 +104,8 @@ impl Walk {
             (pieces_of self.pieces.items) }
         ensures version { IfOk result (λ w. w.version ≡ self.version + 1) }
         ensures pieces { IfOk result (λ w. pieces_of w.pieces.items
-            ≡ to_next (meaning_of book.now.rules.items (λ r. handles (r.vtable, r.value))
-            (λ r. answers (r.vtable, r.value))) (versions_of versions.now) self.version
-            (pieces_of self.pieces.items)) }
+            ≡ to_next (meaning_of book.now.rules.items R.handles R.answers)
+            (versions_of versions.now) self.version (pieces_of self.pieces.items)) }
     {
         let Walk { version, pieces } = self;
         let next = to_next(book, alloc, versions, version as usize, pieces)?;
@@ -120,26 +117,22 @@ impl Walk {
 
     // Back to an earlier version, or to the same, one at a time. The pieces stand for what is asked
     // of a table of a version that is not earlier than this one.
-    fn back_to(
+    fn back_to<R: Rule>(
         self,
-        book: &RuleBook,
+        book: &RuleBook<R>,
         alloc: Global,
         versions: &Versions,
         version: u32,
     ) -> Result<Walk, NoMemory>
-        requires each { EachOf book.now.rules.items (λ r. handles (r.vtable, r.value)) }
         requires order { version ≤ self.version }
         requires there { self.version ≤ vec_len versions.now.list }
-        requires pieces { AreBack (meaning_of book.now.rules.items
-            (λ r. handles (r.vtable, r.value)) (λ r. answers (r.vtable, r.value)))
+        requires pieces { AreBack (meaning_of book.now.rules.items R.handles R.answers)
             (versions_of versions.now) self.version (pieces_of self.pieces.items) }
         ensures version { IfOk result (λ w. w.version ≡ version) }
         ensures pieces { (q : ℕ) → (table : List ℕ) → (r : Read) → self.version ≤ q
-            → StandFor (meaning_of book.now.rules.items (λ r. handles (r.vtable, r.value))
-            (λ r. answers (r.vtable, r.value))) (versions_of versions.now) self.version q table r
-            (pieces_of self.pieces.items)
-            → IfOk result (λ w. StandFor (meaning_of book.now.rules.items
-            (λ r. handles (r.vtable, r.value)) (λ r. answers (r.vtable, r.value)))
+            → StandFor (meaning_of book.now.rules.items R.handles R.answers)
+            (versions_of versions.now) self.version q table r (pieces_of self.pieces.items)
+            → IfOk result (λ w. StandFor (meaning_of book.now.rules.items R.handles R.answers)
             (versions_of versions.now) version q table r (pieces_of w.pieces.items)) }
     {
         book.known();
@@ -153,27 +146,23 @@ impl Walk {
     // On to a later version, or to the same, one at a time. The pieces stand for what is asked of a
     // table of a version that is not later than this one, and the table is not lost on the way from
     // there.
-    fn on_to(
+    fn on_to<R: Rule>(
         self,
-        book: &RuleBook,
+        book: &RuleBook<R>,
         alloc: Global,
         versions: &Versions,
         version: u32,
     ) -> Result<Walk, NoMemory>
-        requires each { EachOf book.now.rules.items (λ r. handles (r.vtable, r.value)) }
         requires order { self.version ≤ version }
         requires there { version ≤ vec_len versions.now.list }
-        requires pieces { AreOn (meaning_of book.now.rules.items
-            (λ r. handles (r.vtable, r.value)) (λ r. answers (r.vtable, r.value)))
+        requires pieces { AreOn (meaning_of book.now.rules.items R.handles R.answers)
             (versions_of versions.now) self.version version (pieces_of self.pieces.items) }
         ensures version { IfOk result (λ w. w.version ≡ version) }
         ensures pieces { (q : ℕ) → (table : List ℕ) → (r : Read) → q ≤ self.version
             → get (lost_names (versions_of versions.now) version q) table ≡ None
-            → StandFor (meaning_of book.now.rules.items (λ r. handles (r.vtable, r.value))
-            (λ r. answers (r.vtable, r.value))) (versions_of versions.now) self.version q table r
-            (pieces_of self.pieces.items)
-            → IfOk result (λ w. StandFor (meaning_of book.now.rules.items
-            (λ r. handles (r.vtable, r.value)) (λ r. answers (r.vtable, r.value)))
+            → StandFor (meaning_of book.now.rules.items R.handles R.answers)
+            (versions_of versions.now) self.version q table r (pieces_of self.pieces.items)
+            → IfOk result (λ w. StandFor (meaning_of book.now.rules.items R.handles R.answers)
             (versions_of versions.now) version q table r (pieces_of w.pieces.items)) }
     {
         book.known();
@@ -187,29 +176,25 @@ impl Walk {
     /// To another version, or to the same, one at a time. The pieces stand for what is asked of a
     /// table of a version from which the way leads away; where the way goes on, the table is not
     /// lost from there up to its end. The one error is `NoMemory`, where memory runs out.
-    pub fn to(
+    pub fn to<R: Rule>(
         self,
-        book: &RuleBook,
+        book: &RuleBook<R>,
         alloc: Global,
         versions: &Versions,
         version: u32,
     ) -> Result<Walk, NoMemory>
-        requires each { EachOf book.now.rules.items (λ r. handles (r.vtable, r.value)) }
         requires here { self.version ≤ vec_len versions.now.list }
         requires there { version ≤ vec_len versions.now.list }
-        requires pieces { AreAway (meaning_of book.now.rules.items
-            (λ r. handles (r.vtable, r.value)) (λ r. answers (r.vtable, r.value)))
+        requires pieces { AreAway (meaning_of book.now.rules.items R.handles R.answers)
             (versions_of versions.now) self.version version (pieces_of self.pieces.items) }
         ensures version { IfOk result (λ w. w.version ≡ version) }
         ensures pieces { (q : ℕ) → (table : List ℕ) → (r : Read)
             → LeadsAway q self.version version
             → (self.version < version
             → get (lost_names (versions_of versions.now) version q) table ≡ None)
-            → StandFor (meaning_of book.now.rules.items (λ r. handles (r.vtable, r.value))
-            (λ r. answers (r.vtable, r.value))) (versions_of versions.now) self.version q table r
-            (pieces_of self.pieces.items)
-            → IfOk result (λ w. StandFor (meaning_of book.now.rules.items
-            (λ r. handles (r.vtable, r.value)) (λ r. answers (r.vtable, r.value)))
+            → StandFor (meaning_of book.now.rules.items R.handles R.answers)
+            (versions_of versions.now) self.version q table r (pieces_of self.pieces.items)
+            → IfOk result (λ w. StandFor (meaning_of book.now.rules.items R.handles R.answers)
             (versions_of versions.now) version q table r (pieces_of w.pieces.items)) }
     {
         let here = self.version;
@@ -244,8 +229,8 @@ impl From<NoMemory> for RewriteFault {
 }
 
 // From the version that is asked to any other.
-fn walked(
-    book: &RuleBook,
+fn walked<R: Rule>(
+    book: &RuleBook<R>,
     alloc: Global,
     versions: &Versions,
     stored: u32,
@@ -254,14 +239,12 @@ fn walked(
     cond: &Cond,
     columns: &[Name],
 ) -> Result<Vec<Piece>, NoMemory>
-    requires each { EachOf book.now.rules.items (λ r. handles (r.vtable, r.value)) }
     requires stored { stored ≤ vec_len versions.now.list }
     requires asked { asked ≤ vec_len versions.now.list }
     requires question { MayBeAsked (versions_of versions.now) asked table.now
         (asking (test cond.now) columns.now) }
     requires kept { get (lost_names (versions_of versions.now) stored asked) table.now ≡ None }
-    ensures { IfOk result (λ news. StandFor (meaning_of book.now.rules.items
-        (λ r. handles (r.vtable, r.value)) (λ r. answers (r.vtable, r.value)))
+    ensures { IfOk result (λ news. StandFor (meaning_of book.now.rules.items R.handles R.answers)
         (versions_of versions.now) stored asked table.now (asking (test cond.now) columns.now)
         (pieces_of news.items)) }
 {
@@ -280,9 +263,9 @@ fn walked(
 /// columns as those of atom 0, and the columns are some of them, ascending, each once. `Lost`
 /// exactly where by names the table is lost on the way, with its loss; it is judged before the book
 /// is asked. `NoMemory` where memory runs out.
-pub fn pieces_of(
+pub fn pieces_of<R: Rule>(
     alloc: Global,
-    book: &RuleBook,
+    book: &RuleBook<R>,
     versions: &Versions,
     stored: u32,
     asked: u32,
@@ -290,7 +273,6 @@ pub fn pieces_of(
     cond: &Cond,
     columns: &[Name],
 ) -> Result<Vec<Piece>, RewriteFault>
-    requires each { EachOf book.now.rules.items (λ r. handles (r.vtable, r.value)) }
     requires stored { stored ≤ vec_len versions.now.list }
     requires asked { asked ≤ vec_len versions.now.list }
     requires question { MayBeAsked (versions_of versions.now) asked table.now
@@ -300,8 +282,8 @@ pub fn pieces_of(
     ensures kept { IfOk result (λ news. get (lost_names (versions_of versions.now) stored asked)
         table.now ≡ None) }
     ensures is { IfOk result (λ news. pieces_of news.items
-        ≡ unfolded_to (meaning_of book.now.rules.items (λ r. handles (r.vtable, r.value))
-        (λ r. answers (r.vtable, r.value))) (versions_of versions.now) stored asked
+        ≡ unfolded_to (meaning_of book.now.rules.items R.handles R.answers)
+        (versions_of versions.now) stored asked
         (first_piece table.now (asking (test cond.now) columns.now) ∷ [])) }
     ensures means { IfOk result (λ news. VersionsHold (versions_of versions.now) → (db : Database)
         → IsValidDatabase (tables_from no_tables (versions_of versions.now) stored) db

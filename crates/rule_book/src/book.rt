@@ -1,12 +1,10 @@
 ghost use Rattle.std.specs.Prelude.{◌≡◌, None, map, IfOk, OnOk, IfErr};
-ghost use Rattle.prima_base.specs.declared.refusal.OpKind.{OpKind as Kind};
 ghost use Rattle.smo_types.specs.Operators.{operator_of};
-ghost use Rattle.smo_meaning.specs.OperatorKinds.{operator_kind};
 ghost use Rattle.smo_meaning.specs.After.{op_fault, schema_after, IsValid};
 ghost use Rattle.piece_meaning.specs.Typed.{IsTyped};
-ghost use Rattle.piece_meaning.specs.Rules.{IsValidRule, IsValidBook, KeepsMeaning};
+ghost use Rattle.piece_meaning.specs.Rules.{IsValidBook};
 ghost use Rattle.piece_meaning.specs.Books.{book_of, AreValidRules, HasEachKind};
-ghost use Rattle.piece_meaning.specs.Books.{first_twice as twice};
+ghost use Rattle.piece_meaning.specs.Books.{first_twice as twice, first_missing as missing};
 ghost use Rattle.piece_ir.specs.Shown.{piece_of, pieces_of};
 ghost use Rattle.rule_book.specs.Faults.{IsJudged, IsFault};
 
@@ -41,37 +39,13 @@ impl From<NoMemory> for BookFault {
     }
 }
 
-fn kind_of_box(rule: &Box<dyn Rule>) -> OpKind
-    ensures is { result ≡ handles rule.now }
-    ensures valid { IsValidRule (handles rule.now) (answers rule.now) }
-{
-    rule.kind()
-}
-
-fn ask(
-    rule: &Box<dyn Rule>,
-    alloc: Global,
-    op: &Op,
-    before: &Schema,
-    piece: &Piece,
-) -> Result<Vec<Piece>, NoMemory>
-    requires kind { operator_kind (operator_of op.now) ≡ handles rule.now }
-    requires valid { IsValid before.now }
-    requires accepted { op_fault before.now (operator_of op.now) ≡ None }
-    requires typed { IsTyped (schema_after before.now (operator_of op.now)) (piece_of piece.now) }
-    ensures { IfOk result (λ news. pieces_of news.items
-        ≡ answers rule.now (operator_of op.now) before.now (piece_of piece.now)) }
-{
-    rule.rewrite(alloc, op, before, piece)
-}
-
 // The kinds of the rules, in their order.
-fn kinds_of(alloc: Global, rules: &[Box<dyn Rule>]) -> Result<Vec<OpKind>, NoMemory>
-    ensures { IfOk result (λ v. v.items ≡ map handles rules.now) }
+fn kinds_of<R: Rule>(alloc: Global, rules: &[R]) -> Result<Vec<OpKind>, NoMemory>
+    ensures { IfOk result (λ v. v.items ≡ map R.handles rules.now) }
 {
     let mut kinds = Vec::with_capacity(alloc, rules.len())?;
     for rule in rules {
-        kinds.push(kind_of_box(rule))?;
+        kinds.push(rule.kind())?;
     }
     Ok(kinds)
 }
@@ -88,10 +62,10 @@ fn judge(kinds: &[OpKind]) -> Result<(), BookFault>
     Ok(())
 }
 
-fn judge_rules(alloc: Global, rules: &[Box<dyn Rule>]) -> Result<(), BookFault>
-    ensures judged { IsJudged (map handles rules.now) result }
-    ensures each { OnOk result (HasEachKind handles rules.now) }
-    ensures once { OnOk result (twice (map handles rules.now) ≡ None) }
+fn judge_rules<R: Rule>(alloc: Global, rules: &[R]) -> Result<(), BookFault>
+    ensures judged { IsJudged (map R.handles rules.now) result }
+    ensures each { OnOk result (missing (map R.handles rules.now) ≡ None) }
+    ensures once { OnOk result (twice (map R.handles rules.now) ≡ None) }
 {
     let kinds = kinds_of(alloc, rules)?;
     judge(&kinds)?;
@@ -99,21 +73,21 @@ fn judge_rules(alloc: Global, rules: &[Box<dyn Rule>]) -> Result<(), BookFault>
 }
 
 // Each of them is valid.
-fn all_known(rules: &[Box<dyn Rule>])
-    ensures { AreValidRules handles answers rules.now }
+fn all_known<R: Rule>(rules: &[R])
+    ensures { AreValidRules R.handles R.answers rules.now }
 {
     match rules {
         [] => {}
         [rule, rest @ ..] => {
-            kind_of_box(rule);
+            rule.kind();
             all_known(rest);
         }
     }
 }
 
 // What the first rule of the operator's kind answers; where there is none, no piece.
-fn rewrite_by(
-    rules: &[Box<dyn Rule>],
+fn rewrite_by<R: Rule>(
+    rules: &[R],
     alloc: Global,
     op: &Op,
     before: &Schema,
@@ -123,13 +97,14 @@ fn rewrite_by(
     requires accepted { op_fault before.now (operator_of op.now) ≡ None }
     requires typed { IsTyped (schema_after before.now (operator_of op.now)) (piece_of piece.now) }
     ensures { IfOk result (λ news. pieces_of news.items
-        ≡ book_of handles answers rules.now (operator_of op.now) before.now (piece_of piece.now)) }
+        ≡ book_of R.handles R.answers rules.now (operator_of op.now) before.now
+        (piece_of piece.now)) }
 {
     match rules {
         [] => Ok(Vec::new(alloc)),
         [rule, rest @ ..] => {
-            if same_kind(kind_of_box(rule), kind_of(op)) {
-                return ask(rule, alloc, op, before, piece);
+            if same_kind(rule.kind(), kind_of(op)) {
+                return rule.rewrite(alloc, op, before, piece);
             }
             rewrite_by(rest, alloc, op, before, piece)
         }
@@ -137,40 +112,41 @@ fn rewrite_by(
 }
 
 // With a rule of each kind they are a valid book.
-fn known(rules: &[Box<dyn Rule>])
-    requires { HasEachKind handles rules.now }
-    ensures { IsValidBook (book_of handles answers rules.now) }
+fn known<R: Rule>(rules: &[R])
+    requires { missing (map R.handles rules.now) ≡ None }
+    ensures { IsValidBook (book_of R.handles R.answers rules.now) }
 {
     all_known(rules);
 }
 
-/// Boxed rules: one for each kind of operator, in a book that `new` makes.
+/// Rules, mostly boxed: one for each kind of operator, in a book that `new` makes.
 #[derive(Drop)]
-pub struct RuleBook {
+pub struct RuleBook<R: Rule> {
     /// The rules, in their order.
-    pub rules: Vec<Box<dyn Rule>>,
+    pub rules: Vec<R>,
+    // no kind of operator is without a rule
+    pub ghost each: { missing (map R.handles rules.items) ≡ None },
 }
 
-impl RuleBook {
+impl<R: Rule> RuleBook<R> {
     /// The book of these rules, in their order.
     ///
     /// `Twice` exactly where a rule's kind stood before, with the first such kind; then `Missing`
     /// exactly where of a kind there is no rule, with the first such kind. `NoMemory` where memory
     /// runs out.
-    pub fn new(alloc: Global, rules: Vec<Box<dyn Rule>>) -> Result<RuleBook, BookFault>
+    pub fn new(alloc: Global, rules: Vec<R>) -> Result<RuleBook<R>, BookFault>
         ensures same { IfOk result (λ book. book.rules.items ≡ rules.items) }
-        ensures each { IfOk result (λ book. HasEachKind handles book.rules.items) }
-        ensures once { IfOk result (λ book. twice (map handles book.rules.items) ≡ None) }
-        ensures fault { IfErr result (λ fault. IsFault (map handles rules.items) fault) }
+        ensures each { IfOk result (λ book. HasEachKind R.handles book.rules.items) }
+        ensures once { IfOk result (λ book. twice (map R.handles book.rules.items) ≡ None) }
+        ensures fault { IfErr result (λ fault. IsFault (map R.handles rules.items) fault) }
     {
         judge_rules(alloc, &rules)?;
         Ok(RuleBook { rules })
     }
 
-    /// Nothing is done: with a rule of each kind the book is valid.
+    /// Nothing is done: the book is valid.
     pub fn known(&self)
-        requires { HasEachKind handles self.now.rules.items }
-        ensures { IsValidBook (book_of handles answers self.now.rules.items) }
+        ensures { IsValidBook (book_of R.handles R.answers self.now.rules.items) }
     {
         known(&self.rules);
     }
@@ -190,7 +166,7 @@ impl RuleBook {
         requires typed { IsTyped (schema_after before.now (operator_of op.now))
             (piece_of piece.now) }
         ensures { IfOk result (λ news. pieces_of news.items
-            ≡ book_of handles answers self.now.rules.items (operator_of op.now) before.now
+            ≡ book_of R.handles R.answers self.now.rules.items (operator_of op.now) before.now
             (piece_of piece.now)) }
     {
         rewrite_by(&self.rules, alloc, op, before, piece)

@@ -1,5 +1,5 @@
-//! Boxed rules that take pieces through the operators of one kind each, and a book of one rule for
-//! each kind.
+//! Rules that take pieces through the operators of one kind each, boxed or not, and a book of one
+//! rule for each kind.
 #![tactic(auto)]
 
 mod book;

@@ -49,3 +49,24 @@ pub trait Rule: Drop {
         ensures keeps { IfOk result (λ news. KeepsMeaning before.now (operator_of op.now)
             (piece_of piece.now) (pieces_of news.items)) };
 }
+
+/// A boxed rule is the rule in its box.
+impl Rule for Box<dyn Rule> {
+    ghost handles = { λ b. (Rule-box b).handles b.value };
+
+    ghost answers = { λ b. (Rule-box b).answers b.value };
+
+    fn kind(&self) -> OpKind {
+        (**self).kind()
+    }
+
+    fn rewrite(
+        &self,
+        alloc: Global,
+        op: &Op,
+        before: &Schema,
+        piece: &Piece,
+    ) -> Result<Vec<Piece>, NoMemory> {
+        (**self).rewrite(alloc, op, before, piece)
+    }
+}

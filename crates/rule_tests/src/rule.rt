@@ -13,18 +13,19 @@ use rewrite_rules::{BookFault, NopRule, Rule, RuleBook, push_every_rule};
 use schema_catalog::Schema;
 use smo_ops::Op;
 use std::alloc::Global;
+use std::process::Abort;
 use std::test::Fail;
 
-fn is_nop_missing(book: &Result<RuleBook, BookFault>) -> bool {
-    match book {
-        Err(BookFault::Missing(kind)) => *kind == OpKind::Nop,
+fn is_nop_missing<R: Rule>(alloc: Global, rules: Vec<R>) -> bool {
+    match RuleBook::new(alloc, rules) {
+        Err(BookFault::Missing(kind)) => kind == OpKind::Nop,
         _ => false,
     }
 }
 
-fn is_nop_twice(book: &Result<RuleBook, BookFault>) -> bool {
-    match book {
-        Err(BookFault::Twice(kind)) => *kind == OpKind::Nop,
+fn is_nop_twice<R: Rule>(alloc: Global, rules: Vec<R>) -> bool {
+    match RuleBook::new(alloc, rules) {
+        Err(BookFault::Twice(kind)) => kind == OpKind::Nop,
         _ => false,
     }
 }
@@ -60,9 +61,9 @@ fn names_of(alloc: Global, pieces: &[Piece]) -> Result<Vec<u8>, NoMemory> {
 
 // What the book answers to the operator and the piece on a table after it; none where the operator
 // is refused.
-fn answered(
+fn answered<R: Rule>(
     alloc: Global,
-    book: &RuleBook,
+    book: &RuleBook<R>,
     before: &Schema,
     op: &Op,
     table: &Name,
@@ -94,11 +95,8 @@ const CASES: [(&[u8], &[u8], &[u8]); 12] = [
     (b"RENAME COLUMN b IN r TO c", b"r", b"r;"),
 ];
 
-#[test]
-fn each_rule_answers(rt: HostRuntime) -> Result<(), Fail> {
-    let alloc = rt.alloc();
-    let mut rules: Vec<Box<dyn Rule>> = Vec::new(alloc);
-    push_every_rule!(alloc, rules);
+// Asks the book of these rules in each case, and hands them back.
+fn asked_in_each<R: Rule>(rt: &impl Abort, alloc: Global, rules: Vec<R>) -> Result<Vec<R>, Fail> {
     let Ok(book) = RuleBook::new(alloc, rules) else {
         return Err(Fail::new("twelve rules make a book"));
     };
@@ -114,13 +112,22 @@ fn each_rule_answers(rt: HostRuntime) -> Result<(), Fail> {
         };
         assert_eq!(rt; names_of(alloc, &pieces)?.as_slice(), names);
     }
+    let RuleBook { rules } = book;
+    Ok(rules)
+}
+
+#[test]
+fn each_rule_answers(rt: HostRuntime) -> Result<(), Fail> {
+    let alloc = rt.alloc();
+    let mut rules: Vec<Box<dyn Rule>> = Vec::new(alloc);
+    push_every_rule!(alloc, rules);
+    let mut others = asked_in_each(&rt, alloc, rules)?;
     // Without the first of the twelve boxes, which is NOP's.
-    let mut others = book.rules;
     let nop = others.remove(0);
-    assert!(rt; is_nop_missing(&RuleBook::new(alloc, others)));
+    assert!(rt; is_nop_missing(alloc, others));
     let mut twice: Vec<Box<dyn Rule>> = Vec::new(alloc);
     twice.push(nop)?;
     twice.push(Box::new(alloc, NopRule)?)?;
-    assert!(rt; is_nop_twice(&RuleBook::new(alloc, twice)));
+    assert!(rt; is_nop_twice(alloc, twice));
     Ok(())
 }

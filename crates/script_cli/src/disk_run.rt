@@ -2,7 +2,7 @@
 
 ghost use Rattle.std.specs.Prelude.{◌≡◌, ◌<◌, IfOk, IfErr};
 ghost use Rattle.disk_model.specs.Moments.{GoesOn};
-ghost use Rattle.rewrite.specs.Books.{meaning_of, EachOf};
+ghost use Rattle.rewrite.specs.Books.{meaning_of};
 ghost use Rattle.script_cli.specs.Driving.{HasOpened, HasNotOpened, CountsOpening, PutsUnopened};
 ghost use Rattle.script_cli.specs.Driving.{status_of_fault};
 ghost use Rattle.script_cli.specs.Runs.{RunsOver, given_by, SourceCounted, SinkCounted};
@@ -61,19 +61,17 @@ pub(crate) fn refuse_file<K: Sink>(sink: &mut K, fault: MountFault) -> Status
 }
 
 /// Opens the archive on the disk, and reads the script. It hands the disk back as it then stands.
-pub(crate) fn run_over<S: Source, K: Sink, D: Disk>(
+pub(crate) fn run_over<S: Source, K: Sink, D: Disk, R: Rule>(
     alloc: Global,
     limit: u64,
-    book: &RuleBook,
+    book: &RuleBook<R>,
     source: &mut S,
     sink: &mut K,
     disk: D,
 ) -> (Status, D)
-    requires each { EachOf book.now.rules.items (λ r. handles (r.vtable, r.value)) }
     ensures goes { GoesOn (D.meaning disk) (D.meaning result.1) }
-    ensures runs { RunsOver (given_by limit (meaning_of book.now.rules.items
-        (λ r. handles (r.vtable, r.value)) (λ r. answers (r.vtable, r.value)))) result.0
-        (S.left source.old) (S.left source.new) (K.written sink.old) (K.written sink.new)
+    ensures runs { RunsOver (given_by limit (meaning_of book.now.rules.items R.handles R.answers))
+        result.0 (S.left source.old) (S.left source.new) (K.written sink.old) (K.written sink.new)
         (K.faults sink.old) (K.faults sink.new) (D.meaning disk) (D.meaning result.1) }
     ensures source { SourceCounted result.0 (S.faults source.old) (S.faults source.new) }
     ensures sink { SinkCounted result.0 (K.faults sink.old) (K.faults sink.new) }

@@ -3,7 +3,7 @@
 ghost use Rattle.std.specs.Prelude.{◌≡◌, ◌+◌, ◌<◌, ◌≤◌, ℕ, length, take, false, IfOk, MatchResult};
 ghost use Rattle.std.specs.Io.KnownBytes.{Consumes, IsAtEnd, Keeps};
 ghost use Rattle.prima_io.specs.Causes.{HasCause};
-ghost use Rattle.rewrite.specs.Books.{meaning_of, EachOf};
+ghost use Rattle.rewrite.specs.Books.{meaning_of};
 ghost use Rattle.archive_core.specs.Fields.{below, place_of};
 ghost use Rattle.statement_response.specs.Given.{Given};
 ghost use Rattle.statement_response.specs.Replies.{Recorded};
@@ -85,25 +85,22 @@ pub(crate) struct Driven {
 
 /// Reads the script to its end, the limit or a fault. Each turn takes a byte at least, or is the
 /// last.
-pub(crate) fn drive<S: Source, K: Sink, D: Disk>(
+pub(crate) fn drive<S: Source, K: Sink, D: Disk, R: Rule>(
     alloc: Global,
     archive: &mut Archive<D>,
-    book: &RuleBook,
+    book: &RuleBook<R>,
     source: &mut S,
     sink: &mut K,
 ) -> Driven
-    requires each { EachOf book.now.rules.items (λ r. handles (r.vtable, r.value)) }
     requires takes { TakesRecords archive.old }
     ensures drove { (limit : Given) → limit.book
-        ≡ meaning_of book.now.rules.items (λ r. handles (r.vtable, r.value))
-        (λ r. answers (r.vtable, r.value)) → (start : Recorded)
+        ≡ meaning_of book.now.rules.items R.handles R.answers → (start : Recorded)
         → RepresentsAt archive.old limit start
         → Drove limit start result.status (S.left source.old) (S.left source.new)
         (K.written sink.old) (K.written sink.new) (below archive.old) (below archive.new)
         (place_of archive.old) }
     ensures counted { (limit : Given) → limit.book
-        ≡ meaning_of book.now.rules.items (λ r. handles (r.vtable, r.value))
-        (λ r. answers (r.vtable, r.value)) → (start : Recorded)
+        ≡ meaning_of book.now.rules.items R.handles R.answers → (start : Recorded)
         → RepresentsAt archive.old limit start
         → CountsPuts result.status limit start (S.left source.old) result.puts }
     ensures source { SourceCounted result.status (S.faults source.old) (S.faults source.new) }

@@ -18,7 +18,7 @@ ghost use Rattle.smo_meaning.specs.Past.{beginning, database_at, next_database, 
 ghost use Rattle.query_types.specs.Queries.{PlainQuery, slice_of};
 ghost use Rattle.query_meaning.specs.Accepted.{fault_of_query, HasNoWayBack};
 ghost use Rattle.query_meaning.specs.Answers.{asked_at, listing, answer};
-ghost use Rattle.rewrite.specs.Books.{meaning_of, EachOf};
+ghost use Rattle.rewrite.specs.Books.{meaning_of};
 ghost use Rattle.prima_base.specs.Keeping.{kept};
 ghost use Rattle.archive_file.specs.LogRecords.{LogRecord, AreSpelled, AreAccepted, AreSound};
 ghost use Rattle.archive_file.specs.LogRecords.{past_recorded};
@@ -70,19 +70,17 @@ use temporal_lang::{
 };
 
 // The run over a disk that is borrowed.
-fn run_borrowed<S: Source, K: Sink, D: Disk>(
+fn run_borrowed<S: Source, K: Sink, D: Disk, R: Rule>(
     alloc: Global,
     limit: u64,
-    book: &RuleBook,
+    book: &RuleBook<R>,
     source: &mut S,
     sink: &mut K,
     disk: &mut D,
 ) -> Status
-    requires each { EachOf book.now.rules.items (λ r. handles (r.vtable, r.value)) }
     ensures goes { GoesOn (D.meaning disk.old) (D.meaning disk.new) }
-    ensures runs { RunsOver (given_by limit (meaning_of book.now.rules.items
-        (λ r. handles (r.vtable, r.value)) (λ r. answers (r.vtable, r.value)))) result
-        (S.left source.old) (S.left source.new) (K.written sink.old) (K.written sink.new)
+    ensures runs { RunsOver (given_by limit (meaning_of book.now.rules.items R.handles R.answers))
+        result (S.left source.old) (S.left source.new) (K.written sink.old) (K.written sink.new)
         (K.faults sink.old) (K.faults sink.new) (D.meaning disk.old) (D.meaning disk.new) }
     ensures source { SourceCounted result (S.faults source.old) (S.faults source.new) }
     ensures sink { SinkCounted result (K.faults sink.old) (K.faults sink.new) }
@@ -93,20 +91,19 @@ fn run_borrowed<S: Source, K: Sink, D: Disk>(
 }
 
 // The sample over a disk that is borrowed.
-fn sample_borrowed<K: Sink, D: Disk>(
+fn sample_borrowed<K: Sink, D: Disk, R: Rule>(
     alloc: Global,
     limit: u64,
     size: u32,
-    book: &RuleBook,
+    book: &RuleBook<R>,
     sink: &mut K,
     disk: &mut D,
 ) -> Status
-    requires each { EachOf book.now.rules.items (λ r. handles (r.vtable, r.value)) }
     ensures goes { GoesOn (D.meaning disk.old) (D.meaning disk.new) }
     ensures samples { (left : Option (List ℕ))
-        → SamplesOver size (given_by limit (meaning_of book.now.rules.items
-        (λ r. handles (r.vtable, r.value)) (λ r. answers (r.vtable, r.value)))) result left left
-        (K.written sink.old) (K.written sink.new) (K.faults sink.old) (K.faults sink.new)
+        → SamplesOver size (given_by limit (meaning_of book.now.rules.items R.handles R.answers))
+        result left left (K.written sink.old) (K.written sink.new) (K.faults sink.old)
+        (K.faults sink.new)
         (D.meaning disk.old) (D.meaning disk.new) }
     ensures sink { SinkCounted result (K.faults sink.old) (K.faults sink.new) }
     ensures disk { DiskCounted result (D.meaning disk.old).faults (D.meaning disk.new).faults }
@@ -116,26 +113,24 @@ fn sample_borrowed<K: Sink, D: Disk>(
 }
 
 // Does what the words ask for.
-fn perform<S: Source, K: Sink, D: Disk>(
+fn perform<S: Source, K: Sink, D: Disk, R: Rule>(
     alloc: Global,
     request: Request,
-    book: &RuleBook,
+    book: &RuleBook<R>,
     source: &mut S,
     sink: &mut K,
     disk: &mut D,
 ) -> Status
-    requires each { EachOf book.now.rules.items (λ r. handles (r.vtable, r.value)) }
     ensures words { result ≡ Status.Words → ⊥ }
     ensures runs { (limit : ℕ) → limit_of_run request ≡ Some limit
-        → RunsOver (given_by limit (meaning_of book.now.rules.items
-        (λ r. handles (r.vtable, r.value)) (λ r. answers (r.vtable, r.value)))) result
+        → RunsOver (given_by limit (meaning_of book.now.rules.items R.handles R.answers)) result
         (S.left source.old) (S.left source.new) (K.written sink.old) (K.written sink.new)
         (K.faults sink.old) (K.faults sink.new) (D.meaning disk.old) (D.meaning disk.new) }
     ensures samples { (size : ℕ) → request.mode ≡ Sample size → (source.new ≡ source.old)
         × SamplesOver size (given_by request.journal_limit
-        (meaning_of book.now.rules.items (λ r. handles (r.vtable, r.value))
-        (λ r. answers (r.vtable, r.value)))) result (S.left source.old) (S.left source.new)
-        (K.written sink.old) (K.written sink.new) (K.faults sink.old) (K.faults sink.new)
+        (meaning_of book.now.rules.items R.handles R.answers)) result (S.left source.old)
+        (S.left source.new) (K.written sink.old) (K.written sink.new) (K.faults sink.old)
+        (K.faults sink.new)
         (D.meaning disk.old) (D.meaning disk.new) }
     ensures goes { GoesOn (D.meaning disk.old) (D.meaning disk.new) }
     ensures source { SourceCounted result (S.faults source.old) (S.faults source.new) }
@@ -149,15 +144,14 @@ fn perform<S: Source, K: Sink, D: Disk>(
 }
 
 // The words are judged, and then what they ask for is done.
-fn judge_and_run<S: Source, K: Sink, D: Disk>(
+fn judge_and_run<S: Source, K: Sink, D: Disk, R: Rule>(
     alloc: Global,
     words: &[Word],
-    book: &RuleBook,
+    book: &RuleBook<R>,
     source: &mut S,
     sink: &mut K,
     disk: &mut D,
 ) -> Status
-    requires each { EachOf book.now.rules.items (λ r. handles (r.vtable, r.value)) }
     ensures words { result ≡ Status.Words → asked (map string_bytes words.now) ≡ None }
     ensures refused { asked (map string_bytes words.now) ≡ None
         → RefusedWords result (S.left source.old) (S.left source.new) (K.written sink.old)
@@ -165,8 +159,7 @@ fn judge_and_run<S: Source, K: Sink, D: Disk>(
     ensures runs { (limit : ℕ) → asked_for (map string_bytes words.now) ≡ Some limit
         → IsUntouched result (S.left source.old) (S.left source.new) (K.written sink.old)
         (K.written sink.new) disk.old disk.new
-        ⊎ RunsOver (given_by limit (meaning_of book.now.rules.items
-        (λ r. handles (r.vtable, r.value)) (λ r. answers (r.vtable, r.value)))) result
+        ⊎ RunsOver (given_by limit (meaning_of book.now.rules.items R.handles R.answers)) result
         (S.left source.old) (S.left source.new) (K.written sink.old) (K.written sink.new)
         (K.faults sink.old) (K.faults sink.new) (D.meaning disk.old) (D.meaning disk.new) }
     ensures quiet { (limit : ℕ) → (size : ℕ) → AsksSample (map string_bytes words.now) limit size
@@ -174,9 +167,8 @@ fn judge_and_run<S: Source, K: Sink, D: Disk>(
     ensures samples { (limit : ℕ) → (size : ℕ) → AsksSample (map string_bytes words.now) limit size
         → IsUntouched result (S.left source.old) (S.left source.new) (K.written sink.old)
         (K.written sink.new) disk.old disk.new
-        ⊎ SamplesOver size (given_by limit (meaning_of book.now.rules.items
-        (λ r. handles (r.vtable, r.value)) (λ r. answers (r.vtable, r.value)))) result
-        (S.left source.old) (S.left source.new) (K.written sink.old) (K.written sink.new)
+        ⊎ SamplesOver size (given_by limit (meaning_of book.now.rules.items R.handles R.answers))
+        result (S.left source.old) (S.left source.new) (K.written sink.old) (K.written sink.new)
         (K.faults sink.old) (K.faults sink.new) (D.meaning disk.old) (D.meaning disk.new) }
     ensures goes { GoesOn (D.meaning disk.old) (D.meaning disk.new) }
     ensures source { SourceCounted result (S.faults source.old) (S.faults source.new) }
@@ -195,10 +187,9 @@ fn judge_and_run<S: Source, K: Sink, D: Disk>(
 /// Runs a script over the archive on a disk: reads it from the source to its end, puts the records
 /// of accepted commands and of checkpoints on the disk, and the replies into the sink, each
 /// statement's when it ends. The words are judged first; then the disk is opened; then the script
-/// is read. The first fault ends the run. The book has a rule for each kind of operator, by which
-/// queries are taken from version to version. Where the words ask for a sample, the script is the
-/// one that is made from its size, nothing is taken from the source, and the summary of the replies
-/// is put in their place.
+/// is read. The first fault ends the run. By the book's rules queries are taken from version to
+/// version. Where the words ask for a sample, the script is the one that is made from its size,
+/// nothing is taken from the source, and the summary of the replies is put in their place.
 ///
 /// `output` is defined over the script's bytes, however they are cut, and what stood after the
 /// opening records: the replies to its statements in order, then the line for what stands after the
@@ -222,15 +213,14 @@ fn judge_and_run<S: Source, K: Sink, D: Disk>(
 /// - `inverse`: a query is refused for want of a way back only by an operator on the way that names
 ///   no inverse;
 /// - `errors`: just the refused statements have an `error` line.
-pub fn run<S: Source, K: Sink, D: Disk>(
+pub fn run<S: Source, K: Sink, D: Disk, R: Rule>(
     alloc: Global,
     words: &[Word],
-    book: &RuleBook,
+    book: &RuleBook<R>,
     source: &mut S,
     sink: &mut K,
     disk: &mut D,
 ) -> Status
-    requires each { EachOf book.now.rules.items (λ r. handles (r.vtable, r.value)) }
 
     // Words comes exactly where they are not accepted, unless memory ran out; nothing is then
     // taken, and no disk called.
@@ -245,8 +235,7 @@ pub fn run<S: Source, K: Sink, D: Disk>(
     ensures runs { (limit : ℕ) → asked_for (map string_bytes words.now) ≡ Some limit
         → IsUntouched result (S.left source.old) (S.left source.new) (K.written sink.old)
         (K.written sink.new) disk.old disk.new
-        ⊎ RunsOver (given_by limit (meaning_of book.now.rules.items
-        (λ r. handles (r.vtable, r.value)) (λ r. answers (r.vtable, r.value)))) result
+        ⊎ RunsOver (given_by limit (meaning_of book.now.rules.items R.handles R.answers)) result
         (S.left source.old) (S.left source.new) (K.written sink.old) (K.written sink.new)
         (K.faults sink.old) (K.faults sink.new) (D.meaning disk.old) (D.meaning disk.new) }
 
@@ -258,9 +247,8 @@ pub fn run<S: Source, K: Sink, D: Disk>(
     ensures samples { (limit : ℕ) → (size : ℕ) → AsksSample (map string_bytes words.now) limit size
         → IsUntouched result (S.left source.old) (S.left source.new) (K.written sink.old)
         (K.written sink.new) disk.old disk.new
-        ⊎ SamplesOver size (given_by limit (meaning_of book.now.rules.items
-        (λ r. handles (r.vtable, r.value)) (λ r. answers (r.vtable, r.value)))) result
-        (S.left source.old) (S.left source.new) (K.written sink.old) (K.written sink.new)
+        ⊎ SamplesOver size (given_by limit (meaning_of book.now.rules.items R.handles R.answers))
+        result (S.left source.old) (S.left source.new) (K.written sink.old) (K.written sink.new)
         (K.faults sink.old) (K.faults sink.new) (D.meaning disk.old) (D.meaning disk.new) }
 
     // NotAJournal comes exactly where the file is damaged, at its place, unless the disk failed or
@@ -282,16 +270,14 @@ pub fn run<S: Source, K: Sink, D: Disk>(
         → (D.meaning disk.old).seen ≡ Some file → Opens file opening
         → Tells (S.left source.old) (λ script.
         AppendsPrefix (K.written sink.old) (K.written sink.new)
-        (output (given_by limit (meaning_of book.now.rules.items
-        (λ r. handles (r.vtable, r.value)) (λ r. answers (r.vtable, r.value))))
+        (output (given_by limit (meaning_of book.now.rules.items R.handles R.answers))
         (recorded opening) script)) }
     ensures whole { (limit : ℕ) → (file : List ℕ) → (opening : List LogRecord)
         → asked_for (map string_bytes words.now) ≡ Some limit
         → (D.meaning disk.old).seen ≡ Some file → Opens file opening → is_whole result ≡ true
         → Tells (S.left source.old) (λ script.
         Appends (K.written sink.old) (K.written sink.new)
-        (output (given_by limit (meaning_of book.now.rules.items
-        (λ r. handles (r.vtable, r.value)) (λ r. answers (r.vtable, r.value))))
+        (output (given_by limit (meaning_of book.now.rules.items R.handles R.answers))
         (recorded opening) script)) }
 
     // A sample that ends well wrote just the summary of the output of its script, and is refused
@@ -301,20 +287,17 @@ pub fn run<S: Source, K: Sink, D: Disk>(
         → AsksSample (map string_bytes words.now) limit size
         → (D.meaning disk.old).seen ≡ Some file → Opens file opening → is_whole result ≡ true
         → Appends (K.written sink.old) (K.written sink.new)
-        (sample_told size (given_by limit
-        (meaning_of book.now.rules.items (λ r. handles (r.vtable, r.value))
-        (λ r. answers (r.vtable, r.value)))) opening)
+        (sample_told size (given_by limit (meaning_of book.now.rules.items R.handles R.answers))
+        opening)
         × (result ≡ sample_end size (given_by limit
-        (meaning_of book.now.rules.items (λ r. handles (r.vtable, r.value))
-        (λ r. answers (r.vtable, r.value)))) opening) }
+        (meaning_of book.now.rules.items R.handles R.answers)) opening) }
     ensures held { (limit : ℕ) → (size : ℕ) → (file : List ℕ) → (opening : List LogRecord)
         → AsksSample (map string_bytes words.now) limit size
         → IsTrue (D.meaning disk.old).is_honest → (D.meaning disk.old).seen ≡ Some file
         → Opens file opening → is_whole result ≡ true
         → (log : List LogRecord) × AreRecordsOf
-        (sample_puts size (given_by limit
-        (meaning_of book.now.rules.items (λ r. handles (r.vtable, r.value))
-        (λ r. answers (r.vtable, r.value)))) opening) log
+        (sample_puts size (given_by limit (meaning_of book.now.rules.items R.handles R.answers))
+        opening) log
         × ((c : List ℕ) → (D.meaning disk.new).may_leave c → Opens c (opening ++ log)) }
 
     // Wherever the run is stopped: until its first sync has succeeded a crash leaves what it might
@@ -326,17 +309,15 @@ pub fn run<S: Source, K: Sink, D: Disk>(
         → Opens file opening
         → Tells (S.left source.old) (λ script.
         LeavesPrefix (D.meaning disk.old) (D.meaning disk.new) opening
-        (script_puts (given_by limit (meaning_of book.now.rules.items
-        (λ r. handles (r.vtable, r.value)) (λ r. answers (r.vtable, r.value))))
+        (script_puts (given_by limit (meaning_of book.now.rules.items R.handles R.answers))
         (recorded opening) script)) }
     ensures sample_crash { (limit : ℕ) → (size : ℕ) → (file : List ℕ) → (opening : List LogRecord)
         → AsksSample (map string_bytes words.now) limit size
         → IsTrue (D.meaning disk.old).is_honest → (D.meaning disk.old).seen ≡ Some file
         → Opens file opening
         → LeavesPrefix (D.meaning disk.old) (D.meaning disk.new) opening
-        (sample_puts size (given_by limit
-        (meaning_of book.now.rules.items (λ r. handles (r.vtable, r.value))
-        (λ r. answers (r.vtable, r.value)))) opening) }
+        (sample_puts size (given_by limit (meaning_of book.now.rules.items R.handles R.answers))
+        opening) }
 
     // Where the file was sound, so is each that is left.
     ensures sound { (limit : ℕ) → (file : List ℕ) → (opening : List LogRecord)
@@ -408,11 +389,10 @@ pub fn run<S: Source, K: Sink, D: Disk>(
         → (text : List ℕ) → (query : PlainQuery) → AreSpelled opening
         → AreAccepted beginning opening
         → let now = recorded_after (given_by limit
-        (meaning_of book.now.rules.items (λ r. handles (r.vtable, r.value))
-        (λ r. answers (r.vtable, r.value)))) (recorded opening) statements in
+        (meaning_of book.now.rules.items R.handles R.answers)) (recorded opening) statements in
         reading text ≡ Whole (explain query) → fault_of_query now.past query ≡ None
-        → TellsPieces (given_by limit (meaning_of book.now.rules.items
-        (λ r. handles (r.vtable, r.value)) (λ r. answers (r.vtable, r.value)))) now text query }
+        → TellsPieces (given_by limit (meaning_of book.now.rules.items R.handles R.answers)) now
+        text query }
 
     // A query is refused for want of a way back only by an operator on the way that names no
     // inverse: at the least moment of the query's slice at which a table of it is lost, the version

@@ -3,7 +3,7 @@
 
 ghost use Rattle.std.specs.Prelude.{◌≡◌, ◌+◌, ℕ, List, Option};
 ghost use Rattle.disk_model.specs.Moments.{GoesOn};
-ghost use Rattle.rewrite.specs.Books.{meaning_of, EachOf};
+ghost use Rattle.rewrite.specs.Books.{meaning_of};
 ghost use Rattle.archive_core.specs.Fields.{below, place_of};
 ghost use Rattle.sample_script.specs.Statements.{sample_script};
 ghost use Rattle.sample_script.specs.Summary as spec;
@@ -79,19 +79,17 @@ fn stop_of(status: Status) -> Status
 }
 
 // Runs the script of this size over an archive that has so many commands, and tells its replies.
-fn sample<K: Sink, D: Disk>(
+fn sample<K: Sink, D: Disk, R: Rule>(
     alloc: Global,
     archive: &mut Archive<D>,
     commands: u64,
     size: u32,
-    book: &RuleBook,
+    book: &RuleBook<R>,
     sink: &mut K,
 ) -> Status
-    requires each { EachOf book.now.rules.items (λ r. handles (r.vtable, r.value)) }
     requires takes { TakesRecords archive.old }
     ensures drove { (limit : Given) → limit.book
-        ≡ meaning_of book.now.rules.items (λ r. handles (r.vtable, r.value))
-        (λ r. answers (r.vtable, r.value)) → (start : Recorded)
+        ≡ meaning_of book.now.rules.items R.handles R.answers → (start : Recorded)
         → RepresentsAt archive.old limit start
         → DroveSample size limit (sample_script size) start commands result (K.written sink.old)
         (K.written sink.new) (below archive.old) (below archive.new) (place_of archive.old) }
@@ -113,20 +111,19 @@ fn sample<K: Sink, D: Disk>(
 /// Opens the archive on the disk, runs the script of this size over it, and puts the summary of its
 /// replies. It hands the disk back as it then stands. Whatever is left in a source, nothing is
 /// taken of it.
-pub(crate) fn sample_over<K: Sink, D: Disk>(
+pub(crate) fn sample_over<K: Sink, D: Disk, R: Rule>(
     alloc: Global,
     limit: u64,
     size: u32,
-    book: &RuleBook,
+    book: &RuleBook<R>,
     sink: &mut K,
     disk: D,
 ) -> (Status, D)
-    requires each { EachOf book.now.rules.items (λ r. handles (r.vtable, r.value)) }
     ensures goes { GoesOn (D.meaning disk) (D.meaning result.1) }
     ensures samples { (left : Option (List ℕ))
-        → SamplesOver size (given_by limit (meaning_of book.now.rules.items
-        (λ r. handles (r.vtable, r.value)) (λ r. answers (r.vtable, r.value)))) result.0 left left
-        (K.written sink.old) (K.written sink.new) (K.faults sink.old) (K.faults sink.new)
+        → SamplesOver size (given_by limit (meaning_of book.now.rules.items R.handles R.answers))
+        result.0 left left (K.written sink.old) (K.written sink.new) (K.faults sink.old)
+        (K.faults sink.new)
         (D.meaning disk) (D.meaning result.1) }
     ensures sink { SinkCounted result.0 (K.faults sink.old) (K.faults sink.new) }
     ensures disk { DiskCounted result.0 (D.meaning disk).faults (D.meaning result.1).faults }

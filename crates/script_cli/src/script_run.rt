@@ -7,7 +7,7 @@ ghost use Rattle.prima_io.specs.Causes.{HasCause};
 ghost use Rattle.prima_io.specs.Moves.{AppendsPrefix};
 ghost use Rattle.prima_base.specs.declared.refusal.Refusal.TheVariants as refusal;
 ghost use Rattle.script_parse.specs.Splitting.{fresh};
-ghost use Rattle.rewrite.specs.Books.{meaning_of, EachOf};
+ghost use Rattle.rewrite.specs.Books.{meaning_of};
 ghost use Rattle.archive_core.specs.Fields.{below};
 ghost use Rattle.answer_text.specs.RefusalTexts.{refusal_text};
 ghost use Rattle.statement_response.specs.Given.{Given};
@@ -59,25 +59,22 @@ impl ScriptRun {
     }
 
     // Puts the reply to a statement. There is no memory for more commands than a number can count.
-    fn answer<K: Sink, D: Disk>(
+    fn answer<K: Sink, D: Disk, R: Rule>(
         &mut self,
         archive: &mut Archive<D>,
-        book: &RuleBook,
+        book: &RuleBook<R>,
         sink: &mut K,
         text: &[u8],
     ) -> Result<(), Halt>
-        requires each { EachOf book.now.rules.items (λ r. handles (r.vtable, r.value)) }
         requires short { length text.now ≤ 1048576 }
         requires takes { TakesRecords archive.old }
         ensures answered { (limit : Given) → limit.book
-            ≡ meaning_of book.now.rules.items (λ r. handles (r.vtable, r.value))
-            (λ r. answers (r.vtable, r.value)) → (now : Recorded)
+            ≡ meaning_of book.now.rules.items R.handles R.answers → (now : Recorded)
             → RepresentsAt archive.old limit now
             → OnOk result (Answered limit (reply limit now text.now) self.old self.new archive.old
             archive.new (K.written sink.old) (K.written sink.new)) }
         ensures stopped { (limit : Given) → limit.book
-            ≡ meaning_of book.now.rules.items (λ r. handles (r.vtable, r.value))
-            (λ r. answers (r.vtable, r.value)) → (now : Recorded)
+            ≡ meaning_of book.now.rules.items R.handles R.answers → (now : Recorded)
             → RepresentsAt archive.old limit now
             → IfErr result (λ halt. StopsIn halt (reply limit now text.now) archive.old archive.new
             (K.written sink.old) (K.written sink.new)) }
@@ -123,19 +120,17 @@ impl ScriptRun {
 
     // Takes the bytes up to the end of a statement, and puts its reply; answers what is left of
     // them, `None` where no statement ended.
-    fn turn<'b, K: Sink, D: Disk>(
+    fn turn<'b, K: Sink, D: Disk, R: Rule>(
         &mut self,
         archive: &mut Archive<D>,
-        book: &RuleBook,
+        book: &RuleBook<R>,
         sink: &mut K,
         bytes: &'b [u8],
     ) -> Result<Option<&'b [u8]>, Halt>
-        requires each { EachOf book.now.rules.items (λ r. handles (r.vtable, r.value)) }
         requires ready { self.old.splitter.spent ≡ false }
         requires takes { TakesRecords archive.old }
         ensures took { (limit : Given) → limit.book
-            ≡ meaning_of book.now.rules.items (λ r. handles (r.vtable, r.value))
-            (λ r. answers (r.vtable, r.value)) → (now : Recorded)
+            ≡ meaning_of book.now.rules.items R.handles R.answers → (now : Recorded)
             → RepresentsAt archive.old limit now
             → IfOk result (λ rest. MatchOption rest
             (Took limit now self.old self.new archive.old archive.new bytes.now []
@@ -143,8 +138,7 @@ impl ScriptRun {
             (λ rest. Took limit now self.old self.new archive.old archive.new bytes.now rest.now
             (K.written sink.old) (K.written sink.new))) }
         ensures halted { (limit : Given) → limit.book
-            ≡ meaning_of book.now.rules.items (λ r. handles (r.vtable, r.value))
-            (λ r. answers (r.vtable, r.value)) → (now : Recorded)
+            ≡ meaning_of book.now.rules.items R.handles R.answers → (now : Recorded)
             → RepresentsAt archive.old limit now
             → IfErr result (λ halt. Halted halt limit now (parts_after self.old bytes.now)
             archive.old archive.new (K.written sink.old) (K.written sink.new)) }
@@ -173,25 +167,22 @@ impl ScriptRun {
 
     /// Takes the next chunk of the script, and puts the replies to the statements that end in it.
     /// The first fault stops it.
-    pub(crate) fn feed<K: Sink, D: Disk>(
+    pub(crate) fn feed<K: Sink, D: Disk, R: Rule>(
         &mut self,
         archive: &mut Archive<D>,
-        book: &RuleBook,
+        book: &RuleBook<R>,
         sink: &mut K,
         chunk: &[u8],
     ) -> Result<(), Halt>
-        requires each { EachOf book.now.rules.items (λ r. handles (r.vtable, r.value)) }
         requires ready { self.old.splitter.spent ≡ false }
         requires takes { TakesRecords archive.old }
         ensures took { (limit : Given) → limit.book
-            ≡ meaning_of book.now.rules.items (λ r. handles (r.vtable, r.value))
-            (λ r. answers (r.vtable, r.value)) → (now : Recorded)
+            ≡ meaning_of book.now.rules.items R.handles R.answers → (now : Recorded)
             → RepresentsAt archive.old limit now
             → OnOk result (Took limit now self.old self.new archive.old archive.new chunk.now []
             (K.written sink.old) (K.written sink.new)) }
         ensures halted { (limit : Given) → limit.book
-            ≡ meaning_of book.now.rules.items (λ r. handles (r.vtable, r.value))
-            (λ r. answers (r.vtable, r.value)) → (now : Recorded)
+            ≡ meaning_of book.now.rules.items R.handles R.answers → (now : Recorded)
             → RepresentsAt archive.old limit now
             → IfErr result (λ halt. Halted halt limit now (parts_after self.old chunk.now)
             archive.old archive.new (K.written sink.old) (K.written sink.new)) }

@@ -14,7 +14,7 @@ ghost use Rattle.smo_types.specs.Commands.{command_of};
 ghost use Rattle.smo_meaning.specs.Past.{Past};
 ghost use Rattle.query_types.specs.Queries.{query_of};
 ghost use Rattle.script_parse.specs.Statements.{statement_of};
-ghost use Rattle.rewrite.specs.Books.{meaning_of, EachOf};
+ghost use Rattle.rewrite.specs.Books.{meaning_of};
 ghost use Rattle.piece_texts.specs.ExplainedPieces.{all_explained};
 ghost use Rattle.version_groups.specs.Representation.{Represents};
 ghost use Rattle.archive_state.specs.Asking.{IsAsked};
@@ -141,13 +141,12 @@ fn put_pieces<K: Sink>(alloc: Global, sink: &mut K, pieces: &[Explained]) -> Res
 }
 
 // What the archive answers to a query, with a counter of the ledger.
-fn ask_counted<'a, D: Disk, L: Ledger>(
+fn ask_counted<'a, D: Disk, L: Ledger, R: Rule>(
     archive: &'a Archive<D>,
-    book: &RuleBook,
+    book: &RuleBook<R>,
     query: &Query,
     blank: Blank,
 ) -> Result<Listing<'a>, AskFault>
-    requires each { EachOf book.now.rules.items (λ r. handles (r.vtable, r.value)) }
     requires name { blank.name ≡ L.name }
     requires parts { blank.parts ≡ L.parts }
     requires some { 0 < blank.parts }
@@ -159,19 +158,18 @@ fn ask_counted<'a, D: Disk, L: Ledger>(
 }
 
 // Responds to a query.
-fn respond_ask<K: Sink, D: Disk>(
+fn respond_ask<K: Sink, D: Disk, R: Rule>(
     archive: &Archive<D>,
-    book: &RuleBook,
+    book: &RuleBook<R>,
     sink: &mut K,
     query: &Query,
 ) -> Result<Put, Halt>
-    requires each { EachOf book.now.rules.items (λ r. handles (r.vtable, r.value)) }
     ensures says { (now : Recorded) → RepresentsPast (standing_of archive.now) now.past
         → Says (query_reply (query_of query.now) now) result (K.written sink.old)
         (K.written sink.new) }
     ensures counts { SaidCounted result (K.faults sink.old) (K.faults sink.new) }
 {
-    match ask_counted::<D, Brand>(archive, book, query, Blank::new(1)) {
+    match ask_counted::<D, Brand, R>(archive, book, query, Blank::new(1)) {
         Ok(listing) => or_write_fault(put_answer(sink, &listing)),
         Err(AskFault::Refused(refusal)) => or_write_fault(refuse(sink, &refusal)),
         Err(AskFault::NoMemory) => Err(Halt::NoMemory),
@@ -179,18 +177,16 @@ fn respond_ask<K: Sink, D: Disk>(
 }
 
 // Responds to EXPLAIN: the pieces that the query reads are told, and none is read.
-fn respond_explain<K: Sink, D: Disk>(
+fn respond_explain<K: Sink, D: Disk, R: Rule>(
     alloc: Global,
     archive: &Archive<D>,
-    book: &RuleBook,
+    book: &RuleBook<R>,
     sink: &mut K,
     query: &Query,
 ) -> Result<Put, Halt>
-    requires each { EachOf book.now.rules.items (λ r. handles (r.vtable, r.value)) }
     ensures says { (now : Recorded) → RepresentsPast (standing_of archive.now) now.past
-        → Says (explain_reply (meaning_of book.now.rules.items (λ r. handles (r.vtable, r.value))
-        (λ r. answers (r.vtable, r.value))) (query_of query.now) now) result
-        (K.written sink.old) (K.written sink.new) }
+        → Says (explain_reply (meaning_of book.now.rules.items R.handles R.answers)
+        (query_of query.now) now) result (K.written sink.old) (K.written sink.new) }
     ensures counts { SaidCounted result (K.faults sink.old) (K.faults sink.new) }
 {
     match archive.explain(book, query) {
@@ -286,18 +282,17 @@ fn respond_sizes<K: Sink, D: Disk>(archive: &Archive<D>, sink: &mut K) -> Result
 }
 
 // Responds to what was read.
-fn respond_statement<K: Sink, D: Disk>(
+fn respond_statement<K: Sink, D: Disk, R: Rule>(
     alloc: Global,
     archive: &mut Archive<D>,
-    book: &RuleBook,
+    book: &RuleBook<R>,
     sink: &mut K,
     statement: Statement,
 ) -> Result<Put, Halt>
-    requires each { EachOf book.now.rules.items (λ r. handles (r.vtable, r.value)) }
     requires takes { TakesRecords archive.old }
     ensures replies { (limit : Given) → limit.book
-        ≡ meaning_of book.now.rules.items (λ r. handles (r.vtable, r.value))
-        (λ r. answers (r.vtable, r.value)) → (now : Recorded) → RepresentsAt archive.old limit now
+        ≡ meaning_of book.now.rules.items R.handles R.answers → (now : Recorded)
+        → RepresentsAt archive.old limit now
         → Responds limit (statement_reply limit (statement_of statement) now) result archive.old
         archive.new (K.written sink.old) (K.written sink.new) }
     ensures takes { OnOk result (TakesRecords archive.new) }
@@ -317,19 +312,18 @@ fn respond_statement<K: Sink, D: Disk>(
 
 /// The response to the statement of these bytes; it answers what was put.
 #[tactic(auto, unfolding(crate::specs::Replies::reply))]
-pub fn respond<K: Sink, D: Disk>(
+pub fn respond<K: Sink, D: Disk, R: Rule>(
     alloc: Global,
     archive: &mut Archive<D>,
-    book: &RuleBook,
+    book: &RuleBook<R>,
     sink: &mut K,
     text: &[u8],
 ) -> Result<Put, Halt>
-    requires each { EachOf book.now.rules.items (λ r. handles (r.vtable, r.value)) }
     requires short { length text.now ≤ 1048576 }
     requires takes { TakesRecords archive.old }
     ensures replies { (limit : Given) → limit.book
-        ≡ meaning_of book.now.rules.items (λ r. handles (r.vtable, r.value))
-        (λ r. answers (r.vtable, r.value)) → (now : Recorded) → RepresentsAt archive.old limit now
+        ≡ meaning_of book.now.rules.items R.handles R.answers → (now : Recorded)
+        → RepresentsAt archive.old limit now
         → Responds limit (reply limit now text.now) result archive.old archive.new
         (K.written sink.old) (K.written sink.new) }
     ensures takes { OnOk result (TakesRecords archive.new) }

@@ -34,17 +34,14 @@ returns-in_err-rows-clause-cost g c = λ past represents pieces are.
     let query = query_of c.args.query.now in
     let h : IsReady past query c.in_ok-atoms.atoms = c.in_ok-atoms.ensures past represents in
     c.answer.ensures.cost pieces
-    (subst (λ (q : PlainQuery). ArePieces (book_of
-    (λ r. (goal.Rule-dyn g (r.vtable, r.value)).handles r.value)
-    (λ r. (goal.Rule-dyn g (r.vtable, r.value)).answers r.value) c.args.book.now.rules.items)
+    (subst (λ (q : PlainQuery). ArePieces
+    (book_of g.R.Rule.handles g.R.Rule.answers c.args.book.now.rules.items)
     (versions_in c.args.groups.now) q pieces) (sym h.atoms)
     (subst (λ (vs : List PlainVersion). ArePieces
-    (book_of (λ r. (goal.Rule-dyn g (r.vtable, r.value)).handles r.value)
-    (λ r. (goal.Rule-dyn g (r.vtable, r.value)).answers r.value) c.args.book.now.rules.items) vs
+    (book_of g.R.Rule.handles g.R.Rule.answers c.args.book.now.rules.items) vs
     (with_atoms (tables_of past query.version) query) pieces) (sym represents.versions)
     (subst (λ (f : Fault). IfAccepted f (ArePieces
-    (book_of (λ r. (goal.Rule-dyn g (r.vtable, r.value)).handles r.value)
-    (λ r. (goal.Rule-dyn g (r.vtable, r.value)).answers r.value) c.args.book.now.rules.items)
+    (book_of g.R.Rule.handles g.R.Rule.answers c.args.book.now.rules.items)
     past.versions (with_atoms (tables_of past query.version) query) pieces) pieces) h.accepted
     are)))
 
@@ -66,17 +63,14 @@ returns-clause-cost g c = λ past represents pieces are.
     let query = query_of c.args.query.now in
     let h : IsReady past query c.in_ok-atoms.atoms = c.in_ok-atoms.ensures past represents in
     c.answer.ensures.cost pieces
-    (subst (λ (q : PlainQuery). ArePieces (book_of
-    (λ r. (goal.Rule-dyn g (r.vtable, r.value)).handles r.value)
-    (λ r. (goal.Rule-dyn g (r.vtable, r.value)).answers r.value) c.args.book.now.rules.items)
+    (subst (λ (q : PlainQuery). ArePieces
+    (book_of g.R.Rule.handles g.R.Rule.answers c.args.book.now.rules.items)
     (versions_in c.args.groups.now) q pieces) (sym h.atoms)
     (subst (λ (vs : List PlainVersion). ArePieces
-    (book_of (λ r. (goal.Rule-dyn g (r.vtable, r.value)).handles r.value)
-    (λ r. (goal.Rule-dyn g (r.vtable, r.value)).answers r.value) c.args.book.now.rules.items) vs
+    (book_of g.R.Rule.handles g.R.Rule.answers c.args.book.now.rules.items) vs
     (with_atoms (tables_of past query.version) query) pieces) (sym represents.versions)
     (subst (λ (f : Fault). IfAccepted f (ArePieces
-    (book_of (λ r. (goal.Rule-dyn g (r.vtable, r.value)).handles r.value)
-    (λ r. (goal.Rule-dyn g (r.vtable, r.value)).answers r.value) c.args.book.now.rules.items)
+    (book_of g.R.Rule.handles g.R.Rule.answers c.args.book.now.rules.items)
     past.versions (with_atoms (tables_of past query.version) query) pieces) pieces) h.accepted
     are)))
 
@@ -87,17 +81,14 @@ returns-clause-borrowed g c = λ past represents pieces are by_branch spared.
     let all : AreBorrowedBy past (query_asked past query) by_branch c.in_ok-rows.rows.items =
     subst (λ (q : PlainQuery). AreBorrowedBy past q by_branch c.in_ok-rows.rows.items) h.atoms
     (c.in_ok-rows.ensures.borrowed past represents pieces
-    (subst (λ (q : PlainQuery). ArePieces (book_of
-    (λ r. (goal.Rule-dyn g (r.vtable, r.value)).handles r.value)
-    (λ r. (goal.Rule-dyn g (r.vtable, r.value)).answers r.value) c.args.book.now.rules.items)
+    (subst (λ (q : PlainQuery). ArePieces
+    (book_of g.R.Rule.handles g.R.Rule.answers c.args.book.now.rules.items)
     (versions_in c.args.groups.now) q pieces) (sym h.atoms)
     (subst (λ (vs : List PlainVersion). ArePieces
-    (book_of (λ r. (goal.Rule-dyn g (r.vtable, r.value)).handles r.value)
-    (λ r. (goal.Rule-dyn g (r.vtable, r.value)).answers r.value) c.args.book.now.rules.items) vs
+    (book_of g.R.Rule.handles g.R.Rule.answers c.args.book.now.rules.items) vs
     (with_atoms (tables_of past query.version) query) pieces) (sym represents.versions)
     (subst (λ (f : Fault). IfAccepted f (ArePieces
-    (book_of (λ r. (goal.Rule-dyn g (r.vtable, r.value)).handles r.value)
-    (λ r. (goal.Rule-dyn g (r.vtable, r.value)).answers r.value) c.args.book.now.rules.items)
+    (book_of g.R.Rule.handles g.R.Rule.answers c.args.book.now.rules.items)
     past.versions (with_atoms (tables_of past query.version) query) pieces) pieces) h.accepted
     are)))
     by_branch spared) in
@@ -108,17 +99,14 @@ returns-clause-least g c = λ past represents pieces are e m.
     let query = query_of c.args.query.now in
     let h : IsReady past query c.in_ok-atoms.atoms = c.in_ok-atoms.ensures past represents in
     c.in_ok-rows.ensures.least pieces
-    (subst (λ (q : PlainQuery). ArePieces (book_of
-    (λ r. (goal.Rule-dyn g (r.vtable, r.value)).handles r.value)
-    (λ r. (goal.Rule-dyn g (r.vtable, r.value)).answers r.value) c.args.book.now.rules.items)
+    (subst (λ (q : PlainQuery). ArePieces
+    (book_of g.R.Rule.handles g.R.Rule.answers c.args.book.now.rules.items)
     (versions_in c.args.groups.now) q pieces) (sym h.atoms)
     (subst (λ (vs : List PlainVersion). ArePieces
-    (book_of (λ r. (goal.Rule-dyn g (r.vtable, r.value)).handles r.value)
-    (λ r. (goal.Rule-dyn g (r.vtable, r.value)).answers r.value) c.args.book.now.rules.items) vs
+    (book_of g.R.Rule.handles g.R.Rule.answers c.args.book.now.rules.items) vs
     (with_atoms (tables_of past query.version) query) pieces) (sym represents.versions)
     (subst (λ (f : Fault). IfAccepted f (ArePieces
-    (book_of (λ r. (goal.Rule-dyn g (r.vtable, r.value)).handles r.value)
-    (λ r. (goal.Rule-dyn g (r.vtable, r.value)).answers r.value) c.args.book.now.rules.items)
+    (book_of g.R.Rule.handles g.R.Rule.answers c.args.book.now.rules.items)
     past.versions (with_atoms (tables_of past query.version) query) pieces) pieces) h.accepted
     are)))
     e m

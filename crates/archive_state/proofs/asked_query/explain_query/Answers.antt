@@ -31,23 +31,19 @@ returns g c = λ past represents.
     record {
       accepted = h.accepted;
       are = subst (λ (vs : List PlainVersion).
-          ArePieces (book_of (λ r. (goal.Rule-dyn g (r.vtable, r.value)).handles r.value)
-          (λ r. (goal.Rule-dyn g (r.vtable, r.value)).answers r.value) c.args.book.now.rules.items)
+          ArePieces (book_of g.R.Rule.handles g.R.Rule.answers c.args.book.now.rules.items)
           vs (with_atoms (tables_of past query.version) query)
           (all_explained c.in_ok-pieces.pieces.items)) represents.versions
           (subst (λ (q : PlainQuery). ArePieces
-          (book_of (λ r. (goal.Rule-dyn g (r.vtable, r.value)).handles r.value)
-          (λ r. (goal.Rule-dyn g (r.vtable, r.value)).answers r.value)
-          c.args.book.now.rules.items) (versions_in c.args.groups.now) q
+          (book_of g.R.Rule.handles g.R.Rule.answers c.args.book.now.rules.items)
+          (versions_in c.args.groups.now) q
           (all_explained c.in_ok-pieces.pieces.items)) h.atoms c.in_ok-pieces.ensures.are);
       told = c.in_ok-pieces.ensures.told
           ∙ ap (λ (q : PlainQuery). living_pieces
-          (book_of (λ r. (goal.Rule-dyn g (r.vtable, r.value)).handles r.value)
-          (λ r. (goal.Rule-dyn g (r.vtable, r.value)).answers r.value)
-          c.args.book.now.rules.items) (versions_in c.args.groups.now) q) h.atoms
+          (book_of g.R.Rule.handles g.R.Rule.answers c.args.book.now.rules.items)
+          (versions_in c.args.groups.now) q) h.atoms
           ∙ ap (λ (vs : List PlainVersion). living_pieces
-          (book_of (λ r. (goal.Rule-dyn g (r.vtable, r.value)).handles r.value)
-          (λ r. (goal.Rule-dyn g (r.vtable, r.value)).answers r.value)
-          c.args.book.now.rules.items) vs (with_atoms (tables_of past query.version) query))
+          (book_of g.R.Rule.handles g.R.Rule.answers c.args.book.now.rules.items) vs
+          (with_atoms (tables_of past query.version) query))
           represents.versions;
     }

@@ -56,13 +56,11 @@ returns-in_err-atoms-clause-cost g c =
     c.new-references.ensures.items in
     λ number alive h. c.read_items.ensures.cost number alive
     (subst (λ (from : List Item). AreAlive (versions_in c.args.groups.now)
-    (items_pieces (book_of (λ r. (goal.Rule-dyn g (r.vtable, r.value)).handles r.value)
-    (λ r. (goal.Rule-dyn g (r.vtable, r.value)).answers r.value) c.args.book.now.rules.items)
+    (items_pieces (book_of g.R.Rule.handles g.R.Rule.answers c.args.book.now.rules.items)
     (versions_in c.args.groups.now) c.args.route.now.asked c.args.route.now.parts.items
     (borrowed c.deref-3.result.now) b.cond number 0 from) alive) (sym c.deref-2.ensures.value)
     (subst (λ (rs : List ColRef). AreAlive (versions_in c.args.groups.now)
-    (items_pieces (book_of (λ r. (goal.Rule-dyn g (r.vtable, r.value)).handles r.value)
-    (λ r. (goal.Rule-dyn g (r.vtable, r.value)).answers r.value) c.args.book.now.rules.items)
+    (items_pieces (book_of g.R.Rule.handles g.R.Rule.answers c.args.book.now.rules.items)
     (versions_in c.args.groups.now) c.args.route.now.asked c.args.route.now.parts.items rs
     b.cond number 0 b.from) alive) (sym same) h))
 
@@ -107,13 +105,11 @@ returns-clause-cost g c =
     c.new-references.ensures.items in
     λ number alive h. c.read_items.ensures.cost number alive
     (subst (λ (from : List Item). AreAlive (versions_in c.args.groups.now)
-    (items_pieces (book_of (λ r. (goal.Rule-dyn g (r.vtable, r.value)).handles r.value)
-    (λ r. (goal.Rule-dyn g (r.vtable, r.value)).answers r.value) c.args.book.now.rules.items)
+    (items_pieces (book_of g.R.Rule.handles g.R.Rule.answers c.args.book.now.rules.items)
     (versions_in c.args.groups.now) c.args.route.now.asked c.args.route.now.parts.items
     (borrowed c.deref-3.result.now) b.cond number 0 from) alive) (sym c.deref-2.ensures.value)
     (subst (λ (rs : List ColRef). AreAlive (versions_in c.args.groups.now)
-    (items_pieces (book_of (λ r. (goal.Rule-dyn g (r.vtable, r.value)).handles r.value)
-    (λ r. (goal.Rule-dyn g (r.vtable, r.value)).answers r.value) c.args.book.now.rules.items)
+    (items_pieces (book_of g.R.Rule.handles g.R.Rule.answers c.args.book.now.rules.items)
     (versions_in c.args.groups.now) c.args.route.now.asked c.args.route.now.parts.items rs
     b.cond number 0 b.from) alive) (sym same) h))
 
@@ -133,13 +129,11 @@ returns-clause-borrowed g c =
     (c.answer_choices.ensures.borrowed (by_branch number)
     (c.in_ok-atoms.ensures.borrowed number by_branch
     (subst (λ (from : List Item). AllSpare c.args.groups.now by_branch
-    (items_pieces (book_of (λ r. (goal.Rule-dyn g (r.vtable, r.value)).handles r.value)
-    (λ r. (goal.Rule-dyn g (r.vtable, r.value)).answers r.value) c.args.book.now.rules.items)
+    (items_pieces (book_of g.R.Rule.handles g.R.Rule.answers c.args.book.now.rules.items)
     (versions_in c.args.groups.now) c.args.route.now.asked c.args.route.now.parts.items
     (borrowed c.deref-3.result.now) b.cond number 0 from)) (sym c.deref-2.ensures.value)
     (subst (λ (rs : List ColRef). AllSpare c.args.groups.now by_branch
-    (items_pieces (book_of (λ r. (goal.Rule-dyn g (r.vtable, r.value)).handles r.value)
-    (λ r. (goal.Rule-dyn g (r.vtable, r.value)).answers r.value) c.args.book.now.rules.items)
+    (items_pieces (book_of g.R.Rule.handles g.R.Rule.answers c.args.book.now.rules.items)
     (versions_in c.args.groups.now) c.args.route.now.asked c.args.route.now.parts.items rs
     b.cond number 0 b.from)) (sym same) h))))
 
@@ -156,12 +150,10 @@ returns-clause-least g c =
     if_known c.answer_choices.result
     (c.in_ok-atoms.ensures.least number e
     (subst (λ (from : List Item). IsAlive (versions_in c.args.groups.now)
-    (items_pieces (book_of (λ r. (goal.Rule-dyn g (r.vtable, r.value)).handles r.value)
-    (λ r. (goal.Rule-dyn g (r.vtable, r.value)).answers r.value) c.args.book.now.rules.items)
+    (items_pieces (book_of g.R.Rule.handles g.R.Rule.answers c.args.book.now.rules.items)
     (versions_in c.args.groups.now) c.args.route.now.asked c.args.route.now.parts.items
     (borrowed c.deref-3.result.now) b.cond number 0 from) e) (sym c.deref-2.ensures.value)
     (subst (λ (rs : List ColRef). IsAlive (versions_in c.args.groups.now)
-    (items_pieces (book_of (λ r. (goal.Rule-dyn g (r.vtable, r.value)).handles r.value)
-    (λ r. (goal.Rule-dyn g (r.vtable, r.value)).answers r.value) c.args.book.now.rules.items)
+    (items_pieces (book_of g.R.Rule.handles g.R.Rule.answers c.args.book.now.rules.items)
     (versions_in c.args.groups.now) c.args.route.now.asked c.args.route.now.parts.items rs
     b.cond number 0 b.from) e) (sym same) h)))

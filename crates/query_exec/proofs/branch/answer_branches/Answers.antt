@@ -34,29 +34,25 @@ loop-branch-init g c = record {
             (branches_of c.args.branches.now)) (sym c.new-rows.ensures.items)
             (λ row m. absurd m),
         subst (λ (n : ℕ). AllSpare c.args.groups.now by_branch
-            (branches_pieces (book_of (λ r. (goal.Rule-dyn g (r.vtable, r.value)).handles r.value)
-            (λ r. (goal.Rule-dyn g (r.vtable, r.value)).answers r.value)
-            c.args.book.now.rules.items) (versions_in c.args.groups.now) c.args.route.now.asked
+            (branches_pieces (book_of g.R.Rule.handles g.R.Rule.answers c.args.book.now.rules.items)
+            (versions_in c.args.groups.now) c.args.route.now.asked
             c.args.route.now.parts.items n (branches_of c.args.branches.now))) e h,
       );
   count = λ number alive h.
       let e : number ≡ number + 0 = omega arith in
       subst (λ (n : ℕ). Owes c.args.groups.now (versions_in c.args.groups.now)
-      (branches_pieces (book_of (λ r. (goal.Rule-dyn g (r.vtable, r.value)).handles r.value)
-      (λ r. (goal.Rule-dyn g (r.vtable, r.value)).answers r.value) c.args.book.now.rules.items)
+      (branches_pieces (book_of g.R.Rule.handles g.R.Rule.answers c.args.book.now.rules.items)
       (versions_in c.args.groups.now) c.args.route.now.asked c.args.route.now.parts.items n
       (branches_of c.args.branches.now)) c.args.steps.now
       (c.args.steps.now + reads_of c.args.groups.now alive)) e
       (owes_all c.args.groups.now (versions_in c.args.groups.now)
-      (branches_pieces (book_of (λ r. (goal.Rule-dyn g (r.vtable, r.value)).handles r.value)
-      (λ r. (goal.Rule-dyn g (r.vtable, r.value)).answers r.value) c.args.book.now.rules.items)
+      (branches_pieces (book_of g.R.Rule.handles g.R.Rule.answers c.args.book.now.rules.items)
       (versions_in c.args.groups.now) c.args.route.now.asked c.args.route.now.parts.items number
       (branches_of c.args.branches.now)) alive c.args.steps.now h);
   least = λ number e h.
       let s : number ≡ number + 0 = omega arith in
       inl (subst (λ (n : ℕ). IsAlive (versions_in c.args.groups.now)
-      (branches_pieces (book_of (λ r. (goal.Rule-dyn g (r.vtable, r.value)).handles r.value)
-      (λ r. (goal.Rule-dyn g (r.vtable, r.value)).answers r.value) c.args.book.now.rules.items)
+      (branches_pieces (book_of g.R.Rule.handles g.R.Rule.answers c.args.book.now.rules.items)
       (versions_in c.args.groups.now) c.args.route.now.asked c.args.route.now.parts.items n
       (branches_of c.args.branches.now)) e) s h);
   rises = omega arith;
@@ -91,9 +87,8 @@ loop-branch-preserved g c =
       borrowed = λ past represents number by_branch h.
           let before = c.loop-branch.invariant.borrowed past represents number by_branch h in
           let both = next_branch_pieces c.args.groups.now by_branch
-          (book_of (λ r. (goal.Rule-dyn g (r.vtable, r.value)).handles r.value)
-          (λ r. (goal.Rule-dyn g (r.vtable, r.value)).answers r.value)
-          c.args.book.now.rules.items) c.args.route.now.asked c.args.route.now.parts.items bs i
+          (book_of g.R.Rule.handles g.R.Rule.answers c.args.book.now.rules.items)
+          c.args.route.now.asked c.args.route.now.parts.items bs i
           b below is number before.1 in (
             branch_more past c.args.route.now.asked by_branch number bs i b below is
                 c.loop-branch.rows.items c.in_ok-news.news.items c.put_rows.new.rows.items
@@ -105,16 +100,14 @@ loop-branch-preserved g c =
             both.1,
           );
       count = λ number alive h. branch_owes bs i b below is c.args.groups.now
-          (book_of (λ r. (goal.Rule-dyn g (r.vtable, r.value)).handles r.value)
-          (λ r. (goal.Rule-dyn g (r.vtable, r.value)).answers r.value) c.args.book.now.rules.items)
+          (book_of g.R.Rule.handles g.R.Rule.answers c.args.book.now.rules.items)
           (versions_in c.args.groups.now) c.args.route.now.asked c.args.route.now.parts.items number
           c.loop-branch.steps (c.args.steps.now + reads_of c.args.groups.now alive)
           c.answer_branch.new.steps
           (c.loop-branch.invariant.count number alive h)
           (λ own k. c.answer_branch.ensures.cost (number + i) own k);
       least = λ number e h. branch_left bs i b below is c.args.groups.now
-          (book_of (λ r. (goal.Rule-dyn g (r.vtable, r.value)).handles r.value)
-          (λ r. (goal.Rule-dyn g (r.vtable, r.value)).answers r.value) c.args.book.now.rules.items)
+          (book_of g.R.Rule.handles g.R.Rule.answers c.args.book.now.rules.items)
           (versions_in c.args.groups.now) c.args.route.now.asked c.args.route.now.parts.items number
           c.args.steps.now c.loop-branch.steps c.answer_branch.new.steps e
           c.loop-branch.invariant.rises c.answer_branch.ensures.rises
@@ -133,14 +126,12 @@ returns-in_err-news-clause-cost g c =
     let is : b ≡ get_or bs i b = c.branch-item.is in
     λ number alive h.
     owes_within c.args.groups.now (versions_in c.args.groups.now)
-    (branches_pieces (book_of (λ r. (goal.Rule-dyn g (r.vtable, r.value)).handles r.value)
-    (λ r. (goal.Rule-dyn g (r.vtable, r.value)).answers r.value) c.args.book.now.rules.items)
+    (branches_pieces (book_of g.R.Rule.handles g.R.Rule.answers c.args.book.now.rules.items)
     (versions_in c.args.groups.now) c.args.route.now.asked c.args.route.now.parts.items
     (number + (i + 1)) (branches_of (drop (i + 1) bs))) c.answer_branch.new.steps
     (c.args.steps.now + reads_of c.args.groups.now alive)
     (branch_owes bs i b below is c.args.groups.now
-    (book_of (λ r. (goal.Rule-dyn g (r.vtable, r.value)).handles r.value)
-    (λ r. (goal.Rule-dyn g (r.vtable, r.value)).answers r.value) c.args.book.now.rules.items)
+    (book_of g.R.Rule.handles g.R.Rule.answers c.args.book.now.rules.items)
     (versions_in c.args.groups.now) c.args.route.now.asked c.args.route.now.parts.items number
     c.loop-branch.steps (c.args.steps.now + reads_of c.args.groups.now alive)
     c.answer_branch.new.steps
@@ -156,14 +147,12 @@ returns-in_err-put_rows-clause-cost g c =
     let is : b ≡ get_or bs i b = c.branch-item.is in
     λ number alive h.
     owes_within c.args.groups.now (versions_in c.args.groups.now)
-    (branches_pieces (book_of (λ r. (goal.Rule-dyn g (r.vtable, r.value)).handles r.value)
-    (λ r. (goal.Rule-dyn g (r.vtable, r.value)).answers r.value) c.args.book.now.rules.items)
+    (branches_pieces (book_of g.R.Rule.handles g.R.Rule.answers c.args.book.now.rules.items)
     (versions_in c.args.groups.now) c.args.route.now.asked c.args.route.now.parts.items
     (number + (i + 1)) (branches_of (drop (i + 1) bs))) c.answer_branch.new.steps
     (c.args.steps.now + reads_of c.args.groups.now alive)
     (branch_owes bs i b below is c.args.groups.now
-    (book_of (λ r. (goal.Rule-dyn g (r.vtable, r.value)).handles r.value)
-    (λ r. (goal.Rule-dyn g (r.vtable, r.value)).answers r.value) c.args.book.now.rules.items)
+    (book_of g.R.Rule.handles g.R.Rule.answers c.args.book.now.rules.items)
     (versions_in c.args.groups.now) c.args.route.now.asked c.args.route.now.parts.items number
     c.loop-branch.steps (c.args.steps.now + reads_of c.args.groups.now alive)
     c.answer_branch.new.steps
@@ -180,8 +169,7 @@ returns-clause-rows g c = λ past represents m inside.
 pub returns-clause-cost : goal.returns-clause-cost
 returns-clause-cost g c = λ number alive h.
     owes_within c.args.groups.now (versions_in c.args.groups.now)
-    (branches_pieces (book_of (λ r. (goal.Rule-dyn g (r.vtable, r.value)).handles r.value)
-    (λ r. (goal.Rule-dyn g (r.vtable, r.value)).answers r.value) c.args.book.now.rules.items)
+    (branches_pieces (book_of g.R.Rule.handles g.R.Rule.answers c.args.book.now.rules.items)
     (versions_in c.args.groups.now) c.args.route.now.asked c.args.route.now.parts.items
     (number + c.loop-branch.branch-index)
     (branches_of (drop c.loop-branch.branch-index c.args.branches.now))) c.loop-branch.steps
@@ -197,8 +185,7 @@ returns-clause-least g c = λ number e h.
     all_read c.args.groups.now (versions_in c.args.groups.now) c.args.steps.now c.loop-branch.steps
     e
     (subst (λ (bs : List Branch). IsLeftOrRead c.args.groups.now (versions_in c.args.groups.now)
-    (branches_pieces (book_of (λ r. (goal.Rule-dyn g (r.vtable, r.value)).handles r.value)
-    (λ r. (goal.Rule-dyn g (r.vtable, r.value)).answers r.value) c.args.book.now.rules.items)
+    (branches_pieces (book_of g.R.Rule.handles g.R.Rule.answers c.args.book.now.rules.items)
     (versions_in c.args.groups.now) c.args.route.now.asked c.args.route.now.parts.items
     (number + c.loop-branch.branch-index) (branches_of bs)) c.args.steps.now c.loop-branch.steps
     e) (drop_all c.loop-branch.branch-index c.args.branches.now c.loop-branch-test.false)

@@ -24,35 +24,29 @@ invariant-loop-branch g l = record {
       (branches_of (take l.branch-index l.branches)) (migrated past m l.route.asked);
   borrowed : (past : Past) → Represents l.groups past → (number : ℕ)
       → (by_branch : BorrowedByBranch) → AllSpare l.groups by_branch
-      (branches_pieces (book_of (λ r. (goal.Rule-dyn g (r.vtable, r.value)).handles r.value)
-      (λ r. (goal.Rule-dyn g (r.vtable, r.value)).answers r.value) l.book.rules.items)
+      (branches_pieces (book_of g.R.Rule.handles g.R.Rule.answers l.book.rules.items)
       (versions_in l.groups) l.route.asked l.route.parts.items number (branches_of l.branches))
       → AlwaysBorrowedBy past l.route.asked by_branch number (branches_of l.branches) l.rows.items
       × AllSpare l.groups by_branch
-      (branches_pieces (book_of (λ r. (goal.Rule-dyn g (r.vtable, r.value)).handles r.value)
-      (λ r. (goal.Rule-dyn g (r.vtable, r.value)).answers r.value) l.book.rules.items)
+      (branches_pieces (book_of g.R.Rule.handles g.R.Rule.answers l.book.rules.items)
       (versions_in l.groups) l.route.asked l.route.parts.items (number + l.branch-index)
       (branches_of (drop l.branch-index l.branches)));
   count : (number : ℕ) → (alive : List PlainExplained)
       → AreAlive (versions_in l.groups) (branches_pieces
-      (book_of (λ r. (goal.Rule-dyn g (r.vtable, r.value)).handles r.value)
-      (λ r. (goal.Rule-dyn g (r.vtable, r.value)).answers r.value) l.book.rules.items)
+      (book_of g.R.Rule.handles g.R.Rule.answers l.book.rules.items)
       (versions_in l.groups) l.route.asked l.route.parts.items number (branches_of l.branches))
       alive
       → Owes l.groups (versions_in l.groups) (branches_pieces
-      (book_of (λ r. (goal.Rule-dyn g (r.vtable, r.value)).handles r.value)
-      (λ r. (goal.Rule-dyn g (r.vtable, r.value)).answers r.value) l.book.rules.items)
+      (book_of g.R.Rule.handles g.R.Rule.answers l.book.rules.items)
       (versions_in l.groups) l.route.asked l.route.parts.items (number + l.branch-index)
       (branches_of (drop l.branch-index l.branches))) l.steps
       (l.initial.steps + reads_of l.groups alive);
   least : (number : ℕ) → (e : PlainExplained)
       → IsAlive (versions_in l.groups) (branches_pieces
-      (book_of (λ r. (goal.Rule-dyn g (r.vtable, r.value)).handles r.value)
-      (λ r. (goal.Rule-dyn g (r.vtable, r.value)).answers r.value) l.book.rules.items)
+      (book_of g.R.Rule.handles g.R.Rule.answers l.book.rules.items)
       (versions_in l.groups) l.route.asked l.route.parts.items number (branches_of l.branches)) e
       → IsLeftOrRead l.groups (versions_in l.groups)
-      (branches_pieces (book_of (λ r. (goal.Rule-dyn g (r.vtable, r.value)).handles r.value)
-      (λ r. (goal.Rule-dyn g (r.vtable, r.value)).answers r.value) l.book.rules.items)
+      (branches_pieces (book_of g.R.Rule.handles g.R.Rule.answers l.book.rules.items)
       (versions_in l.groups) l.route.asked l.route.parts.items (number + l.branch-index)
       (branches_of (drop l.branch-index l.branches))) l.initial.steps l.steps e;
   rises : l.initial.steps ≤ l.steps;

@@ -35,8 +35,7 @@ loop-item-init g c = record {
     h,
   );
   count = λ branch alive h. owes_all c.args.groups.now (versions_in c.args.groups.now)
-      (items_pieces (book_of (λ r. (goal.Rule-dyn g (r.vtable, r.value)).handles r.value)
-      (λ r. (goal.Rule-dyn g (r.vtable, r.value)).answers r.value) c.args.book.now.rules.items)
+      (items_pieces (book_of g.R.Rule.handles g.R.Rule.answers c.args.book.now.rules.items)
       (versions_in c.args.groups.now) c.args.route.now.asked c.args.route.now.parts.items
       (borrowed c.args.references.now) (test c.args.cond.now) branch 0 c.args.from.now) alive
       c.args.steps.now h;
@@ -82,39 +81,33 @@ loop-item-preserved g c =
       all_borrowed = λ branch by_branch h.
           let before = c.loop-item.invariant.all_borrowed branch by_branch h in
           let both = next_item c.args.groups.now by_branch
-          (book_of (λ r. (goal.Rule-dyn g (r.vtable, r.value)).handles r.value)
-          (λ r. (goal.Rule-dyn g (r.vtable, r.value)).answers r.value)
-          c.args.book.now.rules.items) c.args.route.now.asked c.args.route.now.parts.items rs cd
+          (book_of g.R.Rule.handles g.R.Rule.answers c.args.book.now.rules.items)
+          c.args.route.now.asked c.args.route.now.parts.items rs cd
           branch from i x below is before.1 in (
             atom_more (by_branch branch) c.loop-item.atoms.items c.push.new.self.items
                 c.in_ok-atom.atom c.in_ok-push.ensures.items before.0
                 (c.in_ok-atom.ensures.borrowed branch by_branch
                 (subst (λ (j : ℕ). AllSpare c.args.groups.now by_branch
-                (table_pieces (book_of (λ r.
-                (goal.Rule-dyn g (r.vtable, r.value)).handles r.value)
-                (λ r. (goal.Rule-dyn g (r.vtable, r.value)).answers r.value)
+                (table_pieces (book_of g.R.Rule.handles g.R.Rule.answers
                 c.args.book.now.rules.items) (versions_in c.args.groups.now)
                 c.args.route.now.asked x.0 (own_read j rs cd) branch (j + 1)
                 c.args.route.now.parts.items)) (sym c.loop-item.invariant.place) both.0)),
             both.1,
           );
-      count = λ branch alive h. item_owes (book_of
-          (λ r. (goal.Rule-dyn g (r.vtable, r.value)).handles r.value)
-          (λ r. (goal.Rule-dyn g (r.vtable, r.value)).answers r.value) c.args.book.now.rules.items)
+      count = λ branch alive h. item_owes
+          (book_of g.R.Rule.handles g.R.Rule.answers c.args.book.now.rules.items)
           (versions_in c.args.groups.now) c.args.route.now.asked c.args.route.now.parts.items rs cd
           branch c.args.groups.now from i x below is c.loop-item.steps
           (c.args.steps.now + reads_of c.args.groups.now alive) c.read_item.new.steps
           (c.loop-item.invariant.count branch alive h)
           (λ own k. c.read_item.ensures.cost branch (i + 1) own
           (subst (λ (j : ℕ). AreAlive (versions_in c.args.groups.now)
-          (table_pieces (book_of (λ r. (goal.Rule-dyn g (r.vtable, r.value)).handles r.value)
-          (λ r. (goal.Rule-dyn g (r.vtable, r.value)).answers r.value)
-          c.args.book.now.rules.items) (versions_in c.args.groups.now) c.args.route.now.asked
+          (table_pieces (book_of g.R.Rule.handles g.R.Rule.answers c.args.book.now.rules.items)
+          (versions_in c.args.groups.now) c.args.route.now.asked
           x.0 (own_read j rs cd) branch (i + 1) c.args.route.now.parts.items) own)
           (sym c.loop-item.invariant.place) k));
-      least = λ branch e h. item_left (book_of
-          (λ r. (goal.Rule-dyn g (r.vtable, r.value)).handles r.value)
-          (λ r. (goal.Rule-dyn g (r.vtable, r.value)).answers r.value) c.args.book.now.rules.items)
+      least = λ branch e h. item_left (book_of g.R.Rule.handles g.R.Rule.answers
+          c.args.book.now.rules.items)
           (versions_in c.args.groups.now) c.args.route.now.asked c.args.route.now.parts.items rs cd
           branch c.args.groups.now from i x below is c.args.steps.now c.loop-item.steps
           c.read_item.new.steps e
@@ -122,9 +115,8 @@ loop-item-preserved g c =
           (c.loop-item.invariant.least branch e h)
           (λ k. c.in_ok-atom.ensures.least branch (i + 1) e
           (subst (λ (j : ℕ). IsAlive (versions_in c.args.groups.now)
-          (table_pieces (book_of (λ r. (goal.Rule-dyn g (r.vtable, r.value)).handles r.value)
-          (λ r. (goal.Rule-dyn g (r.vtable, r.value)).answers r.value)
-          c.args.book.now.rules.items) (versions_in c.args.groups.now) c.args.route.now.asked
+          (table_pieces (book_of g.R.Rule.handles g.R.Rule.answers c.args.book.now.rules.items)
+          (versions_in c.args.groups.now) c.args.route.now.asked
           x.0 (own_read j rs cd) branch (i + 1) c.args.route.now.parts.items) e)
           (sym c.loop-item.invariant.place) k));
       rises = from_first c.args.steps.now c.loop-item.steps c.read_item.new.steps
@@ -142,21 +134,18 @@ returns-in_err-atom-clause-cost g c =
     let is : x ≡ get_or from i x = c.item-item.is in
     λ branch alive h.
     owes_within c.args.groups.now (versions_in c.args.groups.now)
-    (items_pieces (book_of (λ r. (goal.Rule-dyn g (r.vtable, r.value)).handles r.value)
-    (λ r. (goal.Rule-dyn g (r.vtable, r.value)).answers r.value) c.args.book.now.rules.items)
+    (items_pieces (book_of g.R.Rule.handles g.R.Rule.answers c.args.book.now.rules.items)
     (versions_in c.args.groups.now) c.args.route.now.asked c.args.route.now.parts.items rs cd
     branch (i + 1) (drop (i + 1) from)) c.read_item.new.steps
     (c.args.steps.now + reads_of c.args.groups.now alive)
-    (item_owes (book_of (λ r. (goal.Rule-dyn g (r.vtable, r.value)).handles r.value)
-    (λ r. (goal.Rule-dyn g (r.vtable, r.value)).answers r.value) c.args.book.now.rules.items)
+    (item_owes (book_of g.R.Rule.handles g.R.Rule.answers c.args.book.now.rules.items)
     (versions_in c.args.groups.now) c.args.route.now.asked c.args.route.now.parts.items rs cd
     branch c.args.groups.now from i x below is c.loop-item.steps
     (c.args.steps.now + reads_of c.args.groups.now alive) c.read_item.new.steps
     (c.loop-item.invariant.count branch alive h)
     (λ own k. c.read_item.ensures.cost branch (i + 1) own
     (subst (λ (j : ℕ). AreAlive (versions_in c.args.groups.now)
-    (table_pieces (book_of (λ r. (goal.Rule-dyn g (r.vtable, r.value)).handles r.value)
-    (λ r. (goal.Rule-dyn g (r.vtable, r.value)).answers r.value) c.args.book.now.rules.items)
+    (table_pieces (book_of g.R.Rule.handles g.R.Rule.answers c.args.book.now.rules.items)
     (versions_in c.args.groups.now) c.args.route.now.asked x.0 (own_read j rs cd) branch (i + 1)
     c.args.route.now.parts.items) own) (sym c.loop-item.invariant.place) k)))
 
@@ -171,29 +160,25 @@ returns-in_err-push-clause-cost g c =
     let is : x ≡ get_or from i x = c.item-item.is in
     λ branch alive h.
     owes_within c.args.groups.now (versions_in c.args.groups.now)
-    (items_pieces (book_of (λ r. (goal.Rule-dyn g (r.vtable, r.value)).handles r.value)
-    (λ r. (goal.Rule-dyn g (r.vtable, r.value)).answers r.value) c.args.book.now.rules.items)
+    (items_pieces (book_of g.R.Rule.handles g.R.Rule.answers c.args.book.now.rules.items)
     (versions_in c.args.groups.now) c.args.route.now.asked c.args.route.now.parts.items rs cd
     branch (i + 1) (drop (i + 1) from)) c.read_item.new.steps
     (c.args.steps.now + reads_of c.args.groups.now alive)
-    (item_owes (book_of (λ r. (goal.Rule-dyn g (r.vtable, r.value)).handles r.value)
-    (λ r. (goal.Rule-dyn g (r.vtable, r.value)).answers r.value) c.args.book.now.rules.items)
+    (item_owes (book_of g.R.Rule.handles g.R.Rule.answers c.args.book.now.rules.items)
     (versions_in c.args.groups.now) c.args.route.now.asked c.args.route.now.parts.items rs cd
     branch c.args.groups.now from i x below is c.loop-item.steps
     (c.args.steps.now + reads_of c.args.groups.now alive) c.read_item.new.steps
     (c.loop-item.invariant.count branch alive h)
     (λ own k. c.read_item.ensures.cost branch (i + 1) own
     (subst (λ (j : ℕ). AreAlive (versions_in c.args.groups.now)
-    (table_pieces (book_of (λ r. (goal.Rule-dyn g (r.vtable, r.value)).handles r.value)
-    (λ r. (goal.Rule-dyn g (r.vtable, r.value)).answers r.value) c.args.book.now.rules.items)
+    (table_pieces (book_of g.R.Rule.handles g.R.Rule.answers c.args.book.now.rules.items)
     (versions_in c.args.groups.now) c.args.route.now.asked x.0 (own_read j rs cd) branch (i + 1)
     c.args.route.now.parts.items) own) (sym c.loop-item.invariant.place) k)))
 
 pub returns-clause-cost : goal.returns-clause-cost
 returns-clause-cost g c = λ branch alive h.
     owes_within c.args.groups.now (versions_in c.args.groups.now)
-    (items_pieces (book_of (λ r. (goal.Rule-dyn g (r.vtable, r.value)).handles r.value)
-    (λ r. (goal.Rule-dyn g (r.vtable, r.value)).answers r.value) c.args.book.now.rules.items)
+    (items_pieces (book_of g.R.Rule.handles g.R.Rule.answers c.args.book.now.rules.items)
     (versions_in c.args.groups.now) c.args.route.now.asked c.args.route.now.parts.items
     (borrowed c.args.references.now) (test c.args.cond.now) branch c.loop-item.item-index
     (drop c.loop-item.item-index c.args.from.now)) c.loop-item.steps
@@ -210,8 +195,7 @@ returns-clause-least g c = λ branch e h.
     let cd : Test = test c.args.cond.now in
     all_read c.args.groups.now (versions_in c.args.groups.now) c.args.steps.now c.loop-item.steps e
     (subst (λ (from : List Item). IsLeftOrRead c.args.groups.now (versions_in c.args.groups.now)
-    (items_pieces (book_of (λ r. (goal.Rule-dyn g (r.vtable, r.value)).handles r.value)
-    (λ r. (goal.Rule-dyn g (r.vtable, r.value)).answers r.value) c.args.book.now.rules.items)
+    (items_pieces (book_of g.R.Rule.handles g.R.Rule.answers c.args.book.now.rules.items)
     (versions_in c.args.groups.now) c.args.route.now.asked c.args.route.now.parts.items rs cd
     branch c.loop-item.item-index from) c.args.steps.now c.loop-item.steps e)
     (drop_all c.loop-item.item-index c.args.from.now c.loop-item-test.false)

@@ -23,36 +23,30 @@ invariant-loop-item g l = record {
       → AreRead past l.route (borrowed l.references) (test l.cond) 0 (take l.item-index l.from)
       l.atoms.items;
   all_borrowed : (branch : ℕ) → (by_branch : BorrowedByBranch) → AllSpare l.groups by_branch
-      (items_pieces (book_of (λ r. (goal.Rule-dyn g (r.vtable, r.value)).handles r.value)
-      (λ r. (goal.Rule-dyn g (r.vtable, r.value)).answers r.value) l.book.rules.items)
+      (items_pieces (book_of g.R.Rule.handles g.R.Rule.answers l.book.rules.items)
       (versions_in l.groups) l.route.asked l.route.parts.items (borrowed l.references) (test l.cond)
       branch 0 l.from)
       → AtomsBorrow (by_branch branch) l.atoms.items × AllSpare l.groups by_branch
-      (items_pieces (book_of (λ r. (goal.Rule-dyn g (r.vtable, r.value)).handles r.value)
-      (λ r. (goal.Rule-dyn g (r.vtable, r.value)).answers r.value) l.book.rules.items)
+      (items_pieces (book_of g.R.Rule.handles g.R.Rule.answers l.book.rules.items)
       (versions_in l.groups) l.route.asked l.route.parts.items (borrowed l.references)
       (test l.cond) branch l.item-index (drop l.item-index l.from));
   count : (branch : ℕ) → (alive : List PlainExplained)
       → AreAlive (versions_in l.groups) (items_pieces
-      (book_of (λ r. (goal.Rule-dyn g (r.vtable, r.value)).handles r.value)
-      (λ r. (goal.Rule-dyn g (r.vtable, r.value)).answers r.value) l.book.rules.items)
+      (book_of g.R.Rule.handles g.R.Rule.answers l.book.rules.items)
       (versions_in l.groups) l.route.asked l.route.parts.items (borrowed l.references) (test l.cond)
       branch 0 l.from) alive
       → Owes l.groups (versions_in l.groups) (items_pieces
-      (book_of (λ r. (goal.Rule-dyn g (r.vtable, r.value)).handles r.value)
-      (λ r. (goal.Rule-dyn g (r.vtable, r.value)).answers r.value) l.book.rules.items)
+      (book_of g.R.Rule.handles g.R.Rule.answers l.book.rules.items)
       (versions_in l.groups) l.route.asked l.route.parts.items (borrowed l.references)
       (test l.cond) branch l.item-index (drop l.item-index l.from)) l.steps
       (l.initial.steps + reads_of l.groups alive);
   least : (branch : ℕ) → (e : PlainExplained)
       → IsAlive (versions_in l.groups) (items_pieces
-      (book_of (λ r. (goal.Rule-dyn g (r.vtable, r.value)).handles r.value)
-      (λ r. (goal.Rule-dyn g (r.vtable, r.value)).answers r.value) l.book.rules.items)
+      (book_of g.R.Rule.handles g.R.Rule.answers l.book.rules.items)
       (versions_in l.groups) l.route.asked l.route.parts.items (borrowed l.references) (test l.cond)
       branch 0 l.from) e
       → IsLeftOrRead l.groups (versions_in l.groups)
-      (items_pieces (book_of (λ r. (goal.Rule-dyn g (r.vtable, r.value)).handles r.value)
-      (λ r. (goal.Rule-dyn g (r.vtable, r.value)).answers r.value) l.book.rules.items)
+      (items_pieces (book_of g.R.Rule.handles g.R.Rule.answers l.book.rules.items)
       (versions_in l.groups) l.route.asked l.route.parts.items (borrowed l.references)
       (test l.cond) branch l.item-index (drop l.item-index l.from)) l.initial.steps l.steps e;
   rises : l.initial.steps ≤ l.steps;

@@ -30,8 +30,7 @@ pub returns-clause-are : goal.returns-clause-are
 returns-clause-are g c =
     (subst (λ (all : List PlainExplained). AreLeft (versions_in c.args.groups.now) all
     (all_explained c.in_ok-pieces.pieces.items))
-    (pieces_here (book_of (λ r. (goal.Rule-dyn g (r.vtable, r.value)).handles r.value)
-    (λ r. (goal.Rule-dyn g (r.vtable, r.value)).answers r.value) c.args.book.now.rules.items)
+    (pieces_here (book_of g.R.Rule.handles g.R.Rule.answers c.args.book.now.rules.items)
     (versions_in c.args.groups.now) (query_of c.args.query.now) c.in_ok-route.route.asked
     c.in_ok-route.route.parts.items c.slice-slice.result (branches_of c.deref.result.now)
     c.in_ok-route.ensures.asked c.in_ok-route.ensures.parts c.slice-slice.ensures.value
@@ -41,8 +40,7 @@ pub returns-clause-told : goal.returns-clause-told
 returns-clause-told g c =
     (subst (λ (all : List PlainExplained). AreLeft (versions_in c.args.groups.now) all
     (all_explained c.in_ok-pieces.pieces.items))
-    (pieces_here (book_of (λ r. (goal.Rule-dyn g (r.vtable, r.value)).handles r.value)
-    (λ r. (goal.Rule-dyn g (r.vtable, r.value)).answers r.value) c.args.book.now.rules.items)
+    (pieces_here (book_of g.R.Rule.handles g.R.Rule.answers c.args.book.now.rules.items)
     (versions_in c.args.groups.now) (query_of c.args.query.now) c.in_ok-route.route.asked
     c.in_ok-route.route.parts.items c.slice-slice.result (branches_of c.deref.result.now)
     c.in_ok-route.ensures.asked c.in_ok-route.ensures.parts c.slice-slice.ensures.value

@@ -43,16 +43,12 @@ returns g c = λ before h.
     ∙ ap (λ (rs : List (Bor ColRef)). borrowed rs ++ all_references b.outs b.cond)
     c.new-references.ensures.items in
     subst (λ (from : List Item). AreLeft (versions_in c.args.groups.now)
-    (before ++ items_pieces (book_of (λ r.
-    (goal.Rule-dyn g (r.vtable, r.value)).handles r.value)
-    (λ r. (goal.Rule-dyn g (r.vtable, r.value)).answers r.value) c.args.book.now.rules.items)
+    (before ++ items_pieces (book_of g.R.Rule.handles g.R.Rule.answers c.args.book.now.rules.items)
     (versions_in c.args.groups.now) c.args.route.now.asked c.args.route.now.parts.items
     (all_references b.outs b.cond) b.cond c.args.number 0 from)
     (all_explained c.explain_items.new.into.items)) c.deref-2.ensures.value
     (subst (λ (rs : List ColRef). AreLeft (versions_in c.args.groups.now)
-    (before ++ items_pieces (book_of (λ r.
-    (goal.Rule-dyn g (r.vtable, r.value)).handles r.value)
-    (λ r. (goal.Rule-dyn g (r.vtable, r.value)).answers r.value) c.args.book.now.rules.items)
+    (before ++ items_pieces (book_of g.R.Rule.handles g.R.Rule.answers c.args.book.now.rules.items)
     (versions_in c.args.groups.now) c.args.route.now.asked c.args.route.now.parts.items rs
     b.cond c.args.number 0 c.deref-2.result.now) (all_explained c.explain_items.new.into.items))
     same (c.in_ok-explain_items.ensures before h))

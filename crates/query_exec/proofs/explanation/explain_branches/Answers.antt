@@ -41,8 +41,7 @@ loop-branch-preserved g c =
     let here : c.loop-branch.number + 1 ≡ i + 1 = ap (λ (j : ℕ). j + 1)
     c.loop-branch.invariant.number in
     let so : List PlainExplained = branches_pieces
-    (book_of (λ r. (goal.Rule-dyn g (r.vtable, r.value)).handles r.value)
-    (λ r. (goal.Rule-dyn g (r.vtable, r.value)).answers r.value) c.args.book.now.rules.items)
+    (book_of g.R.Rule.handles g.R.Rule.answers c.args.book.now.rules.items)
     (versions_in c.args.groups.now) c.args.route.now.asked c.args.route.now.parts.items 1
     (branches_of (take i bs)) in
     record {
@@ -53,14 +52,12 @@ loop-branch-preserved g c =
           AreLeft (versions_in c.args.groups.now) es
           (all_explained c.explain_branch.new.into.items))
           (ap (λ (n : ℕ). so ++ branch_pieces
-          (book_of (λ r. (goal.Rule-dyn g (r.vtable, r.value)).handles r.value)
-          (λ r. (goal.Rule-dyn g (r.vtable, r.value)).answers r.value)
-          c.args.book.now.rules.items) (versions_in c.args.groups.now) c.args.route.now.asked
+          (book_of g.R.Rule.handles g.R.Rule.answers c.args.book.now.rules.items)
+          (versions_in c.args.groups.now) c.args.route.now.asked
           c.args.route.now.parts.items n (branch_of b)) here
           ∙ sym (branches_more bs i b below is
-          (book_of (λ r. (goal.Rule-dyn g (r.vtable, r.value)).handles r.value)
-          (λ r. (goal.Rule-dyn g (r.vtable, r.value)).answers r.value)
-          c.args.book.now.rules.items) (versions_in c.args.groups.now) c.args.route.now.asked
+          (book_of g.R.Rule.handles g.R.Rule.answers c.args.book.now.rules.items)
+          (versions_in c.args.groups.now) c.args.route.now.asked
           c.args.route.now.parts.items))
           (c.in_ok-explain_branch.ensures so c.loop-branch.invariant.alive);
     }
@@ -68,8 +65,7 @@ loop-branch-preserved g c =
 pub returns : goal.returns
 returns g c =
     subst (λ (bs : List Branch). AreLeft (versions_in c.args.groups.now)
-    (branches_pieces (book_of (λ r. (goal.Rule-dyn g (r.vtable, r.value)).handles r.value)
-    (λ r. (goal.Rule-dyn g (r.vtable, r.value)).answers r.value) c.args.book.now.rules.items)
+    (branches_pieces (book_of g.R.Rule.handles g.R.Rule.answers c.args.book.now.rules.items)
     (versions_in c.args.groups.now) c.args.route.now.asked c.args.route.now.parts.items 1
     (branches_of bs)) (all_explained c.loop-branch.pieces.items))
     (take_all c.loop-branch.branch-index c.args.branches.now c.loop-branch-test.false)

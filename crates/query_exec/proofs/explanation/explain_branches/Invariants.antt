@@ -12,8 +12,7 @@ invariant-loop-branch g l = record {
   number : l.number ≡ l.branch-index;
   may : MayBranches (versions_in l.groups) l.route (branches_of (drop l.branch-index l.branches));
   alive : AreLeft (versions_in l.groups) (branches_pieces
-      (book_of (λ r. (goal.Rule-dyn g (r.vtable, r.value)).handles r.value)
-      (λ r. (goal.Rule-dyn g (r.vtable, r.value)).answers r.value) l.book.rules.items)
+      (book_of g.R.Rule.handles g.R.Rule.answers l.book.rules.items)
       (versions_in l.groups) l.route.asked l.route.parts.items 1
       (branches_of (take l.branch-index l.branches))) (all_explained l.pieces.items);
 }

@@ -22,8 +22,7 @@ pub returns : goal.returns
 returns g c = λ before h.
     let r : Read = own_read c.args.place (borrowed c.args.references.now) (test c.args.cond.now) in
     let own : List PlainExplained = table_pieces
-    (book_of (λ r. (goal.Rule-dyn g (r.vtable, r.value)).handles r.value)
-    (λ r. (goal.Rule-dyn g (r.vtable, r.value)).answers r.value) c.args.book.now.rules.items)
+    (book_of g.R.Rule.handles g.R.Rule.answers c.args.book.now.rules.items)
     (versions_in c.args.groups.now) c.args.route.now.asked c.args.table.now r c.args.branch
     c.args.atom c.args.route.now.parts.items in
     subst (λ (es : List PlainExplained). AreLeft (versions_in c.args.groups.now) (before ++ own) es)
@@ -33,13 +32,11 @@ returns g c = λ before h.
     (left_joined (versions_in c.args.groups.now) before own (all_explained c.args.into.now.items)
     (planned_pieces c.args.branch c.args.atom c.in_ok-plan.plan.items) h
     (planned_left (versions_in c.args.groups.now)
-    (book_of (λ r. (goal.Rule-dyn g (r.vtable, r.value)).handles r.value)
-    (λ r. (goal.Rule-dyn g (r.vtable, r.value)).answers r.value) c.args.book.now.rules.items)
+    (book_of g.R.Rule.handles g.R.Rule.answers c.args.book.now.rules.items)
     c.args.route.now.asked c.args.table.now r c.args.branch c.args.atom
     c.args.route.now.parts.items c.in_ok-plan.plan.items
-    (subst (λ (x : Read). ArePlanned (book_of
-    (λ r. (goal.Rule-dyn g (r.vtable, r.value)).handles r.value)
-    (λ r. (goal.Rule-dyn g (r.vtable, r.value)).answers r.value) c.args.book.now.rules.items)
+    (subst (λ (x : Read). ArePlanned (book_of g.R.Rule.handles g.R.Rule.answers
+    c.args.book.now.rules.items)
     (versions_in c.args.groups.now) c.args.route.now.asked c.args.table.now x
     c.args.route.now.parts.items c.in_ok-plan.plan.items) c.in_ok-question.ensures
     c.in_ok-plan.ensures)))

@@ -50,8 +50,7 @@ loop-item-preserved g c =
     let next = may_next (versions_in c.args.groups.now) c.args.route.now rs cd from i x below is
     c.loop-item.invariant.may in
     let so : List PlainExplained = items_pieces
-    (book_of (λ r. (goal.Rule-dyn g (r.vtable, r.value)).handles r.value)
-    (λ r. (goal.Rule-dyn g (r.vtable, r.value)).answers r.value) c.args.book.now.rules.items)
+    (book_of g.R.Rule.handles g.R.Rule.answers c.args.book.now.rules.items)
     (versions_in c.args.groups.now) c.args.route.now.asked c.args.route.now.parts.items rs cd
     c.args.branch 0 (take i from) in
     record {
@@ -60,37 +59,31 @@ loop-item-preserved g c =
       alive = λ before h.
           let was : AreLeft (versions_in c.args.groups.now)
           ((before ++ so) ++ table_pieces
-          (book_of (λ r. (goal.Rule-dyn g (r.vtable, r.value)).handles r.value)
-          (λ r. (goal.Rule-dyn g (r.vtable, r.value)).answers r.value)
-          c.args.book.now.rules.items) (versions_in c.args.groups.now) c.args.route.now.asked
+          (book_of g.R.Rule.handles g.R.Rule.answers c.args.book.now.rules.items)
+          (versions_in c.args.groups.now) c.args.route.now.asked
           x.0 (own_read c.loop-item.place rs cd) c.args.branch (c.loop-item.place + 1)
           c.args.route.now.parts.items) (all_explained c.explain_item.new.into.items) =
           c.in_ok-explain_item.ensures (before ++ so) (c.loop-item.invariant.alive before h) in
           let here : (before ++ so) ++ table_pieces
-          (book_of (λ r. (goal.Rule-dyn g (r.vtable, r.value)).handles r.value)
-          (λ r. (goal.Rule-dyn g (r.vtable, r.value)).answers r.value)
-          c.args.book.now.rules.items) (versions_in c.args.groups.now) c.args.route.now.asked
+          (book_of g.R.Rule.handles g.R.Rule.answers c.args.book.now.rules.items)
+          (versions_in c.args.groups.now) c.args.route.now.asked
           x.0 (own_read c.loop-item.place rs cd) c.args.branch (c.loop-item.place + 1)
           c.args.route.now.parts.items ≡ before
-          ++ items_pieces (book_of (λ r. (goal.Rule-dyn g (r.vtable, r.value)).handles r.value)
-          (λ r. (goal.Rule-dyn g (r.vtable, r.value)).answers r.value)
-          c.args.book.now.rules.items) (versions_in c.args.groups.now) c.args.route.now.asked
+          ++ items_pieces (book_of g.R.Rule.handles g.R.Rule.answers c.args.book.now.rules.items)
+          (versions_in c.args.groups.now) c.args.route.now.asked
           c.args.route.now.parts.items rs cd c.args.branch 0 (take (i + 1) from) =
           ap (λ (j : ℕ). (before ++ so) ++ table_pieces
-          (book_of (λ r. (goal.Rule-dyn g (r.vtable, r.value)).handles r.value)
-          (λ r. (goal.Rule-dyn g (r.vtable, r.value)).answers r.value)
-          c.args.book.now.rules.items) (versions_in c.args.groups.now) c.args.route.now.asked
+          (book_of g.R.Rule.handles g.R.Rule.answers c.args.book.now.rules.items)
+          (versions_in c.args.groups.now) c.args.route.now.asked
           x.0 (own_read j rs cd) c.args.branch (j + 1) c.args.route.now.parts.items)
           c.loop-item.invariant.place
           ∙ append_assoc before so (table_pieces
-          (book_of (λ r. (goal.Rule-dyn g (r.vtable, r.value)).handles r.value)
-          (λ r. (goal.Rule-dyn g (r.vtable, r.value)).answers r.value)
-          c.args.book.now.rules.items) (versions_in c.args.groups.now) c.args.route.now.asked
+          (book_of g.R.Rule.handles g.R.Rule.answers c.args.book.now.rules.items)
+          (versions_in c.args.groups.now) c.args.route.now.asked
           x.0 (own_read i rs cd) c.args.branch (i + 1) c.args.route.now.parts.items)
           ∙ ap (λ (es : List PlainExplained). before ++ es)
-          (sym (items_more (book_of (λ r. (goal.Rule-dyn g (r.vtable, r.value)).handles r.value)
-          (λ r. (goal.Rule-dyn g (r.vtable, r.value)).answers r.value)
-          c.args.book.now.rules.items) (versions_in c.args.groups.now) c.args.route.now.asked
+          (sym (items_more (book_of g.R.Rule.handles g.R.Rule.answers c.args.book.now.rules.items)
+          (versions_in c.args.groups.now) c.args.route.now.asked
           c.args.route.now.parts.items rs cd c.args.branch from i x below is)) in
           subst (λ (es : List PlainExplained).
           AreLeft (versions_in c.args.groups.now) es
@@ -100,9 +93,7 @@ loop-item-preserved g c =
 pub returns : goal.returns
 returns g c = λ before h.
     subst (λ (from : List Item). AreLeft (versions_in c.args.groups.now)
-    (before ++ items_pieces (book_of (λ r.
-    (goal.Rule-dyn g (r.vtable, r.value)).handles r.value)
-    (λ r. (goal.Rule-dyn g (r.vtable, r.value)).answers r.value) c.args.book.now.rules.items)
+    (before ++ items_pieces (book_of g.R.Rule.handles g.R.Rule.answers c.args.book.now.rules.items)
     (versions_in c.args.groups.now) c.args.route.now.asked c.args.route.now.parts.items
     (borrowed c.args.references.now) (test c.args.cond.now) c.args.branch 0 from)
     (all_explained c.loop-item.into.items))

@@ -16,8 +16,7 @@ invariant-loop-item g l = record {
   alive : (before : List PlainExplained) → AreLeft (versions_in l.groups) before
       (all_explained l.fn.into.items)
       → AreLeft (versions_in l.groups) (before
-      ++ items_pieces (book_of (λ r. (goal.Rule-dyn g (r.vtable, r.value)).handles r.value)
-      (λ r. (goal.Rule-dyn g (r.vtable, r.value)).answers r.value) l.book.rules.items)
+      ++ items_pieces (book_of g.R.Rule.handles g.R.Rule.answers l.book.rules.items)
       (versions_in l.groups) l.route.asked l.route.parts.items (borrowed l.references)
       (test l.cond) l.branch 0 (take l.item-index l.from)) (all_explained l.into.items);
 }

@@ -49,8 +49,7 @@ pub returns-in_err-rows-clause-cost : goal.returns-in_err-rows-clause-cost
 returns-in_err-rows-clause-cost g c = λ branch atom alive h.
     c.read_table.ensures.cost branch atom alive
     (subst (λ (r : Read). AreAlive (versions_in c.args.groups.now)
-    (table_pieces (book_of (λ r. (goal.Rule-dyn g (r.vtable, r.value)).handles r.value)
-    (λ r. (goal.Rule-dyn g (r.vtable, r.value)).answers r.value) c.args.book.now.rules.items)
+    (table_pieces (book_of g.R.Rule.handles g.R.Rule.answers c.args.book.now.rules.items)
     (versions_in c.args.groups.now) c.args.route.now.asked c.args.table.now r branch atom
     c.args.route.now.parts.items) alive) (sym c.in_ok-question.ensures) h)
 
@@ -74,8 +73,7 @@ returns-clause-atom g c = λ past represents. record {
 pub returns-clause-cost : goal.returns-clause-cost
 returns-clause-cost g c = λ branch atom alive h. c.read_table.ensures.cost branch atom alive
     (subst (λ (r : Read). AreAlive (versions_in c.args.groups.now)
-    (table_pieces (book_of (λ r. (goal.Rule-dyn g (r.vtable, r.value)).handles r.value)
-    (λ r. (goal.Rule-dyn g (r.vtable, r.value)).answers r.value) c.args.book.now.rules.items)
+    (table_pieces (book_of g.R.Rule.handles g.R.Rule.answers c.args.book.now.rules.items)
     (versions_in c.args.groups.now) c.args.route.now.asked c.args.table.now r branch atom
     c.args.route.now.parts.items) alive) (sym c.in_ok-question.ensures) h)
 
@@ -85,8 +83,7 @@ returns-clause-borrowed g c = λ branch by_branch spares.
     let represents = c.requires.represents.1 in
     let own : Read =
     own_read c.args.place (borrowed c.args.references.now) (test c.args.cond.now) in
-    let book = book_of (λ r. (goal.Rule-dyn g (r.vtable, r.value)).handles r.value)
-    (λ r. (goal.Rule-dyn g (r.vtable, r.value)).answers r.value) c.args.book.now.rules.items in
+    let book = book_of g.R.Rule.handles g.R.Rule.answers c.args.book.now.rules.items in
     let columns : List Column = named own.names (columns_of (tables_of past c.args.route.now.asked)
     c.args.table.now) in
     let are : c.in_ok-columns.columns.items ≡ columns_at c.args.place columns =
@@ -113,7 +110,6 @@ returns-clause-borrowed g c = λ branch by_branch spares.
 pub returns-clause-least : goal.returns-clause-least
 returns-clause-least g c = λ branch atom e h. c.in_ok-rows.ensures.least branch atom e
     (subst (λ (r : Read). IsAlive (versions_in c.args.groups.now)
-    (table_pieces (book_of (λ r. (goal.Rule-dyn g (r.vtable, r.value)).handles r.value)
-    (λ r. (goal.Rule-dyn g (r.vtable, r.value)).answers r.value) c.args.book.now.rules.items)
+    (table_pieces (book_of g.R.Rule.handles g.R.Rule.answers c.args.book.now.rules.items)
     (versions_in c.args.groups.now) c.args.route.now.asked c.args.table.now r branch atom
     c.args.route.now.parts.items) e) (sym c.in_ok-question.ensures) h)

@@ -38,8 +38,7 @@ answer_branches-requires-clause-read g c =
 pub returns-in_err-rows-clause-cost : goal.returns-in_err-rows-clause-cost
 returns-in_err-rows-clause-cost g c = λ pieces h. c.answer_branches.ensures.cost 1 pieces
     (subst (λ (all : List PlainExplained). AreAlive (versions_in c.args.groups.now) all pieces)
-    (sym (pieces_here (book_of (λ r. (goal.Rule-dyn g (r.vtable, r.value)).handles r.value)
-    (λ r. (goal.Rule-dyn g (r.vtable, r.value)).answers r.value) c.args.book.now.rules.items)
+    (sym (pieces_here (book_of g.R.Rule.handles g.R.Rule.answers c.args.book.now.rules.items)
     (versions_in c.args.groups.now) (query_of c.args.query.now) c.in_ok-route.route.asked
     c.in_ok-route.route.parts.items c.slice-slice.result (branches_of c.deref.result.now)
     c.in_ok-route.ensures.asked c.in_ok-route.ensures.parts c.slice-slice.ensures.value
@@ -54,8 +53,7 @@ returns-clause-rows g c = λ past asked represents accepted.
     (λ m inside. c.in_ok-rows.ensures.rows past represents m inside
     ∙ ap (λ (bs : List Branch). plain (tables_of past c.in_ok-route.route.asked) (branches_of bs)
     (migrated past m c.in_ok-route.route.asked)) c.deref.ensures.value)
-    (book_of (λ r. (goal.Rule-dyn g (r.vtable, r.value)).handles r.value)
-    (λ r. (goal.Rule-dyn g (r.vtable, r.value)).answers r.value) c.args.book.now.rules.items)
+    (book_of g.R.Rule.handles g.R.Rule.answers c.args.book.now.rules.items)
     c.known.ensures
     (subst (λ (s : Span). s.end ≤ forever) c.slice-slice.ensures.value c.ends_in_time.ensures)
     (entries_of c.coalesce_in_place.new.rows.items)
@@ -80,8 +78,7 @@ returns-clause-listed g c = λ past asked represents accepted.
 pub returns-clause-cost : goal.returns-clause-cost
 returns-clause-cost g c = λ pieces h. c.answer_branches.ensures.cost 1 pieces
     (subst (λ (all : List PlainExplained). AreAlive (versions_in c.args.groups.now) all pieces)
-    (sym (pieces_here (book_of (λ r. (goal.Rule-dyn g (r.vtable, r.value)).handles r.value)
-    (λ r. (goal.Rule-dyn g (r.vtable, r.value)).answers r.value) c.args.book.now.rules.items)
+    (sym (pieces_here (book_of g.R.Rule.handles g.R.Rule.answers c.args.book.now.rules.items)
     (versions_in c.args.groups.now) (query_of c.args.query.now) c.in_ok-route.route.asked
     c.in_ok-route.route.parts.items c.slice-slice.result (branches_of c.deref.result.now)
     c.in_ok-route.ensures.asked c.in_ok-route.ensures.parts c.slice-slice.ensures.value
@@ -98,8 +95,7 @@ returns-clause-borrowed g c = λ past shows pieces h by_branch spared.
     c.in_ok-rows.rows.items) c.in_ok-route.ensures.asked
     (c.in_ok-rows.ensures.borrowed past shows 1 by_branch
     (subst (λ (all : List PlainExplained). AllSpare c.args.groups.now by_branch all)
-    (sym (pieces_here (book_of (λ r. (goal.Rule-dyn g (r.vtable, r.value)).handles r.value)
-    (λ r. (goal.Rule-dyn g (r.vtable, r.value)).answers r.value) c.args.book.now.rules.items)
+    (sym (pieces_here (book_of g.R.Rule.handles g.R.Rule.answers c.args.book.now.rules.items)
     (versions_in c.args.groups.now) (query_of c.args.query.now) c.in_ok-route.route.asked
     c.in_ok-route.route.parts.items c.slice-slice.result (branches_of c.deref.result.now)
     c.in_ok-route.ensures.asked c.in_ok-route.ensures.parts c.slice-slice.ensures.value
@@ -109,13 +105,11 @@ returns-clause-borrowed g c = λ past shows pieces h by_branch spared.
 pub returns-clause-least : goal.returns-clause-least
 returns-clause-least g c = λ pieces h e m. c.in_ok-rows.ensures.least 1 e
     (in_alive (versions_in c.args.groups.now)
-    (branches_pieces (book_of (λ r. (goal.Rule-dyn g (r.vtable, r.value)).handles r.value)
-    (λ r. (goal.Rule-dyn g (r.vtable, r.value)).answers r.value) c.args.book.now.rules.items)
+    (branches_pieces (book_of g.R.Rule.handles g.R.Rule.answers c.args.book.now.rules.items)
     (versions_in c.args.groups.now) c.in_ok-route.route.asked c.in_ok-route.route.parts.items 1
     (branches_of c.deref.result.now)) pieces e
     (subst (λ (all : List PlainExplained). AreAlive (versions_in c.args.groups.now) all pieces)
-    (sym (pieces_here (book_of (λ r. (goal.Rule-dyn g (r.vtable, r.value)).handles r.value)
-    (λ r. (goal.Rule-dyn g (r.vtable, r.value)).answers r.value) c.args.book.now.rules.items)
+    (sym (pieces_here (book_of g.R.Rule.handles g.R.Rule.answers c.args.book.now.rules.items)
     (versions_in c.args.groups.now) (query_of c.args.query.now) c.in_ok-route.route.asked
     c.in_ok-route.route.parts.items c.slice-slice.result (branches_of c.deref.result.now)
     c.in_ok-route.ensures.asked c.in_ok-route.ensures.parts c.slice-slice.ensures.value

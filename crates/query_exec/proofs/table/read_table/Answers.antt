@@ -39,9 +39,8 @@ read_parts-requires g c =
             × AllTyped (tables_of past x.part.1) (pieces_of x.pieces.items))
             (sym c.deref.ensures.value)
             (plan_ready c.args.groups.now past represents
-            (book_of (λ r. (goal.Rule-dyn g (r.vtable, r.value)).handles r.value)
-            (λ r. (goal.Rule-dyn g (r.vtable, r.value)).answers r.value)
-            c.args.book.now.rules.items) c.known.ensures c.args.route.now c.requires.route
+            (book_of g.R.Rule.handles g.R.Rule.answers c.args.book.now.rules.items) c.known.ensures
+            c.args.route.now c.requires.route
             c.args.table.now (read_asked c.args.question.now) c.requires.read
             c.in_ok-plan.plan.items c.in_ok-plan.ensures),
       );
@@ -52,8 +51,7 @@ returns-clause-rows g c = λ past represents.
     let r = read_asked c.args.question.now in
     let relation = table_read past c.args.route.now.asked c.args.table.now r in
     let over = ap planned_spans c.deref.ensures.value
-    ∙ planned_over (book_of (λ r. (goal.Rule-dyn g (r.vtable, r.value)).handles r.value)
-    (λ r. (goal.Rule-dyn g (r.vtable, r.value)).answers r.value) c.args.book.now.rules.items)
+    ∙ planned_over (book_of g.R.Rule.handles g.R.Rule.answers c.args.book.now.rules.items)
     (versions_in c.args.groups.now) c.args.route.now.asked c.args.table.now r
     c.args.route.now.parts.items c.in_ok-plan.plan.items c.in_ok-plan.ensures in
     gathered_listed past c.args.route.now c.requires.route c.args.table.now r
@@ -64,9 +62,8 @@ returns-clause-rows g c = λ past represents.
     (subst (λ (xs : List PartPieces). (x : PartPieces) → In x xs → (m : ℕ)
     → covers x.part.0 m ≡ true → all_mean (tables_of past x.part.1) (database_at past m)
     (pieces_of x.pieces.items) ≡ relation m) (sym c.deref.ensures.value)
-    (plan_means c.args.groups.now past represents (book_of
-    (λ r. (goal.Rule-dyn g (r.vtable, r.value)).handles r.value)
-    (λ r. (goal.Rule-dyn g (r.vtable, r.value)).answers r.value) c.args.book.now.rules.items)
+    (plan_means c.args.groups.now past represents
+    (book_of g.R.Rule.handles g.R.Rule.answers c.args.book.now.rules.items)
     c.known.ensures c.args.route.now c.requires.route c.args.table.now
     (read_asked c.args.question.now) c.requires.read c.in_ok-plan.plan.items
     c.in_ok-plan.ensures))))
@@ -77,8 +74,7 @@ returns-in_err-rows-clause-cost g c = λ branch atom alive h.
     subst (λ (n : ℕ). c.read_parts.new.steps ≤ c.args.steps.now + n)
     (ap (λ (xs : List PartPieces). total (part_read c.args.groups.now) xs) c.deref.ensures.value
     ∙ plan_cost c.args.groups.now (versions_in c.args.groups.now)
-    (book_of (λ r. (goal.Rule-dyn g (r.vtable, r.value)).handles r.value)
-    (λ r. (goal.Rule-dyn g (r.vtable, r.value)).answers r.value) c.args.book.now.rules.items)
+    (book_of g.R.Rule.handles g.R.Rule.answers c.args.book.now.rules.items)
     c.args.route.now.asked c.args.table.now (read_asked c.args.question.now) branch atom
     c.args.route.now.parts.items c.in_ok-plan.plan.items c.in_ok-plan.ensures alive h)
     c.read_parts.ensures.cost
@@ -88,8 +84,7 @@ returns-clause-cost g c = λ branch atom alive h.
     subst (λ (n : ℕ). c.read_parts.new.steps ≤ c.args.steps.now + n)
     (ap (λ (xs : List PartPieces). total (part_read c.args.groups.now) xs) c.deref.ensures.value
     ∙ plan_cost c.args.groups.now (versions_in c.args.groups.now)
-    (book_of (λ r. (goal.Rule-dyn g (r.vtable, r.value)).handles r.value)
-    (λ r. (goal.Rule-dyn g (r.vtable, r.value)).answers r.value) c.args.book.now.rules.items)
+    (book_of g.R.Rule.handles g.R.Rule.answers c.args.book.now.rules.items)
     c.args.route.now.asked c.args.table.now (read_asked c.args.question.now) branch atom
     c.args.route.now.parts.items c.in_ok-plan.plan.items c.in_ok-plan.ensures alive h)
     c.read_parts.ensures.cost
@@ -103,16 +98,14 @@ returns-clause-borrowed g c = λ branch atom which columns h.
     → AllPlainIn c.args.groups.now x.part.1 x.part.0 which columns (pieces_of x.pieces.items))
     (sym c.deref.ensures.value)
     (plan_plain c.args.groups.now (versions_in c.args.groups.now)
-    (book_of (λ r. (goal.Rule-dyn g (r.vtable, r.value)).handles r.value)
-    (λ r. (goal.Rule-dyn g (r.vtable, r.value)).answers r.value) c.args.book.now.rules.items)
+    (book_of g.R.Rule.handles g.R.Rule.answers c.args.book.now.rules.items)
     c.args.route.now.asked c.args.table.now (read_asked c.args.question.now) branch atom
     c.args.route.now.parts.items c.in_ok-plan.plan.items which columns c.in_ok-plan.ensures h)))
 
 pub returns-clause-least : goal.returns-clause-least
 returns-clause-least g c = λ branch atom e h.
     let x = plan_least c.args.groups.now (versions_in c.args.groups.now)
-    (book_of (λ r. (goal.Rule-dyn g (r.vtable, r.value)).handles r.value)
-    (λ r. (goal.Rule-dyn g (r.vtable, r.value)).answers r.value) c.args.book.now.rules.items)
+    (book_of g.R.Rule.handles g.R.Rule.answers c.args.book.now.rules.items)
     c.args.route.now.asked c.args.table.now (read_asked c.args.question.now) branch atom
     c.args.route.now.parts.items c.in_ok-plan.plan.items c.in_ok-plan.ensures e h in
     from_part (explained_read c.args.groups.now e) (part_read c.args.groups.now x.0)

@@ -27,38 +27,31 @@ pieces_along-requires-2-clause-along g c =
 pub returns : goal.returns
 returns g c =
     let r = read_asked c.args.question.now in
-    subst (λ (ps : List Part). ArePlanned (book_of
-    (λ r. (goal.Rule-dyn g (r.vtable, r.value)).handles r.value)
-    (λ r. (goal.Rule-dyn g (r.vtable, r.value)).answers r.value) c.args.book.now.rules.items)
+    subst (λ (ps : List Part). ArePlanned
+    (book_of g.R.Rule.handles g.R.Rule.answers c.args.book.now.rules.items)
     (versions_in c.args.groups.now) c.args.route.now.asked c.args.table.now r ps
     c.append.new.self.items) (sym c.requires.route.order)
     (subst (λ (xs : List PartPieces). ArePlanned
-    (book_of (λ r. (goal.Rule-dyn g (r.vtable, r.value)).handles r.value)
-    (λ r. (goal.Rule-dyn g (r.vtable, r.value)).answers r.value) c.args.book.now.rules.items)
+    (book_of g.R.Rule.handles g.R.Rule.answers c.args.book.now.rules.items)
     (versions_in c.args.groups.now) c.args.route.now.asked c.args.table.now r
     (reverse c.args.route.now.earlier.items ++ c.args.route.now.later.items) xs)
     (sym c.in_ok-append.ensures.items)
-    (planned_joined (book_of (λ r. (goal.Rule-dyn g (r.vtable, r.value)).handles r.value)
-    (λ r. (goal.Rule-dyn g (r.vtable, r.value)).answers r.value) c.args.book.now.rules.items)
+    (planned_joined (book_of g.R.Rule.handles g.R.Rule.answers c.args.book.now.rules.items)
     (versions_in c.args.groups.now) c.args.route.now.asked c.args.table.now r
     (reverse c.args.route.now.earlier.items) c.args.route.now.later.items
     c.reverse.new.self.items c.in_ok-later.later.items
     (subst (λ (xs : List PartPieces). ArePlanned
-    (book_of (λ r. (goal.Rule-dyn g (r.vtable, r.value)).handles r.value)
-    (λ r. (goal.Rule-dyn g (r.vtable, r.value)).answers r.value) c.args.book.now.rules.items)
+    (book_of g.R.Rule.handles g.R.Rule.answers c.args.book.now.rules.items)
     (versions_in c.args.groups.now) c.args.route.now.asked c.args.table.now r
     (reverse c.args.route.now.earlier.items) xs) (sym c.reverse.ensures.items)
-    (planned_reversed (book_of (λ r. (goal.Rule-dyn g (r.vtable, r.value)).handles r.value)
-    (λ r. (goal.Rule-dyn g (r.vtable, r.value)).answers r.value) c.args.book.now.rules.items)
+    (planned_reversed (book_of g.R.Rule.handles g.R.Rule.answers c.args.book.now.rules.items)
     (versions_in c.args.groups.now) c.args.route.now.asked c.args.table.now r
     c.args.route.now.earlier.items c.in_ok-plan.plan.items
     (subst (λ (ps : List Part). ArePlanned
-    (book_of (λ r. (goal.Rule-dyn g (r.vtable, r.value)).handles r.value)
-    (λ r. (goal.Rule-dyn g (r.vtable, r.value)).answers r.value) c.args.book.now.rules.items)
+    (book_of g.R.Rule.handles g.R.Rule.answers c.args.book.now.rules.items)
     (versions_in c.args.groups.now) c.args.route.now.asked c.args.table.now r ps
     c.in_ok-plan.plan.items) c.deref.ensures.value c.in_ok-plan.ensures)))
     (subst (λ (ps : List Part). ArePlanned
-    (book_of (λ r. (goal.Rule-dyn g (r.vtable, r.value)).handles r.value)
-    (λ r. (goal.Rule-dyn g (r.vtable, r.value)).answers r.value) c.args.book.now.rules.items)
+    (book_of g.R.Rule.handles g.R.Rule.answers c.args.book.now.rules.items)
     (versions_in c.args.groups.now) c.args.route.now.asked c.args.table.now r ps
     c.in_ok-later.later.items) c.deref-2.ensures.value c.in_ok-later.ensures)))

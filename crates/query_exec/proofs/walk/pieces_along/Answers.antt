@@ -27,8 +27,7 @@ loop-part-init g c = record {
   there = omega (arith, c.in_ok-start.ensures.version, c.requires.along.here);
   way = subst (λ (v : ℕ). LeadAway c.args.asked v c.args.parts.now)
       (sym c.in_ok-start.ensures.version) c.requires.along.way;
-  stand = stand_first (book_of (λ r. (goal.Rule-dyn g (r.vtable, r.value)).handles r.value)
-      (λ r. (goal.Rule-dyn g (r.vtable, r.value)).answers r.value) c.args.book.now.rules.items)
+  stand = stand_first (book_of g.R.Rule.handles g.R.Rule.answers c.args.book.now.rules.items)
       (versions_of c.versions-versions.result.now) c.in_ok-start.start.version
       c.args.asked c.args.table.now (read_asked c.args.question.now)
       (pieces_of c.in_ok-start.start.pieces.items) c.in_ok-start.ensures.version
@@ -36,8 +35,7 @@ loop-part-init g c = record {
       first_piece c.args.table.now (asking (read_asked c.args.question.now).test ns) ∷ [])
       c.deref.ensures.value);
   planned = subst (λ (xs : List PartPieces). ArePlanned
-      (book_of (λ r. (goal.Rule-dyn g (r.vtable, r.value)).handles r.value)
-      (λ r. (goal.Rule-dyn g (r.vtable, r.value)).answers r.value) c.args.book.now.rules.items)
+      (book_of g.R.Rule.handles g.R.Rule.answers c.args.book.now.rules.items)
       (versions_in c.args.groups.now) c.args.asked c.args.table.now
       (read_asked c.args.question.now) [] xs) (sym c.new-plan.ensures.items) tt;
 }
@@ -72,9 +70,8 @@ to-requires-clause-pieces g c =
     ap (λ (vs : List Version). map version_of vs) c.versions-versions.ensures in
     let next = next_away parts i p below is c.args.asked c.loop-part.walk.version
     c.loop-part.invariant.way in
-    ready_here c.args.groups.now (book_of (λ r.
-    (goal.Rule-dyn g (r.vtable, r.value)).handles r.value)
-    (λ r. (goal.Rule-dyn g (r.vtable, r.value)).answers r.value) c.args.book.now.rules.items)
+    ready_here c.args.groups.now (book_of g.R.Rule.handles g.R.Rule.answers
+    c.args.book.now.rules.items)
     (versions_of c.versions-versions.result.now) same c.args.asked c.args.table.now
     (read_asked c.args.question.now) parts c.requires.along c.loop-part.walk.version
     (pieces_of c.loop-part.walk.pieces.items) p (among_taken parts i p below is) next.0
@@ -102,23 +99,20 @@ part_pieces-requires-clause-typed g c =
     c.loop-part.invariant.way in
     let same : versions_of c.versions-versions.result.now ≡ versions_in c.args.groups.now =
     ap (λ (vs : List Version). map version_of vs) c.versions-versions.ensures in
-    let stand : StandFor (book_of (λ r. (goal.Rule-dyn g (r.vtable, r.value)).handles r.value)
-    (λ r. (goal.Rule-dyn g (r.vtable, r.value)).answers r.value) c.args.book.now.rules.items)
+    let stand : StandFor (book_of g.R.Rule.handles g.R.Rule.answers c.args.book.now.rules.items)
     (versions_of c.versions-versions.result.now) p.1 c.args.asked c.args.table.now
     (read_asked c.args.question.now) (pieces_of c.in_ok-walk.walk.pieces.items) =
     c.in_ok-walk.ensures.pieces c.args.asked c.args.table.now (read_asked c.args.question.now)
     next.0
-    (λ on. kept_here c.args.groups.now (book_of (λ r.
-    (goal.Rule-dyn g (r.vtable, r.value)).handles r.value)
-    (λ r. (goal.Rule-dyn g (r.vtable, r.value)).answers r.value) c.args.book.now.rules.items)
+    (λ on. kept_here c.args.groups.now (book_of g.R.Rule.handles g.R.Rule.answers
+    c.args.book.now.rules.items)
     (versions_of c.versions-versions.result.now) same c.args.asked c.args.table.now
     (read_asked c.args.question.now) parts c.requires.along p (among_taken parts i p below is))
     c.loop-part.invariant.stand in
     subst (λ (ps : List Piece). AllTyped (tables_from no_tables (versions_in c.args.groups.now) p.1)
     (pieces_of ps)) (sym c.deref-in-loop-part.ensures.value)
-    (here_typed c.args.groups.now (book_of (λ r.
-    (goal.Rule-dyn g (r.vtable, r.value)).handles r.value)
-    (λ r. (goal.Rule-dyn g (r.vtable, r.value)).answers r.value) c.args.book.now.rules.items)
+    (here_typed c.args.groups.now (book_of g.R.Rule.handles g.R.Rule.answers
+    c.args.book.now.rules.items)
     (versions_of c.versions-versions.result.now) same c.args.asked c.args.table.now
     (read_asked c.args.question.now) parts c.requires.along c.known.ensures p.1
     (pieces_of c.in_ok-walk.walk.pieces.items) stand)
@@ -134,15 +128,13 @@ loop-part-preserved g c =
     c.loop-part.invariant.way in
     let same : versions_of c.versions-versions.result.now ≡ versions_in c.args.groups.now =
     ap (λ (vs : List Version). map version_of vs) c.versions-versions.ensures in
-    let stand : StandFor (book_of (λ r. (goal.Rule-dyn g (r.vtable, r.value)).handles r.value)
-    (λ r. (goal.Rule-dyn g (r.vtable, r.value)).answers r.value) c.args.book.now.rules.items)
+    let stand : StandFor (book_of g.R.Rule.handles g.R.Rule.answers c.args.book.now.rules.items)
     (versions_of c.versions-versions.result.now) p.1 c.args.asked c.args.table.now
     (read_asked c.args.question.now) (pieces_of c.in_ok-walk.walk.pieces.items) =
     c.in_ok-walk.ensures.pieces c.args.asked c.args.table.now (read_asked c.args.question.now)
     next.0
-    (λ on. kept_here c.args.groups.now (book_of (λ r.
-    (goal.Rule-dyn g (r.vtable, r.value)).handles r.value)
-    (λ r. (goal.Rule-dyn g (r.vtable, r.value)).answers r.value) c.args.book.now.rules.items)
+    (λ on. kept_here c.args.groups.now (book_of g.R.Rule.handles g.R.Rule.answers
+    c.args.book.now.rules.items)
     (versions_of c.versions-versions.result.now) same c.args.asked c.args.table.now
     (read_asked c.args.question.now) parts c.requires.along p (among_taken parts i p below is))
     c.loop-part.invariant.stand in
@@ -153,32 +145,27 @@ loop-part-preserved g c =
       there = omega (arith, c.in_ok-walk.ensures.version, within);
       way = subst (λ (v : ℕ). LeadAway c.args.asked v (drop (i + 1) parts))
           (sym c.in_ok-walk.ensures.version) next.1;
-      stand = subst (λ (v : ℕ). StandFor (book_of
-          (λ r. (goal.Rule-dyn g (r.vtable, r.value)).handles r.value)
-          (λ r. (goal.Rule-dyn g (r.vtable, r.value)).answers r.value) c.args.book.now.rules.items)
+      stand = subst (λ (v : ℕ). StandFor (book_of g.R.Rule.handles g.R.Rule.answers
+          c.args.book.now.rules.items)
           (versions_of c.versions-versions.result.now) v c.args.asked c.args.table.now
           (read_asked c.args.question.now) (pieces_of c.in_ok-walk.walk.pieces.items))
           (sym c.in_ok-walk.ensures.version) stand;
       planned = subst (λ (ps : List Part). ArePlanned
-          (book_of (λ r. (goal.Rule-dyn g (r.vtable, r.value)).handles r.value)
-          (λ r. (goal.Rule-dyn g (r.vtable, r.value)).answers r.value) c.args.book.now.rules.items)
+          (book_of g.R.Rule.handles g.R.Rule.answers c.args.book.now.rules.items)
           (versions_in c.args.groups.now) c.args.asked c.args.table.now r ps
           c.push.new.self.items) (sym (taken_is parts i p below is))
-          (planned_last (book_of (λ r. (goal.Rule-dyn g (r.vtable, r.value)).handles r.value)
-          (λ r. (goal.Rule-dyn g (r.vtable, r.value)).answers r.value)
-          c.args.book.now.rules.items) (versions_in c.args.groups.now) c.args.asked
+          (planned_last (book_of g.R.Rule.handles g.R.Rule.answers c.args.book.now.rules.items)
+          (versions_in c.args.groups.now) c.args.asked
           c.args.table.now r (take i parts) p c.loop-part.plan.items c.push.new.self.items x
           c.in_ok-push.ensures.items c.loop-part.invariant.planned
-          (one_planned (book_of (λ r. (goal.Rule-dyn g (r.vtable, r.value)).handles r.value)
-          (λ r. (goal.Rule-dyn g (r.vtable, r.value)).answers r.value)
-          c.args.book.now.rules.items) (versions_in c.args.groups.now) c.args.asked
+          (one_planned (book_of g.R.Rule.handles g.R.Rule.answers c.args.book.now.rules.items)
+          (versions_in c.args.groups.now) c.args.asked
           c.args.table.now r p x (pieces_of c.deref-in-loop-part.result.now)
           c.in_ok-part_pieces.ensures.part
           (ap pieces_of c.deref-in-loop-part.ensures.value
           ∙ (stand_here c.args.groups.now
-          (book_of (λ r. (goal.Rule-dyn g (r.vtable, r.value)).handles r.value)
-          (λ r. (goal.Rule-dyn g (r.vtable, r.value)).answers r.value)
-          c.args.book.now.rules.items) (versions_of c.versions-versions.result.now) same
+          (book_of g.R.Rule.handles g.R.Rule.answers c.args.book.now.rules.items)
+          (versions_of c.versions-versions.result.now) same
           c.args.asked c.args.table.now r parts c.requires.along p.1
           (pieces_of c.in_ok-walk.walk.pieces.items) stand).unfolded)
           c.in_ok-part_pieces.ensures.living c.in_ok-part_pieces.ensures.told));
@@ -187,9 +174,8 @@ loop-part-preserved g c =
 pub returns : goal.returns
 returns g c =
     let parts : List Part = c.args.parts.now in
-    subst (λ (ps : List Part). ArePlanned (book_of
-    (λ r. (goal.Rule-dyn g (r.vtable, r.value)).handles r.value)
-    (λ r. (goal.Rule-dyn g (r.vtable, r.value)).answers r.value) c.args.book.now.rules.items)
+    subst (λ (ps : List Part). ArePlanned
+    (book_of g.R.Rule.handles g.R.Rule.answers c.args.book.now.rules.items)
     (versions_in c.args.groups.now) c.args.asked c.args.table.now
     (read_asked c.args.question.now) ps c.loop-part.plan.items)
     (take_all c.loop-part.part-index c.args.parts.now c.loop-part-test.false)

@@ -13,12 +13,10 @@ abbrev pub invariant-loop-part : goal.invariant-loop-part
 invariant-loop-part g l = record {
   there : l.walk.version ≤ length (versions_in l.groups);
   way : LeadAway l.asked l.walk.version (drop l.part-index l.parts);
-  stand : StandFor (book_of (λ r. (goal.Rule-dyn g (r.vtable, r.value)).handles r.value)
-      (λ r. (goal.Rule-dyn g (r.vtable, r.value)).answers r.value) l.book.rules.items)
+  stand : StandFor (book_of g.R.Rule.handles g.R.Rule.answers l.book.rules.items)
       (versions_of l.versions) l.walk.version l.asked l.fn.table (read_asked l.question)
       (pieces_of l.walk.pieces.items);
-  planned : ArePlanned (book_of (λ r. (goal.Rule-dyn g (r.vtable, r.value)).handles r.value)
-      (λ r. (goal.Rule-dyn g (r.vtable, r.value)).answers r.value) l.book.rules.items)
+  planned : ArePlanned (book_of g.R.Rule.handles g.R.Rule.answers l.book.rules.items)
       (versions_in l.groups) l.asked l.fn.table (read_asked l.question)
       (take l.part-index l.parts) l.plan.items;
 }

@@ -16,11 +16,9 @@ rewrite-requires-clause-typed g c =
 pub loop-piece-preserved : goal.loop-piece-preserved
 loop-piece-preserved g c =
     let below : c.loop-piece.piece-index < length c.args.pieces.now = omega arith in
-    more_of (book_of (λ r. (goal.Rule-dyn g (r.vtable, r.value)).handles r.value)
-    (λ r. (goal.Rule-dyn g (r.vtable, r.value)).answers r.value) c.args.book.now.rules.items)
+    more_of (book_of g.R.Rule.handles g.R.Rule.answers c.args.book.now.rules.items)
     (operator_of c.args.op.now) c.args.before.now c.loop-piece.all.items c.in_ok-news.news.items
     c.append.new.self.items c.args.pieces.now c.loop-piece.piece-index c.piece-item.result
-    (through (book_of (λ r. (goal.Rule-dyn g (r.vtable, r.value)).handles r.value)
-    (λ r. (goal.Rule-dyn g (r.vtable, r.value)).answers r.value) c.args.book.now.rules.items)
+    (through (book_of g.R.Rule.handles g.R.Rule.answers c.args.book.now.rules.items)
     (operator_of c.args.op.now) c.args.before.now (pieces_of c.args.pieces.now)) below
     c.piece-item.is c.in_ok-news.ensures c.in_ok-append.ensures.items c.loop-piece.invariant

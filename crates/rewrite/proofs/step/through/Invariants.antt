@@ -8,10 +8,7 @@ use Rattle.rewrite.proofs.step.through.Given as goal
 -- what was made of the pieces so far, and what is to be made of those that are left
 abbrev pub invariant-loop-piece : goal.invariant-loop-piece
 invariant-loop-piece g l =
-    pieces_of l.all.items ++ through (book_of
-    (λ r. (goal.Rule-dyn g (r.vtable, r.value)).handles r.value)
-    (λ r. (goal.Rule-dyn g (r.vtable, r.value)).answers r.value) l.book.rules.items)
+    pieces_of l.all.items ++ through (book_of g.R.Rule.handles g.R.Rule.answers l.book.rules.items)
     (operator_of l.op) l.before (pieces_of (drop l.piece-index l.pieces))
-    ≡ through (book_of (λ r. (goal.Rule-dyn g (r.vtable, r.value)).handles r.value)
-    (λ r. (goal.Rule-dyn g (r.vtable, r.value)).answers r.value) l.book.rules.items)
+    ≡ through (book_of g.R.Rule.handles g.R.Rule.answers l.book.rules.items)
     (operator_of l.op) l.before (pieces_of l.pieces)

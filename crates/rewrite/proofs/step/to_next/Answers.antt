@@ -19,8 +19,7 @@ returns-then-is_empty g c =
     omega (arith, when_empty c.index-version.result.now.inverse.len c.if-is_empty.ensures) in
     back_stays c.args.versions.now.list.items c.requires.versions c.args.k
     c.index-version.result.now below c.index-version.ensures
-    (book_of (λ r. (goal.Rule-dyn g (r.vtable, r.value)).handles r.value)
-    (λ r. (goal.Rule-dyn g (r.vtable, r.value)).answers r.value) c.args.book.now.rules.items)
+    (book_of g.R.Rule.handles g.R.Rule.answers c.args.book.now.rules.items)
     (pieces_of c.args.pieces.items) none
 
 pub through_each-requires-clause-valid : goal.through_each-requires-clause-valid
@@ -65,13 +64,11 @@ returns g c =
     omega (arith, c.requires.there) in
     IfOk-weaker c.through_each.result _ _ (λ news h.
     back_is c.args.versions.now.list.items c.requires.versions c.args.k c.index-version.result.now
-    below c.index-version.ensures (book_of
-    (λ r. (goal.Rule-dyn g (r.vtable, r.value)).handles r.value)
-    (λ r. (goal.Rule-dyn g (r.vtable, r.value)).answers r.value) c.args.book.now.rules.items)
+    below c.index-version.ensures (book_of g.R.Rule.handles g.R.Rule.answers
+    c.args.book.now.rules.items)
     (pieces_of c.args.pieces.items) (pieces_of news.items)
-    (h ∙ ap (λ ops. through_each (book_of (λ r.
-    (goal.Rule-dyn g (r.vtable, r.value)).handles r.value)
-    (λ r. (goal.Rule-dyn g (r.vtable, r.value)).answers r.value) c.args.book.now.rules.items)
+    (h ∙ ap (λ ops. through_each (book_of g.R.Rule.handles g.R.Rule.answers
+    c.args.book.now.rules.items)
     c.index-version.result.now.schema (operators_of ops) (pieces_of c.args.pieces.items))
     c.deref.ensures.value))
     c.through_each.ensures

@@ -35,9 +35,8 @@ returns g c =
     omega (arith, c.requires.there) in
     IfOk-weaker c.through.result _ _ (λ news h.
     step_is c.args.versions.now.list.items c.requires.versions c.args.k c.index-version.result.now
-    below c.index-version.ensures (book_of
-    (λ r. (goal.Rule-dyn g (r.vtable, r.value)).handles r.value)
-    (λ r. (goal.Rule-dyn g (r.vtable, r.value)).answers r.value) c.args.book.now.rules.items)
+    below c.index-version.ensures (book_of g.R.Rule.handles g.R.Rule.answers
+    c.args.book.now.rules.items)
     c.tables_at-before.result.now (pieces_of c.args.pieces.now) (pieces_of news.items)
     c.tables_at-before.ensures h)
     c.through.ensures

@@ -16,16 +16,14 @@ returns-clause-means g c = λ hold db h.
     ap (all_mean (tables_from no_tables (versions_of c.args.versions.now) c.args.stored) db)
     c.in_ok-pieces.ensures.unfolded
     ∙ table_means (versions_of c.args.versions.now) c.requires.question.valid
-    (book_of (λ r. (goal.Rule-dyn g (r.vtable, r.value)).handles r.value)
-    (λ r. (goal.Rule-dyn g (r.vtable, r.value)).answers r.value) c.args.book.now.rules.items)
+    (book_of g.R.Rule.handles g.R.Rule.answers c.args.book.now.rules.items)
     c.known.ensures c.args.stored c.args.asked c.args.table.now
     (asking (test c.args.cond.now) c.args.columns.now) c.requires.question.question
     c.in_ok-pieces.ensures.kept hold db h
 
 pub returns-clause-typed : goal.returns-clause-typed
 returns-clause-typed g c =
-    stand_typed (book_of (λ r. (goal.Rule-dyn g (r.vtable, r.value)).handles r.value)
-    (λ r. (goal.Rule-dyn g (r.vtable, r.value)).answers r.value) c.args.book.now.rules.items)
+    stand_typed (book_of g.R.Rule.handles g.R.Rule.answers c.args.book.now.rules.items)
     (versions_of c.args.versions.now) c.args.stored c.args.asked c.args.table.now
     (asking (test c.args.cond.now) c.args.columns.now) c.known.ensures
     (pieces_of c.in_ok-pieces.pieces.items) c.requires.question c.in_ok-pieces.ensures
@@ -33,8 +31,7 @@ returns-clause-typed g c =
 pub returns-clause-outputs : goal.returns-clause-outputs
 returns-clause-outputs g c = λ p m.
     table_output (versions_of c.args.versions.now) c.requires.question.valid
-    (book_of (λ r. (goal.Rule-dyn g (r.vtable, r.value)).handles r.value)
-    (λ r. (goal.Rule-dyn g (r.vtable, r.value)).answers r.value) c.args.book.now.rules.items)
+    (book_of g.R.Rule.handles g.R.Rule.answers c.args.book.now.rules.items)
     c.known.ensures c.args.stored c.args.asked c.args.table.now
     (asking (test c.args.cond.now) c.args.columns.now) c.requires.question.question
     c.in_ok-pieces.ensures.kept p

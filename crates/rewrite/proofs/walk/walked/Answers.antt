@@ -22,8 +22,7 @@ to-requires-clause-pieces g c = record {
   };
   question = c.requires.question;
   kept = λ on. c.requires.kept;
-  stand = stand_first (book_of (λ r. (goal.Rule-dyn g (r.vtable, r.value)).handles r.value)
-      (λ r. (goal.Rule-dyn g (r.vtable, r.value)).answers r.value) c.args.book.now.rules.items)
+  stand = stand_first (book_of g.R.Rule.handles g.R.Rule.answers c.args.book.now.rules.items)
       (versions_of c.args.versions.now) c.in_ok-start.start.version c.args.asked c.args.table.now
       (asking (test c.args.cond.now) c.args.columns.now)
       (pieces_of c.in_ok-start.start.pieces.items) c.in_ok-start.ensures.version
@@ -38,8 +37,7 @@ returns g c =
     } in
     c.in_ok-walk.ensures.pieces c.args.asked c.args.table.now
     (asking (test c.args.cond.now) c.args.columns.now) way (λ on. c.requires.kept)
-    (stand_first (book_of (λ r. (goal.Rule-dyn g (r.vtable, r.value)).handles r.value)
-    (λ r. (goal.Rule-dyn g (r.vtable, r.value)).answers r.value) c.args.book.now.rules.items)
+    (stand_first (book_of g.R.Rule.handles g.R.Rule.answers c.args.book.now.rules.items)
     (versions_of c.args.versions.now) c.in_ok-start.start.version c.args.asked c.args.table.now
     (asking (test c.args.cond.now) c.args.columns.now)
     (pieces_of c.in_ok-start.start.pieces.items) c.in_ok-start.ensures.version

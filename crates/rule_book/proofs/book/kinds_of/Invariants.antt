@@ -2,5 +2,4 @@ use Rattle.std.proofs.Common.{◌≡◌, map, take}
 use Rattle.rule_book.proofs.book.kinds_of.Given as goal
 
 abbrev pub invariant-loop-rule : goal.invariant-loop-rule
-invariant-loop-rule g l = l.kinds.items ≡ map
-    (λ r. (goal.Rule-dyn g (r.vtable, r.value)).handles r.value) (take l.rule-index l.rules)
+invariant-loop-rule g l = l.kinds.items ≡ map g.R.Rule.handles (take l.rule-index l.rules)

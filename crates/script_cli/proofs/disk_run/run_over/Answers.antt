@@ -40,25 +40,21 @@ returns-in-Ok-clause-runs g c =
     let M = g.D.Disk.meaning in
     let has = c.in-Ok.ensures.opened in
     let start = start_of (M c.args.disk) c.args.limit
-    (book_of (λ r. (goal.Rule-dyn g (r.vtable, r.value)).handles r.value)
-    (λ r. (goal.Rule-dyn g (r.vtable, r.value)).answers r.value) c.args.book.now.rules.items)
+    (book_of g.R.Rule.handles g.R.Rule.answers c.args.book.now.rules.items)
     c.in-Ok.archive has in
     let drove = c.drive-driven.ensures.drove (given_by c.args.limit
-    (book_of (λ r. (goal.Rule-dyn g (r.vtable, r.value)).handles r.value)
-    (λ r. (goal.Rule-dyn g (r.vtable, r.value)).answers r.value) c.args.book.now.rules.items))
+    (book_of g.R.Rule.handles g.R.Rule.answers c.args.book.now.rules.items))
     refl start.0 start.1 in
     let new = c.drive-driven.new.archive in
     subst (λ d. RunsOver (given_by c.args.limit
-    (book_of (λ r. (goal.Rule-dyn g (r.vtable, r.value)).handles r.value)
-    (λ r. (goal.Rule-dyn g (r.vtable, r.value)).answers r.value) c.args.book.now.rules.items))
+    (book_of g.R.Rule.handles g.R.Rule.answers c.args.book.now.rules.items))
     c.drive-driven.result.status (g.S.Source.left c.args.source.now)
     (g.S.Source.left c.drive-driven.new.source) (g.K.Sink.written c.args.sink.now)
     (g.K.Sink.written c.drive-driven.new.sink)
     (g.K.Sink.faults c.args.sink.now) (g.K.Sink.faults c.drive-driven.new.sink) (M c.args.disk)
     (M d)) (sym c.into_disk.ensures)
     (inr (ran_opened c.a_file_opens_or_is_damaged.ensures.one (M c.args.disk) c.args.limit
-    (book_of (λ r. (goal.Rule-dyn g (r.vtable, r.value)).handles r.value)
-    (λ r. (goal.Rule-dyn g (r.vtable, r.value)).answers r.value) c.args.book.now.rules.items)
+    (book_of g.R.Rule.handles g.R.Rule.answers c.args.book.now.rules.items)
     c.in-Ok.archive has start.0 start.2 c.drive-driven.result.status _ _ _ _ (below new)
     (g.met.D.Disk.valid new.journal.disk) drove))
 
@@ -67,12 +63,10 @@ returns-in-Ok-clause-goes g c =
     let M = g.D.Disk.meaning in
     let has = c.in-Ok.ensures.opened in
     let start = start_of (M c.args.disk) c.args.limit
-    (book_of (λ r. (goal.Rule-dyn g (r.vtable, r.value)).handles r.value)
-    (λ r. (goal.Rule-dyn g (r.vtable, r.value)).answers r.value) c.args.book.now.rules.items)
+    (book_of g.R.Rule.handles g.R.Rule.answers c.args.book.now.rules.items)
     c.in-Ok.archive has in
     let drove = c.drive-driven.ensures.drove (given_by c.args.limit
-    (book_of (λ r. (goal.Rule-dyn g (r.vtable, r.value)).handles r.value)
-    (λ r. (goal.Rule-dyn g (r.vtable, r.value)).answers r.value) c.args.book.now.rules.items))
+    (book_of g.R.Rule.handles g.R.Rule.answers c.args.book.now.rules.items))
     refl start.0 start.1 in
     let new = c.drive-driven.new.archive in
     subst (λ d. GoesOn (M c.args.disk) (M d)) (sym c.into_disk.ensures)

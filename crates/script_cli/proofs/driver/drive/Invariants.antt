@@ -11,8 +11,7 @@ use Rattle.script_cli.proofs.driver.drive.Given as goal
 abbrev pub invariant-turns : goal.invariant-turns
 invariant-turns g l = record {
   reached : (limit : Given) → limit.book ≡ book_of
-      (λ r. (goal.Rule-dyn g (r.vtable, r.value)).handles r.value)
-      (λ r. (goal.Rule-dyn g (r.vtable, r.value)).answers r.value) l.book.rules.items
+      g.R.Rule.handles g.R.Rule.answers l.book.rules.items
       → (start : Recorded) → RepresentsAt l.initial.archive limit start
       → Reached limit start l.initial.archive l.archive (g.S.Source.left l.initial.source)
       (g.S.Source.left l.source) (g.K.Sink.written l.initial.sink) (g.K.Sink.written l.sink)

@@ -37,8 +37,7 @@ returns-in-Some-clause-samples g c = λ limit size for.
     let same = same_request (asked (map string_bytes c.args.words.now)) c.in-Some.request limit size
     (sym c.in-Ok.ensures.asked ∙ c.in-Some.is) for in
     inr (subst (λ n. SamplesOver size (given_by n
-    (book_of (λ r. (goal.Rule-dyn g (r.vtable, r.value)).handles r.value)
-    (λ r. (goal.Rule-dyn g (r.vtable, r.value)).answers r.value) c.args.book.now.rules.items))
+    (book_of g.R.Rule.handles g.R.Rule.answers c.args.book.now.rules.items))
     c.perform.result (g.S.Source.left c.args.source.now) (g.S.Source.left c.perform.new.source)
     (g.K.Sink.written c.args.sink.now) (g.K.Sink.written c.perform.new.sink)
     (g.K.Sink.faults c.args.sink.now) (g.K.Sink.faults c.perform.new.sink) (M c.args.disk.now)

@@ -16,8 +16,7 @@ pub returns-in-Run-clause-words : goal.returns-in-Run-clause-words
 returns-in-Run-clause-words g c = λ is.
     let M = g.D.Disk.meaning in
     over_not_words (given_by c.args.request.journal_limit
-    (book_of (λ r. (goal.Rule-dyn g (r.vtable, r.value)).handles r.value)
-    (λ r. (goal.Rule-dyn g (r.vtable, r.value)).answers r.value) c.args.book.now.rules.items))
+    (book_of g.R.Rule.handles g.R.Rule.answers c.args.book.now.rules.items))
     c.run_borrowed.result _ _ _ _ _ _ (M c.args.disk.now) (M c.run_borrowed.new.disk)
     c.run_borrowed.ensures.runs is
 
@@ -27,9 +26,8 @@ returns-in-Run-clause-runs g c = λ limit for.
     let here : Some c.args.request.journal_limit ≡ Some limit =
     sym (ap (λ m. limit_in m c.args.request.journal_limit) c.in-Run.is) ∙ for in
     let same : c.args.request.journal_limit ≡ limit = cc in
-    subst (λ n. RunsOver (given_by n (book_of
-    (λ r. (goal.Rule-dyn g (r.vtable, r.value)).handles r.value)
-    (λ r. (goal.Rule-dyn g (r.vtable, r.value)).answers r.value) c.args.book.now.rules.items))
+    subst (λ n. RunsOver (given_by n (book_of g.R.Rule.handles g.R.Rule.answers
+    c.args.book.now.rules.items))
     c.run_borrowed.result (g.S.Source.left c.args.source.now)
     (g.S.Source.left c.run_borrowed.new.source) (g.K.Sink.written c.args.sink.now)
     (g.K.Sink.written c.run_borrowed.new.sink)
@@ -46,8 +44,7 @@ pub returns-in-Sample-clause-words : goal.returns-in-Sample-clause-words
 returns-in-Sample-clause-words g c = λ is.
     let M = g.D.Disk.meaning in
     sample_not_words c.in-Sample.size (given_by c.args.request.journal_limit
-    (book_of (λ r. (goal.Rule-dyn g (r.vtable, r.value)).handles r.value)
-    (λ r. (goal.Rule-dyn g (r.vtable, r.value)).answers r.value) c.args.book.now.rules.items))
+    (book_of g.R.Rule.handles g.R.Rule.answers c.args.book.now.rules.items))
     (sample_script c.in-Sample.size) c.sample_borrowed.result _ _ _ _ _ _ (M c.args.disk.now)
     (M c.sample_borrowed.new.disk)
     (c.sample_borrowed.ensures.samples None) is
@@ -65,8 +62,7 @@ returns-in-Sample-clause-samples g c = λ size for.
     let same : c.in-Sample.size ≡ size = cc in (
       refl,
       subst (λ n. SamplesOver n (given_by c.args.request.journal_limit
-          (book_of (λ r. (goal.Rule-dyn g (r.vtable, r.value)).handles r.value)
-          (λ r. (goal.Rule-dyn g (r.vtable, r.value)).answers r.value) c.args.book.now.rules.items))
+          (book_of g.R.Rule.handles g.R.Rule.answers c.args.book.now.rules.items))
           c.sample_borrowed.result left left (g.K.Sink.written c.args.sink.now)
           (g.K.Sink.written c.sample_borrowed.new.sink)
           (g.K.Sink.faults c.args.sink.now) (g.K.Sink.faults c.sample_borrowed.new.sink)
@@ -78,8 +74,7 @@ pub returns-in-Sample-clause-source : goal.returns-in-Sample-clause-source
 returns-in-Sample-clause-source g c =
     let M = g.D.Disk.meaning in
     sample_source c.in-Sample.size (given_by c.args.request.journal_limit
-    (book_of (λ r. (goal.Rule-dyn g (r.vtable, r.value)).handles r.value)
-    (λ r. (goal.Rule-dyn g (r.vtable, r.value)).answers r.value) c.args.book.now.rules.items))
+    (book_of g.R.Rule.handles g.R.Rule.answers c.args.book.now.rules.items))
     (sample_script c.in-Sample.size) c.sample_borrowed.result None None _ _ _ _
     (M c.args.disk.now) (M c.sample_borrowed.new.disk)
     (c.sample_borrowed.ensures.samples None) _

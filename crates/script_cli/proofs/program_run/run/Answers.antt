@@ -61,16 +61,14 @@ returns-clause-damaged g c = λ place is.
     (λ some. ⊎_elim
     (λ run. ⊎_elim
     (λ untouched. absurd (not_damaged_untouched M _ _ _ _ _ _ _ untouched place is))
-    (λ over. damaged_over (given_by run.0 (book_of
-    (λ r. (goal.Rule-dyn g (r.vtable, r.value)).handles r.value)
-    (λ r. (goal.Rule-dyn g (r.vtable, r.value)).answers r.value) c.args.book.now.rules.items)) _
+    (λ over. damaged_over (given_by run.0
+    (book_of g.R.Rule.handles g.R.Rule.answers c.args.book.now.rules.items)) _
     _ _ _ _ _ _ (M c.args.disk.now) (M c.judge_and_run.new.disk) place is over)
     (c.judge_and_run.ensures.runs run.0 run.1))
     (λ sample. ⊎_elim
     (λ untouched. absurd (not_damaged_untouched M _ _ _ _ _ _ _ untouched place is))
     (λ over. sample_damaged sample.1 (given_by sample.0
-    (book_of (λ r. (goal.Rule-dyn g (r.vtable, r.value)).handles r.value)
-    (λ r. (goal.Rule-dyn g (r.vtable, r.value)).answers r.value) c.args.book.now.rules.items))
+    (book_of g.R.Rule.handles g.R.Rule.answers c.args.book.now.rules.items))
     (sample_script sample.1) _ _ _ _ _ _ _ (M c.args.disk.now) (M c.judge_and_run.new.disk) over
     place is)
     (c.judge_and_run.ensures.samples sample.0 sample.1 sample.2))
@@ -82,9 +80,8 @@ returns-clause-refuses g c = λ limit file place asked seen damages.
     let M = g.D.Disk.meaning in
     ⊎_elim
     (λ untouched. refuses_untouched M _ _ _ _ _ _ _ untouched place)
-    (λ over. refuses_over (given_by limit (book_of
-    (λ r. (goal.Rule-dyn g (r.vtable, r.value)).handles r.value)
-    (λ r. (goal.Rule-dyn g (r.vtable, r.value)).answers r.value) c.args.book.now.rules.items)) _
+    (λ over. refuses_over (given_by limit
+    (book_of g.R.Rule.handles g.R.Rule.answers c.args.book.now.rules.items)) _
     _ _ _ _ _ _ (M c.args.disk.now) (M c.judge_and_run.new.disk)
     c.a_file_opens_or_is_damaged.ensures.place c.a_file_opens_or_is_damaged.ensures.apart file
     place seen damages over)
@@ -95,12 +92,10 @@ returns-clause-prefix g c = λ limit file opening asked seen opens.
     let M = g.D.Disk.meaning in
     ⊎_elim
     (λ untouched. prefix_untouched M _ _ _ _ _ _ _ untouched
-    (given_by limit (book_of (λ r. (goal.Rule-dyn g (r.vtable, r.value)).handles r.value)
-    (λ r. (goal.Rule-dyn g (r.vtable, r.value)).answers r.value) c.args.book.now.rules.items))
+    (given_by limit (book_of g.R.Rule.handles g.R.Rule.answers c.args.book.now.rules.items))
     (recorded opening))
-    (λ over. prefix_over (given_by limit (book_of
-    (λ r. (goal.Rule-dyn g (r.vtable, r.value)).handles r.value)
-    (λ r. (goal.Rule-dyn g (r.vtable, r.value)).answers r.value) c.args.book.now.rules.items)) _
+    (λ over. prefix_over (given_by limit (book_of g.R.Rule.handles g.R.Rule.answers
+    c.args.book.now.rules.items)) _
     _ _ _ _ _ _ (M c.args.disk.now) (M c.judge_and_run.new.disk)
     c.a_file_opens_or_is_damaged.ensures.one c.a_file_opens_or_is_damaged.ensures.apart file
     opening seen opens over)
@@ -111,9 +106,8 @@ returns-clause-whole g c = λ limit file opening asked seen opens is_whole.
     let M = g.D.Disk.meaning in
     ⊎_elim
     (λ untouched. absurd (not_whole_untouched M _ _ _ _ _ _ _ untouched is_whole))
-    (λ over. whole_over (given_by limit (book_of
-    (λ r. (goal.Rule-dyn g (r.vtable, r.value)).handles r.value)
-    (λ r. (goal.Rule-dyn g (r.vtable, r.value)).answers r.value) c.args.book.now.rules.items)) _
+    (λ over. whole_over (given_by limit (book_of g.R.Rule.handles g.R.Rule.answers
+    c.args.book.now.rules.items)) _
     _ _ _ _ _ _ (M c.args.disk.now) (M c.judge_and_run.new.disk)
     c.a_file_opens_or_is_damaged.ensures.one c.a_file_opens_or_is_damaged.ensures.apart file
     opening seen opens is_whole over)
@@ -124,12 +118,10 @@ returns-clause-crash g c = λ limit file opening asked honest seen opens.
     let M = g.D.Disk.meaning in
     ⊎_elim
     (λ untouched. crash_untouched M _ _ _ _ _ _ _ untouched (g.met.D.Disk.valid c.args.disk.now)
-    (given_by limit (book_of (λ r. (goal.Rule-dyn g (r.vtable, r.value)).handles r.value)
-    (λ r. (goal.Rule-dyn g (r.vtable, r.value)).answers r.value) c.args.book.now.rules.items))
+    (given_by limit (book_of g.R.Rule.handles g.R.Rule.answers c.args.book.now.rules.items))
     opening)
-    (λ over. crash_over (given_by limit (book_of
-    (λ r. (goal.Rule-dyn g (r.vtable, r.value)).handles r.value)
-    (λ r. (goal.Rule-dyn g (r.vtable, r.value)).answers r.value) c.args.book.now.rules.items)) _
+    (λ over. crash_over (given_by limit (book_of g.R.Rule.handles g.R.Rule.answers
+    c.args.book.now.rules.items)) _
     _ _ _ _ _ _ (M c.args.disk.now) (M c.judge_and_run.new.disk)
     c.a_file_opens_or_is_damaged.ensures.one c.a_file_opens_or_is_damaged.ensures.apart file
     opening seen opens honest over)
@@ -141,8 +133,7 @@ returns-clause-sample_refuses g c = λ limit size file place for seen damages.
     ⊎_elim
     (λ untouched. refuses_untouched M _ _ _ _ _ _ _ untouched place)
     (λ over. sample_refuses size (given_by limit
-    (book_of (λ r. (goal.Rule-dyn g (r.vtable, r.value)).handles r.value)
-    (λ r. (goal.Rule-dyn g (r.vtable, r.value)).answers r.value) c.args.book.now.rules.items))
+    (book_of g.R.Rule.handles g.R.Rule.answers c.args.book.now.rules.items))
     (sample_script size) _ _ _ _ _ _ _ (M c.args.disk.now) (M c.judge_and_run.new.disk) over
     c.a_file_opens_or_is_damaged.ensures.place c.a_file_opens_or_is_damaged.ensures.apart file
     place seen damages)
@@ -154,8 +145,7 @@ returns-clause-summary g c = λ limit size file opening for seen opens is_whole.
     ⊎_elim
     (λ untouched. absurd (not_whole_untouched M _ _ _ _ _ _ _ untouched is_whole))
     (λ over. sample_whole size (given_by limit
-    (book_of (λ r. (goal.Rule-dyn g (r.vtable, r.value)).handles r.value)
-    (λ r. (goal.Rule-dyn g (r.vtable, r.value)).answers r.value) c.args.book.now.rules.items))
+    (book_of g.R.Rule.handles g.R.Rule.answers c.args.book.now.rules.items))
     (sample_script size) _ _ _ _ _ _ _ (M c.args.disk.now) (M c.judge_and_run.new.disk) over
     c.a_file_opens_or_is_damaged.ensures.one file opening seen opens is_whole)
     (c.judge_and_run.ensures.samples limit size for)
@@ -166,8 +156,7 @@ returns-clause-held g c = λ limit size file opening for honest seen opens is_wh
     ⊎_elim
     (λ untouched. absurd (not_whole_untouched M _ _ _ _ _ _ _ untouched is_whole))
     (λ over. sample_held size (given_by limit
-    (book_of (λ r. (goal.Rule-dyn g (r.vtable, r.value)).handles r.value)
-    (λ r. (goal.Rule-dyn g (r.vtable, r.value)).answers r.value) c.args.book.now.rules.items))
+    (book_of g.R.Rule.handles g.R.Rule.answers c.args.book.now.rules.items))
     (sample_script size) _ _ _ _ _ _ _ (M c.args.disk.now) (M c.judge_and_run.new.disk) over
     c.a_file_opens_or_is_damaged.ensures.one file opening seen opens honest is_whole)
     (c.judge_and_run.ensures.samples limit size for)
@@ -183,8 +172,7 @@ returns-clause-sample_crash g c = λ limit size file opening for honest seen ope
           (g.met.D.Disk.valid c.args.disk.now) _,
     ))
     (λ over. sample_crash size (given_by limit
-    (book_of (λ r. (goal.Rule-dyn g (r.vtable, r.value)).handles r.value)
-    (λ r. (goal.Rule-dyn g (r.vtable, r.value)).answers r.value) c.args.book.now.rules.items))
+    (book_of g.R.Rule.handles g.R.Rule.answers c.args.book.now.rules.items))
     (sample_script size) _ _ _ _ _ _ _ (M c.args.disk.now) (M c.judge_and_run.new.disk) over
     c.a_file_opens_or_is_damaged.ensures.one file opening seen opens honest)
     (c.judge_and_run.ensures.samples limit size for)
@@ -203,9 +191,8 @@ returns-clause-sound g c = λ limit file opening asked honest seen sound.
     ⊎_elim
     (λ untouched. untouched_leaves M _ _ _ _ _ _ _ untouched (g.met.D.Disk.valid c.args.disk.now)
     IsSoundFile)
-    (λ over. sound_over (given_by limit (book_of
-    (λ r. (goal.Rule-dyn g (r.vtable, r.value)).handles r.value)
-    (λ r. (goal.Rule-dyn g (r.vtable, r.value)).answers r.value) c.args.book.now.rules.items)) _
+    (λ over. sound_over (given_by limit (book_of g.R.Rule.handles g.R.Rule.answers
+    c.args.book.now.rules.items)) _
     _ _ _ _ _ _ (M c.args.disk.now) (M c.judge_and_run.new.disk)
     c.a_file_opens_or_is_damaged.ensures.one c.a_file_opens_or_is_damaged.ensures.apart file
     opening seen (sound_opens file opening sound) honest sound.sound over)
@@ -218,8 +205,7 @@ returns-clause-sample_sound g c = λ limit size file opening for honest seen sou
     (λ untouched. untouched_leaves M _ _ _ _ _ _ _ untouched (g.met.D.Disk.valid c.args.disk.now)
     IsSoundFile)
     (λ over. sample_sound size (given_by limit
-    (book_of (λ r. (goal.Rule-dyn g (r.vtable, r.value)).handles r.value)
-    (λ r. (goal.Rule-dyn g (r.vtable, r.value)).answers r.value) c.args.book.now.rules.items))
+    (book_of g.R.Rule.handles g.R.Rule.answers c.args.book.now.rules.items))
     (sample_script size) _ _ _ _ _ _ _ (M c.args.disk.now) (M c.judge_and_run.new.disk) over
     c.a_file_opens_or_is_damaged.ensures.one file opening seen (sound_opens file opening sound)
     honest sound.sound)
@@ -237,8 +223,8 @@ returns-clause-answers g c =
 
 pub returns-clause-explains : goal.returns-clause-explains
 returns-clause-explains g c = λ limit opening statements text query are history read accepted.
-    let given = given_by limit (book_of (λ r. (goal.Rule-dyn g (r.vtable, r.value)).handles r.value)
-    (λ r. (goal.Rule-dyn g (r.vtable, r.value)).answers r.value) c.args.book.now.rules.items) in
+    let given = given_by limit (book_of g.R.Rule.handles g.R.Rule.answers
+    c.args.book.now.rules.items) in
     tells_pieces given c.known.ensures (recorded_after given (recorded opening) statements)
     (of_script c.an_image_shows_a_past.ensures.past given opening statements are history) text query
     read accepted

@@ -20,14 +20,12 @@ returns-clause-runs g c =
     let M = g.D.Disk.meaning in
     let back : c.disk-1.given.0 ≡ c.run_over-ended.result.1.now = search rules in
     subst (λ d. RunsOver (given_by c.args.limit
-    (book_of (λ r. (goal.Rule-dyn g (r.vtable, r.value)).handles r.value)
-    (λ r. (goal.Rule-dyn g (r.vtable, r.value)).answers r.value) c.args.book.now.rules.items))
+    (book_of g.R.Rule.handles g.R.Rule.answers c.args.book.now.rules.items))
     c.run_over-ended.result.0 (g.S.Source.left c.args.source.now)
     (g.S.Source.left c.run_over-ended.new.source) (g.K.Sink.written c.args.sink.now)
     (g.K.Sink.written c.run_over-ended.new.sink)
     (g.K.Sink.faults c.args.sink.now) (g.K.Sink.faults c.run_over-ended.new.sink)
     (M c.args.disk.now) (M d)) (sym back)
     (runs_borrowed _ _ (M c.args.disk.now) (M c.run_over-ended.result.1.now)
-    (given_by c.args.limit (book_of (λ r. (goal.Rule-dyn g (r.vtable, r.value)).handles r.value)
-    (λ r. (goal.Rule-dyn g (r.vtable, r.value)).answers r.value) c.args.book.now.rules.items))
+    (given_by c.args.limit (book_of g.R.Rule.handles g.R.Rule.answers c.args.book.now.rules.items))
     c.run_over-ended.result.0 _ _ _ _ _ _ c.run_over-ended.ensures.runs)

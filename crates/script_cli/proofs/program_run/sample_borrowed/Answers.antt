@@ -22,14 +22,12 @@ returns-clause-samples g c = λ left.
     let M = g.D.Disk.meaning in
     let back : c.disk-1.given.0 ≡ c.sample_over-ended.result.1.now = search rules in
     subst (λ d. SamplesOver c.args.size (given_by c.args.limit
-    (book_of (λ r. (goal.Rule-dyn g (r.vtable, r.value)).handles r.value)
-    (λ r. (goal.Rule-dyn g (r.vtable, r.value)).answers r.value) c.args.book.now.rules.items))
+    (book_of g.R.Rule.handles g.R.Rule.answers c.args.book.now.rules.items))
     c.sample_over-ended.result.0 left left (g.K.Sink.written c.args.sink.now)
     (g.K.Sink.written c.sample_over-ended.new.sink)
     (g.K.Sink.faults c.args.sink.now) (g.K.Sink.faults c.sample_over-ended.new.sink)
     (M c.args.disk.now) (M d)) (sym back)
     (borrowed_sample _ _ (M c.args.disk.now) (M c.sample_over-ended.result.1.now) c.args.size
-    (given_by c.args.limit (book_of (λ r. (goal.Rule-dyn g (r.vtable, r.value)).handles r.value)
-    (λ r. (goal.Rule-dyn g (r.vtable, r.value)).answers r.value) c.args.book.now.rules.items))
+    (given_by c.args.limit (book_of g.R.Rule.handles g.R.Rule.answers c.args.book.now.rules.items))
     (sample_script c.args.size) c.sample_over-ended.result.0 left left _ _ _ _
     (c.sample_over-ended.ensures.samples left))

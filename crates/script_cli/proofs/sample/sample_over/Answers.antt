@@ -43,35 +43,29 @@ returns-in-Ok-clause-samples g c = λ left.
     let has = c.in-Ok.ensures.opened in
     let script = sample_script c.args.size in
     let start = start_of (M c.args.disk) c.args.limit
-    (book_of (λ r. (goal.Rule-dyn g (r.vtable, r.value)).handles r.value)
-    (λ r. (goal.Rule-dyn g (r.vtable, r.value)).answers r.value) c.args.book.now.rules.items)
+    (book_of g.R.Rule.handles g.R.Rule.answers c.args.book.now.rules.items)
     c.in-Ok.archive has in
     let it = c.sample-status.ensures.drove (given_by c.args.limit
-    (book_of (λ r. (goal.Rule-dyn g (r.vtable, r.value)).handles r.value)
-    (λ r. (goal.Rule-dyn g (r.vtable, r.value)).answers r.value) c.args.book.now.rules.items))
+    (book_of g.R.Rule.handles g.R.Rule.answers c.args.book.now.rules.items))
     refl start.0 start.1 in
     let new = c.sample-status.new.archive in
     let law = g.met.D.Disk.valid new.journal.disk in
     let ran = ran_opened c.a_file_opens_or_is_damaged.ensures.one (M c.args.disk) c.args.limit
-    (book_of (λ r. (goal.Rule-dyn g (r.vtable, r.value)).handles r.value)
-    (λ r. (goal.Rule-dyn g (r.vtable, r.value)).answers r.value) c.args.book.now.rules.items)
+    (book_of g.R.Rule.handles g.R.Rule.answers c.args.book.now.rules.items)
     c.in-Ok.archive has start.0 start.2 it.driven (Some script) it.left (Some []) (Some it.kept)
     (below new) law it.drove in
     let from = ran_opened_start c.a_file_opens_or_is_damaged.ensures.one (M c.args.disk)
-    c.args.limit (book_of (λ r. (goal.Rule-dyn g (r.vtable, r.value)).handles r.value)
-    (λ r. (goal.Rule-dyn g (r.vtable, r.value)).answers r.value) c.args.book.now.rules.items)
+    c.args.limit (book_of g.R.Rule.handles g.R.Rule.answers c.args.book.now.rules.items)
     c.in-Ok.archive has start.0 start.2 it.driven (Some script) it.left (Some []) (Some it.kept)
     (below new) law it.drove in
     subst (λ d. SamplesOver c.args.size (given_by c.args.limit
-    (book_of (λ r. (goal.Rule-dyn g (r.vtable, r.value)).handles r.value)
-    (λ r. (goal.Rule-dyn g (r.vtable, r.value)).answers r.value) c.args.book.now.rules.items))
+    (book_of g.R.Rule.handles g.R.Rule.answers c.args.book.now.rules.items))
     c.sample-status.result left left (g.K.Sink.written c.args.sink.now)
     (g.K.Sink.written c.sample-status.new.sink)
     (g.K.Sink.faults c.args.sink.now) (g.K.Sink.faults c.sample-status.new.sink) (M c.args.disk)
     (M d)) (sym c.into_disk.ensures)
-    (inr (sample_is (given_by c.args.limit (book_of
-    (λ r. (goal.Rule-dyn g (r.vtable, r.value)).handles r.value)
-    (λ r. (goal.Rule-dyn g (r.vtable, r.value)).answers r.value) c.args.book.now.rules.items))
+    (inr (sample_is (given_by c.args.limit
+    (book_of g.R.Rule.handles g.R.Rule.answers c.args.book.now.rules.items))
     script it.driven it.left it.kept (M c.args.disk) (below new) ran c.args.size
     c.in-Ok.opened.commands c.sample-status.result _ _ start.0 from c.in-Ok.ensures.commands
     it.ended))
@@ -81,12 +75,10 @@ returns-in-Ok-clause-goes g c =
     let M = g.D.Disk.meaning in
     let has = c.in-Ok.ensures.opened in
     let start = start_of (M c.args.disk) c.args.limit
-    (book_of (λ r. (goal.Rule-dyn g (r.vtable, r.value)).handles r.value)
-    (λ r. (goal.Rule-dyn g (r.vtable, r.value)).answers r.value) c.args.book.now.rules.items)
+    (book_of g.R.Rule.handles g.R.Rule.answers c.args.book.now.rules.items)
     c.in-Ok.archive has in
     let it = c.sample-status.ensures.drove (given_by c.args.limit
-    (book_of (λ r. (goal.Rule-dyn g (r.vtable, r.value)).handles r.value)
-    (λ r. (goal.Rule-dyn g (r.vtable, r.value)).answers r.value) c.args.book.now.rules.items))
+    (book_of g.R.Rule.handles g.R.Rule.answers c.args.book.now.rules.items))
     refl start.0 start.1 in
     let new = c.sample-status.new.archive in
     subst (λ d. GoesOn (M c.args.disk) (M d)) (sym c.into_disk.ensures)

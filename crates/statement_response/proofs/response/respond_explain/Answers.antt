@@ -17,9 +17,8 @@ returns-in-Ok-clause-says g c = λ now represents.
     let query = query_of c.args.query.now in
     let h = c.in-Ok.ensures.explained past represents in
     accepted_says _ _ (fault_of_query past query) now
-    (explain_text (pieces_told (book_of (λ r.
-    (goal.Rule-dyn g (r.vtable, r.value)).handles r.value)
-    (λ r. (goal.Rule-dyn g (r.vtable, r.value)).answers r.value) c.args.book.now.rules.items)
+    (explain_text (pieces_told (book_of g.R.Rule.handles g.R.Rule.answers
+    c.args.book.now.rules.items)
     past query)) (explain_text (all_explained c.deref.result.now)) c.put_pieces.result
     h.accepted
     (ap explain_text (ap all_explained c.deref.ensures.value ∙ h.told))
@@ -28,9 +27,8 @@ returns-in-Ok-clause-says g c = λ now represents.
 pub returns-in-Err-Refused-clause-says : goal.returns-in-Err-Refused-clause-says
 returns-in-Err-Refused-clause-says g c = λ now represents.
     let query = query_of c.args.query.now in
-    subst (λ r. Says (explain_reply (book_of (λ r.
-    (goal.Rule-dyn g (r.vtable, r.value)).handles r.value)
-    (λ r. (goal.Rule-dyn g (r.vtable, r.value)).answers r.value) c.args.book.now.rules.items)
+    subst (λ r. Says (explain_reply (book_of g.R.Rule.handles g.R.Rule.answers
+    c.args.book.now.rules.items)
     query now) r (g.K.Sink.written c.args.sink.now) (g.K.Sink.written c.refuse.new.sink))
     (sym c.or_write_fault.ensures)
     (refused_says _ _ _ c.in-Err-Refused.refusal now _ c.refuse.result

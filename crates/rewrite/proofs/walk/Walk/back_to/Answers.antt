@@ -20,13 +20,11 @@ loop-walk-preserved g c = record {
   stand = λ q table r order begin.
       let earlier : c.in_ok-walk.walk.version < q =
       omega (arith, c.in_ok-walk.ensures.version, c.loop-walk.invariant.high, order) in
-      stand_previous (book_of (λ r. (goal.Rule-dyn g (r.vtable, r.value)).handles r.value)
-      (λ r. (goal.Rule-dyn g (r.vtable, r.value)).answers r.value) c.args.book.now.rules.items)
+      stand_previous (book_of g.R.Rule.handles g.R.Rule.answers c.args.book.now.rules.items)
       (versions_of c.args.versions.now) c.in_ok-walk.walk.version q table r
       (pieces_of c.loop-walk.walk.pieces.items) (pieces_of c.in_ok-walk.walk.pieces.items)
       earlier
-      (subst (λ j. StandFor (book_of (λ r. (goal.Rule-dyn g (r.vtable, r.value)).handles r.value)
-      (λ r. (goal.Rule-dyn g (r.vtable, r.value)).answers r.value) c.args.book.now.rules.items)
+      (subst (λ j. StandFor (book_of g.R.Rule.handles g.R.Rule.answers c.args.book.now.rules.items)
       (versions_of c.args.versions.now) j q table r (pieces_of c.loop-walk.walk.pieces.items))
       (sym c.in_ok-walk.ensures.version) (c.loop-walk.invariant.stand q table r order begin))
       c.in_ok-walk.ensures.pieces;
@@ -41,8 +39,7 @@ returns-clause-pieces g c = λ q table r order begin.
       c.loop-walk.invariant.high,
       c.loop-walk-test.false,
     ) in
-    subst (λ j. StandFor (book_of (λ r. (goal.Rule-dyn g (r.vtable, r.value)).handles r.value)
-    (λ r. (goal.Rule-dyn g (r.vtable, r.value)).answers r.value) c.args.book.now.rules.items)
+    subst (λ j. StandFor (book_of g.R.Rule.handles g.R.Rule.answers c.args.book.now.rules.items)
     (versions_of c.args.versions.now) j q table r (pieces_of c.loop-walk.walk.pieces.items))
     there
     (c.loop-walk.invariant.stand q table r order begin)

@@ -23,12 +23,10 @@ loop-walk-preserved g c = record {
       let later : q ≤ c.loop-walk.walk.version + 1 = omega (arith, here) in
       let within : c.loop-walk.walk.version + 1 ≤ c.args.version =
       omega (arith, c.loop-walk-test.true) in
-      subst (λ j. StandFor (book_of (λ r. (goal.Rule-dyn g (r.vtable, r.value)).handles r.value)
-      (λ r. (goal.Rule-dyn g (r.vtable, r.value)).answers r.value) c.args.book.now.rules.items)
+      subst (λ j. StandFor (book_of g.R.Rule.handles g.R.Rule.answers c.args.book.now.rules.items)
       (versions_of c.args.versions.now) j q table r (pieces_of c.in_ok-walk.walk.pieces.items))
       (sym c.in_ok-walk.ensures.version)
-      (stand_next (book_of (λ r. (goal.Rule-dyn g (r.vtable, r.value)).handles r.value)
-      (λ r. (goal.Rule-dyn g (r.vtable, r.value)).answers r.value) c.args.book.now.rules.items)
+      (stand_next (book_of g.R.Rule.handles g.R.Rule.answers c.args.book.now.rules.items)
       (versions_of c.args.versions.now) c.loop-walk.walk.version q table r
       (pieces_of c.loop-walk.walk.pieces.items) (pieces_of c.in_ok-walk.walk.pieces.items) here
       (stays_lost (versions_of c.args.versions.now) c.args.version (c.loop-walk.walk.version + 1) q
@@ -45,8 +43,7 @@ returns-clause-pieces g c = λ q table r order kept begin.
       c.loop-walk.invariant.high,
       c.loop-walk-test.false,
     ) in
-    subst (λ j. StandFor (book_of (λ r. (goal.Rule-dyn g (r.vtable, r.value)).handles r.value)
-    (λ r. (goal.Rule-dyn g (r.vtable, r.value)).answers r.value) c.args.book.now.rules.items)
+    subst (λ j. StandFor (book_of g.R.Rule.handles g.R.Rule.answers c.args.book.now.rules.items)
     (versions_of c.args.versions.now) j q table r (pieces_of c.loop-walk.walk.pieces.items))
     there
     (c.loop-walk.invariant.stand q table r order kept begin)

@@ -15,11 +15,9 @@ invariant-loop-walk g l = record {
   high : l.walk.version ≤ l.version;
   stand : (q : ℕ) → (table : List ℕ) → (r : Read) → q ≤ l.fn.self.version
       → get (lost_names (versions_of l.versions) l.version q) table ≡ None
-      → StandFor (book_of (λ r. (goal.Rule-dyn g (r.vtable, r.value)).handles r.value)
-      (λ r. (goal.Rule-dyn g (r.vtable, r.value)).answers r.value) l.book.rules.items)
+      → StandFor (book_of g.R.Rule.handles g.R.Rule.answers l.book.rules.items)
       (versions_of l.versions) l.fn.self.version q table r (pieces_of l.fn.self.pieces.items)
-      → StandFor (book_of (λ r. (goal.Rule-dyn g (r.vtable, r.value)).handles r.value)
-      (λ r. (goal.Rule-dyn g (r.vtable, r.value)).answers r.value) l.book.rules.items)
+      → StandFor (book_of g.R.Rule.handles g.R.Rule.answers l.book.rules.items)
       (versions_of l.versions) l.walk.version q table r (pieces_of l.walk.pieces.items);
 }
 

@@ -41,6 +41,5 @@ returns-then-here-version-clause-pieces g c = λ q table r way kept begin.
 pub returns-clause-pieces : goal.returns-clause-pieces
 returns-clause-pieces g c = λ q table r way kept begin.
     let there : c.args.self.version ≡ c.args.version = omega arith in
-    subst (λ v. StandFor (book_of (λ r. (goal.Rule-dyn g (r.vtable, r.value)).handles r.value)
-    (λ r. (goal.Rule-dyn g (r.vtable, r.value)).answers r.value) c.args.book.now.rules.items)
+    subst (λ v. StandFor (book_of g.R.Rule.handles g.R.Rule.answers c.args.book.now.rules.items)
     (versions_of c.args.versions.now) v q table r (pieces_of c.args.self.pieces.items)) there begin

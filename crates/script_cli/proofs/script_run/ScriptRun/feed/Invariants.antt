@@ -10,8 +10,7 @@ use Rattle.script_cli.proofs.script_run.ScriptRun.feed.Given as goal
 abbrev pub invariant-turns : goal.invariant-turns
 invariant-turns g l = record {
   took : (limit : Given) → limit.book ≡ book_of
-      (λ r. (goal.Rule-dyn g (r.vtable, r.value)).handles r.value)
-      (λ r. (goal.Rule-dyn g (r.vtable, r.value)).answers r.value) l.book.rules.items
+      g.R.Rule.handles g.R.Rule.answers l.book.rules.items
       → (now : Recorded) → RepresentsAt l.initial.archive limit now
       → Took limit now l.initial.self l.self l.initial.archive l.archive l.chunk l.rest
       (g.K.Sink.written l.initial.sink) (g.K.Sink.written l.sink);
