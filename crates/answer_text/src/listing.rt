@@ -7,7 +7,7 @@ ghost use Rattle.std.specs.Io.KnownBytes.{Appends};
 ghost use Rattle.prima_io.specs.Causes.{HasCause};
 ghost use Rattle.prima_io.specs.Moves.{AppendsLess};
 ghost use Rattle.prima_base.specs.Order.{shown};
-ghost use Rattle.prima_base.specs.Timed.{entry_of, entries_of};
+ghost use Rattle.prima_base.specs.Timed.{entries_of};
 ghost use Rattle.answer_text.specs.Gathering.{Gathers};
 ghost use Rattle.smo_parse.specs.TreeTexts.{doubled, value_text};
 ghost use Rattle.answer_text.specs.Texts.{values_text, head_text, row_text, count_text};
@@ -15,15 +15,16 @@ ghost use Rattle.answer_text.specs.Texts.{listing_text};
 
 use crate::line::ReplyLine;
 use itoa::Buffer;
-use prima_base::{Period, TimedRow, Val};
+use prima_base::{Period, Val};
 use prima_io::{Failed, Sink};
+use timed_rows::TimedRows;
 
 /// The answer to a query: its rows, each with a period in which it holds, ascending by row and
 /// start. The periods are told with the rows (`periods`), but for a query that asks of one moment.
 /// Texts are borrowed as the query's answer has them.
 #[derive(Drop)]
 pub struct Listing<'a> {
-    pub rows: Vec<TimedRow<'a>>,
+    pub rows: TimedRows<'a>,
     pub periods: bool,
 }
 
@@ -41,11 +42,11 @@ pub fn put_listing<K: Sink>(sink: &mut K, listing: &Listing<'_>) -> Result<(), F
 }
 
 #[tactic(auto, unfolding(crate::specs::Texts::listing_text))]
-fn put_rows<K: Sink>(sink: &mut K, rows: &[TimedRow<'_>], told: bool) -> Result<(), Failed>
+fn put_rows<K: Sink>(sink: &mut K, rows: &TimedRows<'_>, told: bool) -> Result<(), Failed>
     ensures all { OnOk result (Appends (K.written sink.old) (K.written sink.new)
-        (listing_text told (entries_of rows.now))) }
+        (listing_text told (entries_of rows.now.items))) }
     ensures part { OnErr result (AppendsLess (K.written sink.old) (K.written sink.new)
-        (listing_text told (entries_of rows.now))) }
+        (listing_text told (entries_of rows.now.items))) }
     ensures cause { HasCause (K.faults sink.old) (K.faults sink.new) result }
 {
     let mut line = ReplyLine::new();
@@ -57,17 +58,17 @@ fn put_rows<K: Sink>(sink: &mut K, rows: &[TimedRow<'_>], told: bool) -> Result<
 fn push_rows<K: Sink>(
     line: &mut ReplyLine,
     sink: &mut K,
-    rows: &[TimedRow<'_>],
+    rows: &TimedRows<'_>,
     told: bool,
 ) -> Result<(), Failed>
     ensures all { OnOk result (Gathers (K.written sink.old) line.old (K.written sink.new) line.new
-        (flat_map (row_text told) (entries_of rows.now))) }
+        (flat_map (row_text told) (entries_of rows.now.items))) }
     ensures part { OnErr result (AppendsLess (K.written sink.old) (K.written sink.new)
-        (line.old ++ flat_map (row_text told) (entries_of rows.now))) }
+        (line.old ++ flat_map (row_text told) (entries_of rows.now.items))) }
     ensures cause { HasCause (K.faults sink.old) (K.faults sink.new) result }
 {
-    for row in rows {
-        push_row(line, sink, row, told)?;
+    for i in 0..rows.len() {
+        push_row(line, sink, rows.period(i), rows.values(i), told)?;
     }
     Ok(())
 }
@@ -87,17 +88,18 @@ fn push_count<K: Sink>(line: &mut ReplyLine, sink: &mut K, count: u64) -> Result
 fn push_row<K: Sink>(
     line: &mut ReplyLine,
     sink: &mut K,
-    row: &TimedRow<'_>,
+    period: Period,
+    values: &[Val<'_>],
     told: bool,
 ) -> Result<(), Failed>
     ensures all { OnOk result (Gathers (K.written sink.old) line.old (K.written sink.new) line.new
-        (row_text told (entry_of row.now))) }
+        (row_text told (record { item = map shown values.now; period = period }))) }
     ensures part { OnErr result (AppendsLess (K.written sink.old) (K.written sink.new)
-        (line.old ++ row_text told (entry_of row.now))) }
+        (line.old ++ row_text told (record { item = map shown values.now; period = period }))) }
     ensures cause { HasCause (K.faults sink.old) (K.faults sink.new) result }
 {
-    push_head(line, sink, row.period, told)?;
-    push_values(line, sink, &row.values)?;
+    push_head(line, sink, period, told)?;
+    push_values(line, sink, values)?;
     line.push(sink, b"\n")
 }
 

@@ -8,7 +8,7 @@ use crate::version::{tables_over_versions, versions_in_force};
 use answer_text::Listing;
 use archive_state::{ArchiveState, AskFault};
 use lexer::tokens;
-use prima_base::{FOREVER, Period, Steps, TimedRow, Val};
+use prima_base::{FOREVER, Period, Steps, Val};
 use rewrite_rules::{Rule, RuleBook, push_every_rule};
 use script_parse::{Statement, next_statement};
 use smo_types::Command;
@@ -130,8 +130,8 @@ fn fill(alloc: Global, archive: &mut ArchiveState) -> Result<(), Fail> {
 }
 
 // The one value of a row.
-fn only_value<'a, 'b>(row: &'b TimedRow<'a>) -> Result<&'b Val<'a>, Fail> {
-    match row.values.as_slice() {
+fn only_value<'a, 'b>(row: &'b [Val<'a>]) -> Result<&'b Val<'a>, Fail> {
+    match row {
         [value] => Ok(value),
         _ => Err(Fail::new("a row has one value")),
     }
@@ -144,13 +144,18 @@ fn texts_are_borrowed<R: Rule>(
     book: &RuleBook<R>,
 ) -> Result<(), Fail> {
     let listing = ask(alloc, archive, book, "QUERY VERSION 1 SELECT b FROM t")?;
-    let [first, second] = listing.rows.as_slice() else {
+    let rows = &listing.rows;
+    if rows.len() != 2 {
         return Err(Fail::new("the row has two periods"));
-    };
-    if Some(first.period) != Period::new(5, 7) || Some(second.period) != Period::new(7, FOREVER) {
+    }
+    if Some(rows.period(0)) != Period::new(5, 7)
+        || Some(rows.period(1)) != Period::new(7, FOREVER)
+    {
         return Err(Fail::new("the periods are those before and after the change"));
     }
-    if is_borrowed(only_value(first)?, b"x") && is_borrowed(only_value(second)?, b"y") {
+    if is_borrowed(only_value(rows.values(0))?, b"x")
+        && is_borrowed(only_value(rows.values(1))?, b"y")
+    {
         return Ok(());
     }
     Err(Fail::new("both texts are borrowed"))
@@ -164,10 +169,10 @@ fn computed_text_is_made<R: Rule>(
 ) -> Result<(), Fail> {
     let text = "QUERY VERSION 2 SELECT p.b, CONCAT(q.b, '!') FROM u p, u q AS OF 9";
     let listing = ask(alloc, archive, book, text)?;
-    let [row] = listing.rows.as_slice() else {
+    if listing.rows.len() != 1 {
         return Err(Fail::new("one row holds at the moment"));
-    };
-    let [borrowed, made] = row.values.as_slice() else {
+    }
+    let [borrowed, made] = listing.rows.values(0) else {
         return Err(Fail::new("a row has two values"));
     };
     if is_borrowed(borrowed, b"y") && is_made(made, b"y!") {
@@ -178,10 +183,10 @@ fn computed_text_is_made<R: Rule>(
 
 // Whether the one row has a text that is borrowed and one that the operator computed.
 fn just_computed_is_made(listing: &Listing<'_>) -> bool {
-    let [row] = listing.rows.as_slice() else {
+    if listing.rows.len() != 1 {
         return false;
-    };
-    let [kept, computed] = row.values.as_slice() else {
+    }
+    let [kept, computed] = listing.rows.values(0) else {
         return false;
     };
     is_borrowed(kept, b"y") && is_made(computed, b"unknown")
@@ -212,26 +217,26 @@ fn joined_texts_are_borrowed<R: Rule>(
 ) -> Result<(), Fail> {
     let text = "QUERY VERSION 2 SELECT p.b FROM u p, u q WHERE p.b = q.b AS OF 9";
     let listing = ask(alloc, archive, book, text)?;
-    let [row] = listing.rows.as_slice() else {
+    if listing.rows.len() != 1 {
         return Err(Fail::new("one row holds at the moment"));
-    };
-    if is_borrowed(only_value(row)?, b"y") {
+    }
+    if is_borrowed(only_value(listing.rows.values(0))?, b"y") {
         return Ok(());
     }
     Err(Fail::new("the text is borrowed"))
 }
 
 // Whether a row has two texts, the first of which is borrowed and the second computed.
-fn is_half_made(row: &TimedRow<'_>, kept: &[u8], computed: &[u8]) -> bool {
-    match row.values.as_slice() {
+fn is_half_made(row: &[Val<'_>], kept: &[u8], computed: &[u8]) -> bool {
+    match row {
         [first, second] => is_borrowed(first, kept) && is_made(second, computed),
         _ => false,
     }
 }
 
 // Whether a row has two texts, both borrowed.
-fn is_all_borrowed(row: &TimedRow<'_>, first_text: &[u8], second_text: &[u8]) -> bool {
-    match row.values.as_slice() {
+fn is_all_borrowed(row: &[Val<'_>], first_text: &[u8], second_text: &[u8]) -> bool {
+    match row {
         [first, second] => is_borrowed(first, first_text) && is_borrowed(second, second_text),
         _ => false,
     }
@@ -251,10 +256,13 @@ fn texts_of_a_later_version<R: Rule>(
     )?;
     let text = "QUERY VERSION 3 SELECT b, c FROM u WHERE b = 'x' OR b = 'z'";
     let listing = ask(alloc, archive, book, text)?;
-    let [older, later] = listing.rows.as_slice() else {
+    let rows = &listing.rows;
+    if rows.len() != 2 {
         return Err(Fail::new("each of two texts has one period"));
-    };
-    if is_half_made(older, b"x", b"unknown") && is_all_borrowed(later, b"z", b"kept") {
+    }
+    if is_half_made(rows.values(0), b"x", b"unknown")
+        && is_all_borrowed(rows.values(1), b"z", b"kept")
+    {
         return Ok(());
     }
     Err(Fail::new("just the text of the older version is made"))
@@ -268,11 +276,15 @@ fn texts_beside_a_computed_branch<R: Rule>(
 ) -> Result<(), Fail> {
     let text = "QUERY VERSION 3 SELECT CONCAT(c, '!') FROM u UNION SELECT b FROM u AS OF 12";
     let listing = ask(alloc, archive, book, text)?;
-    let [kept, unknown, y, z] = listing.rows.as_slice() else {
+    let rows = &listing.rows;
+    if rows.len() != 4 {
         return Err(Fail::new("each branch answers two rows"));
-    };
-    let made = is_made(only_value(kept)?, b"kept!") && is_made(only_value(unknown)?, b"unknown!");
-    if made && is_borrowed(only_value(y)?, b"y") && is_borrowed(only_value(z)?, b"z") {
+    }
+    let made = is_made(only_value(rows.values(0))?, b"kept!")
+        && is_made(only_value(rows.values(1))?, b"unknown!");
+    let borrowed = is_borrowed(only_value(rows.values(2))?, b"y")
+        && is_borrowed(only_value(rows.values(3))?, b"z");
+    if made && borrowed {
         return Ok(());
     }
     Err(Fail::new("just the texts of the first branch are made"))
@@ -286,10 +298,13 @@ fn chosen_texts_are_borrowed<R: Rule>(
 ) -> Result<(), Fail> {
     let text = "QUERY VERSION 3 SELECT CASE WHEN a = 1 THEN b ELSE c END FROM u AS OF 12";
     let listing = ask(alloc, archive, book, text)?;
-    let [kept, y] = listing.rows.as_slice() else {
+    let rows = &listing.rows;
+    if rows.len() != 2 {
         return Err(Fail::new("two rows hold at the moment"));
-    };
-    if is_borrowed(only_value(kept)?, b"kept") && is_borrowed(only_value(y)?, b"y") {
+    }
+    if is_borrowed(only_value(rows.values(0))?, b"kept")
+        && is_borrowed(only_value(rows.values(1))?, b"y")
+    {
         return Ok(());
     }
     Err(Fail::new("both texts are borrowed"))

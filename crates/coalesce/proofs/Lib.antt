@@ -8,3 +8,4 @@ pub mod Values
 pub mod Listed
 pub mod Unmoved
 pub mod KeptEntries
+pub mod Passes

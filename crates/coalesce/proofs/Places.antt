@@ -4,7 +4,7 @@ use Rattle.std.proofs.Common.{take, drop, get_or, refl, sym, ap, ◌∙◌, appe
 use Rattle.std.proofs.Math.ListN.{set, drop_of_length-le}
 use Rattle.std.specs.List.{swap}
 use Rattle.std.proofs.lemmas.List.{take-set, take-set-le, take_more, drop_more, drop-set-lt}
-use Rattle.std.proofs.lemmas.List.{get_or_default, get_or-set_same}
+use Rattle.std.proofs.lemmas.List.{get_or-set_same}
 use Rattle.std.proofs.lemmas.List.Edits.{swap_is, length-swap}
 use Rattle.std.proofs.lemmas.Grind.{common_steps}
 use Rattle.coalesce.specs.Joining.{into, merged, goes_on, standing}
@@ -86,18 +86,3 @@ module _ {E : Type 0} (touch : E → E → Bool) (join : E → E → E) where
       → standing touch join k n xs ≡ take (k + 1) xs
   ended [] k n kn e = absurd (omega arith)
   ended (x ∷ xs) k n kn e = ends (x ∷ xs) k n x kn e
-
-  -- the same from what the code has read
-  pub turn_swap : (xs ys : List E) (k n : ℕ) (e f : E) → k < n → n < length xs → e ≡ get_or xs k e
-      → f ≡ get_or xs n f → touch e f ≡ false → ys ≡ swap xs (k + 1) n
-      → standing touch join k n xs ≡ standing touch join (k + 1) (n + 1) ys
-  turn_swap xs ys k n e f kn nl ee fe t is =
-      kept_swap xs ys k n e kn nl (rw (sym ee, get_or_default xs n e f nl ∙ sym fe) t) is
-
-  pub turn_join : (xs : List E) (k n : ℕ) (e f g : E) → k < n → n < length xs → e ≡ get_or xs k e
-      → f ≡ get_or xs n f → touch e f ≡ true
-      → g ≡ join e f → standing touch join k n xs ≡ standing touch join k (n + 1) (set xs k g)
-  turn_join xs k n e f g kn nl ee fe t gi =
-      let ek : get_or xs k e ≡ e = sym ee in
-      let fk : get_or xs n e ≡ f = get_or_default xs n e f nl ∙ sym fe in
-      kept_join xs k n e g kn nl (rw (ek, fk) t) (rw (ek, fk) gi)

@@ -1,14 +1,14 @@
 -- Rows of different lengths differ, and what commutes with a map of a list.
-use Rattle.std.proofs.Common.{◌≡◌, ◌<◌, ℕ, Bool, true, false, List, [], ◌∷◌, length, get_or, refl}
-use Rattle.std.proofs.Common.{sym, ap, ◌∙◌, arith}
+use Rattle.std.proofs.Common.{◌≡◌, ℕ, Bool, true, false, List, [], ◌∷◌, length, refl}
+use Rattle.std.proofs.Common.{ap, ◌∙◌, arith}
 use Rattle.std.specs.Prelude.{map, max, cond}
-use Rattle.std.proofs.lemmas.List.{get_or_default}
 use Rattle.relations.specs.Spans.{Span, span}
 use Rattle.prima_base.specs.declared.timed_row.TimedRow.{TimedRow}
 use Rattle.std.specs.Ordering.{is_eq, ordering_then}
 use Rattle.std.specs.declared.cmp.Ordering.{Ordering}
 use Rattle.std.specs.declared.cmp.Ordering.TheVariants.{Less, Equal, Greater}
 use Rattle.std.specs.Cmp.Lexicographic.{slice_cmp}
+use Rattle.timed_rows.specs.Rows.{in_period}
 use Rattle.coalesce.specs.Joining.{both, join_rows, into, merged}
 
 pub other_length : {K : Type 0} (R : K → K → Ordering) (a b : List K) → (length a ≡ length b → ⊥)
@@ -46,22 +46,10 @@ module _ {E F : Type 0} (f : E → F) (touch : E → E → Bool) (join : E → E
   map_merged [] = refl
   map_merged (e ∷ rest) = map_into rest e
 
--- a row that goes on to the later end, as the code has read it
+-- a row that goes on to the later end
 same_span : (p q : Span) → p.start ≡ q.start → p.end ≡ q.end → p ≡ q
 same_span p q a b = ap (λ (s : ℕ). span s p.end) a ∙ ap (λ (t : ℕ). span q.start t) b
 
-pub joined_row : (xs : List TimedRow) (k n : ℕ) (e f e' e'' f' : TimedRow) (p : Span) (m : ℕ)
-    → k < length xs → n < length xs → e ≡ get_or xs k e → f ≡ get_or xs n f
-    → p.start ≡ (get_or xs k e').period.start → p.end ≡ max (get_or xs k e').period.end m
-    → m ≡ (get_or xs n f').period.end
-    → record { values = (get_or xs k e'').values; period = p } ≡ join_rows e f
-joined_row xs k n e f e' e'' f' p m kl nl ei fi from to mi =
-    let ek : get_or xs k e' ≡ e = get_or_default xs k e' e kl ∙ sym ei in
-    let ek' : get_or xs k e'' ≡ e = get_or_default xs k e'' e kl ∙ sym ei in
-    let fk : get_or xs n f' ≡ f = get_or_default xs n f' f nl ∙ sym fi in
-    let pi : p ≡ both e.period f.period =
-    same_span p (both e.period f.period) (from ∙ ap (λ (r : TimedRow). r.period.start) ek)
-    (to ∙ ap (λ (r : TimedRow). max r.period.end m) ek
-    ∙ ap (λ (t : ℕ). max e.period.end t) (mi ∙ ap (λ (r : TimedRow). r.period.end) fk)) in
-    ap (λ (r : TimedRow). let w : TimedRow = record { values = r.values; period = p } in w) ek'
-    ∙ ap (λ (q : Span). record e { period = q }) pi
+pub joined_row : (a b : TimedRow) (p : Span) → p.start ≡ a.period.start
+    → p.end ≡ max a.period.end b.period.end → in_period a p ≡ join_rows a b
+joined_row a b p from to = ap (in_period a) (same_span p (both a.period b.period) from to)

@@ -1,8 +1,10 @@
 -- Rows and entries, cut to a slice.
-use Rattle.std.specs.Prelude.{ℕ, List, ◌++◌, take, drop, Option, Some, None}
+use Rattle.std.specs.Prelude.{ℕ, List, ◌++◌, take, drop, Option, Some, None, if◌then◌else◌}
 use Rattle.std.specs.List.{filter_map}
 use Rattle.relations.specs.Spans.{Span, common}
 use Rattle.relations.specs.Timed.{Entry}
+use Rattle.prima_base.specs.Keeping.{keeps_all}
+use Rattle.prima_base.specs.declared.keep.Keep.{Keep}
 use Rattle.prima_base.specs.declared.timed_row.TimedRow.{TimedRow}
 
 abbrev pub with_period : TimedRow → Option Span → Option TimedRow
@@ -21,6 +23,10 @@ entry_with x (Some p) = Some (record { item = x; period = p })
 abbrev pub cut_entry : {X : Type 0} → Span → Entry X → Option (Entry X)
 cut_entry slice e = entry_with e.item (common e.period slice)
 
--- what the list stands for: what is kept, and the rest, not yet cut
-unfoldable pub left : Span → ℕ → ℕ → List TimedRow → List TimedRow
-left slice kept next rows = take kept rows ++ filter_map (cut_row slice) (drop next rows)
+-- a row, if its period meets each of the conditions
+abbrev pub kept_row : List Keep → TimedRow → Option TimedRow
+kept_row conditions row = if keeps_all conditions row.period then Some row else None
+
+-- what the list stands for: what is kept, and the rest, not yet looked at
+unfoldable pub left : {E : Type 0} → (E → Option E) → ℕ → ℕ → List E → List E
+left f kept next rows = take kept rows ++ filter_map f (drop next rows)

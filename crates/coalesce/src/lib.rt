@@ -22,16 +22,17 @@ use crate::row_cut::cut_rows;
 use crate::row_group::sort_groups;
 use crate::row_list::is_listing;
 use crate::row_merge::join_sorted;
-use prima_base::{Period, TimedRow};
+use prima_base::Period;
 pub use row_cut::cut_to_slice;
 pub use row_keep::keep;
+use timed_rows::TimedRows;
 
 /// Makes of rows with periods the one list of what they hold inside a slice: each row with its
 /// longest periods, ascending by row and start. At each moment of the slice the same rows hold as
 /// before, and at no other moment any. The values of each row are those of one that was there and
 /// held where its period begins: what is borrowed stays borrowed. It takes no memory. (Coalescing,
 /// PRIMA 2008.)
-pub fn coalesce_in_place(rows: &mut Vec<TimedRow<'_>>, slice: Period)
+pub fn coalesce_in_place(rows: &mut TimedRows<'_>, slice: Period)
     ensures listing { IsListing row_cmp (rows_at rows.old.items) slice (entries_of rows.new.items) }
     ensures same { (m : ℕ) → covers slice m ≡ true
         → rows_at rows.new.items m ≡ rows_at rows.old.items m }
@@ -46,6 +47,6 @@ pub fn coalesce_in_place(rows: &mut Vec<TimedRow<'_>>, slice: Period)
     if is_listing(rows, slice) {
         return;
     }
-    rows.sort_unstable();
+    rows.sort();
     join_sorted(rows);
 }

@@ -8,36 +8,38 @@
 ghost use Rattle.std.specs.Prelude.{◌≡◌, ◌≤◌, ◌<◌, length};
 ghost use Rattle.std.specs.List.Sorted.{IsPermutation};
 
-use prima_base::TimedRow;
+use prima_base::Val;
+use timed_rows::TimedRows;
 
 // Whether both rows begin with the same value.
-fn share_first(row: &TimedRow<'_>, other: &TimedRow<'_>) -> bool {
-    match (row.values.first(), other.values.first()) {
+fn share_first(row: &[Val<'_>], other: &[Val<'_>]) -> bool {
+    match (row.first(), other.first()) {
         (Some(first), Some(second)) => first == second,
         _ => false,
     }
 }
 
 // Where the group ends that begins here.
-fn group_end(rows: &[TimedRow<'_>], start: usize) -> usize
-    requires { start < length rows.now }
-    ensures { (start < result) × (result ≤ length rows.now) }
+fn group_end(rows: &TimedRows<'_>, start: usize) -> usize
+    requires { start < length rows.now.items }
+    ensures { (start < result) × (result ≤ length rows.now.items) }
 {
+    let first = rows.values(start);
     let mut end = start + 1;
-    'rows: while end < rows.len() && share_first(&rows[start], &rows[end]) {
+    'rows: while end < rows.len() && share_first(first, rows.values(end)) {
         end += 1;
     }
     end
 }
 
 /// Puts the rows of each group in order. It takes no memory.
-pub fn sort_groups(rows: &mut [TimedRow<'_>])
-    ensures { IsPermutation rows.old rows.new }
+pub fn sort_groups(rows: &mut TimedRows<'_>)
+    ensures { IsPermutation rows.old.items rows.new.items }
 {
     let mut start = 0;
     'groups: while start < rows.len() {
         let end = group_end(rows, start);
-        rows[start..end].sort_unstable();
+        rows.sort_part(start, end);
         start = end;
     }
 }

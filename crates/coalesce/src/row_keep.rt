@@ -1,9 +1,12 @@
-ghost use Rattle.std.specs.Prelude.{◌≡◌};
+ghost use Rattle.std.specs.Prelude.{◌≡◌, ◌≤◌, ◌<◌, ◌+◌, length};
 ghost use Rattle.prima_base.specs.Keeping.{below, between, lasting, keeps, keeps_all, kept};
 ghost use Rattle.prima_base.specs.Timed.{entries_of};
+ghost use Rattle.coalesce.specs.Cutting.{kept_row, left};
 ghost use Rattle.coalesce.specs.Joining.{AreAmong};
 
-use prima_base::{FOREVER, Keep, Period, TimedRow};
+use crate::row_cut::exchange;
+use prima_base::{FOREVER, Keep, Period};
+use timed_rows::TimedRows;
 
 // Whether the number is below the bound; `FOREVER` is no limit.
 fn is_below(bound: u64, number: u64) -> bool
@@ -55,12 +58,36 @@ fn meets_all(conditions: &[Keep], period: Period) -> bool
     }
 }
 
+// Keeps the next row after those that are kept, where its period meets the conditions. How many are
+// kept is answered.
+fn keep_next(rows: &mut TimedRows<'_>, conditions: &[Keep], kept: usize, next: usize) -> usize
+    requires apart { kept ≤ next }
+    requires within { next < length rows.old.items }
+    ensures kept { result ≤ next + 1 }
+    ensures len { length rows.new.items ≡ length rows.old.items }
+    ensures stands { left (kept_row conditions.now) kept next rows.old.items
+        ≡ left (kept_row conditions.now) result (next + 1) rows.new.items }
+{
+    if meets_all(conditions, rows.period(next)) {
+        exchange(rows, kept, next);
+        kept + 1
+    } else {
+        kept
+    }
+}
+
 /// Keeps the rows whose periods meet every condition of KEEP, in their order. The periods are those
 /// of the one list, cut to the slice of the query. Each row stays as it was, with what of it is
 /// borrowed. It takes no memory.
-pub fn keep(rows: &mut Vec<TimedRow<'_>>, conditions: &[Keep])
+pub fn keep(rows: &mut TimedRows<'_>, conditions: &[Keep])
     ensures rows { entries_of rows.new.items ≡ kept conditions.now (entries_of rows.old.items) }
     ensures among { AreAmong rows.old.items rows.new.items }
 {
-    rows.retain(|row| meets_all(conditions, row.period));
+    let mut kept = 0;
+    let mut next = 0;
+    'rows: while next < rows.len() {
+        kept = keep_next(rows, conditions, kept, next);
+        next += 1;
+    }
+    rows.truncate(kept);
 }

@@ -11,7 +11,7 @@ use Rattle.prima_base.specs.Columns.{Column, names_of}
 use Rattle.smo_meaning.specs.Preconditions.{among}
 use Rattle.smo_meaning.specs.Making.{named}
 use Rattle.smo_meaning.proofs.NameLaws.{among_in, in_among}
-use Rattle.join_exec.specs.Reading.{AreNames}
+use Rattle.gathered_rows.specs.Reading.{AreNames}
 
 names_filtered : (ns : List (List ℕ)) (columns : List Column)
     → names_of (named ns columns) ≡ filter (λ n. among n ns) (names_of columns)

@@ -1,8 +1,3 @@
-pub mod MergeLaws
-pub mod CutLaws
-pub mod ValueLaws
-pub mod Picked
-pub mod EntriesInTurn
 pub mod KnownNames
 pub mod RelationRows
 pub mod ReadingLaws

@@ -7,7 +7,7 @@ use Rattle.cond_expr.specs.declared.expr.Whose.TheVariants.{Atom}
 use Rattle.history_store.specs.Store.{Store, column_of}
 use Rattle.plain_answers.specs.Naming.{IsNamed, names_in, names_at}
 use Rattle.plain_answers.proofs.NameLaws.{names_alike}
-use Rattle.join_exec.specs.Reading.{reads, count_in}
+use Rattle.gathered_rows.specs.Reading.{reads, count_in}
 
 pub none_read : (s : Store) (i : ℕ) → reads s (names_at i []) ≡ length s.keys
 unfolding set_of

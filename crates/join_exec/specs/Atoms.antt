@@ -13,7 +13,7 @@ use Rattle.smo_meaning.specs.Making.{named}
 use Rattle.plain_answers.specs.Naming.{names_at}
 use Rattle.timed_choices.specs.BorrowedOutputs.{AllBorrowed}
 use Rattle.joining.specs.declared.atom.Atom.{Atom}
-use Rattle.join_exec.specs.Reading.{AreNames}
+use Rattle.gathered_rows.specs.Reading.{AreNames}
 
 -- the atom has this number, and at each moment of the slice what the table has in these columns;
 -- its values are borrowed

@@ -12,7 +12,7 @@ use Rattle.smo_meaning.specs.OneRow.{Relation}
 use Rattle.plain_answers.specs.Choosing.{answers_over}
 use Rattle.plain_answers.specs.Naming.{all_references, names_at}
 use Rattle.piece_meaning.specs.Pieces.{PlainPiece, out_trees}
-use Rattle.join_exec.specs.Reading.{reads}
+use Rattle.gathered_rows.specs.Reading.{reads}
 
 -- the columns of a stored table
 abbrev pub columns_stored : Option Store → List Column

@@ -1,43 +1,24 @@
 //! Stored tables of a version, read inside a slice as the atoms of a join.
 
-ghost use Rattle.std.specs.Prelude.{◌≡◌, ◌+◌, ◌≤◌, IfOk, map};
+ghost use Rattle.std.specs.Prelude.{◌≡◌, ◌+◌, ◌≤◌, IfOk};
 ghost use Rattle.std.specs.Option.{option_copied};
 ghost use Rattle.relations.specs.Sets.{Ascends};
 ghost use Rattle.prima_base.specs.Order.{bytes_cmp};
 ghost use Rattle.cond_expr.specs.References.{borrowed};
-ghost use Rattle.join_exec.specs.declared.row_part.Stretch.{Stretch as OneStretch};
-ghost use Rattle.join_exec.specs.Reading.{AreNames, reads};
+ghost use Rattle.gathered_rows.specs.Reading.{AreNames, reads};
 ghost use Rattle.join_exec.specs.Pieces.{reads_stored, atoms_read};
 ghost use Rattle.join_exec.specs.Atoms.{IsRead, IsReadOf, AreRead, IsReadable, AreReadable};
 
-use crate::gathered_row::gather;
 use crate::name::names_at;
-use crate::row_part::Stretch;
 use cond_expr::{ColRef, columns_at};
+use gathered_rows::gather;
 use history_store::StoredTable;
 use joining::Atom;
-use prima_base::{Name, NoMemory, Period, Steps, TimedRow};
+use prima_base::{Name, NoMemory, Period, Steps};
 use std::alloc::Global;
-use std::collections::VecDeque;
 use std::sync::ledger::Ledger;
 use table_columns::columns_named;
 use version_groups::Groups;
-
-// The rows of stretches, in their periods.
-fn rows_of<'a>(
-    alloc: Global,
-    mut stretches: VecDeque<Stretch<'a>>,
-) -> Result<Vec<TimedRow<'a>>, NoMemory>
-    ensures { IfOk result (λ rows. rows.items
-        ≡ map (λ (s : OneStretch). s.row) stretches.entry.items) }
-{
-    let mut rows = Vec::with_capacity(alloc, stretches.len())?;
-    'stretches: while let Some(stretch) = stretches.pop_front() {
-        let Stretch { id: _, row } = stretch;
-        rows.push(row)?;
-    }
-    Ok(rows)
-}
 
 // What a table has in these columns inside the slice, as the atom with this number.
 fn atom_of<'a, L: Ledger>(
@@ -55,10 +36,9 @@ fn atom_of<'a, L: Ledger>(
     ensures counted { IfOk result (λ _. steps.new ≡ steps.old + reads table.now names.items) }
     ensures rises { steps.old ≤ steps.new }
 {
-    let stretches = gather(alloc, table, &names, slice, steps)?;
+    let rows = gather(alloc, table, &names, slice, steps)?;
     let read = columns_named(alloc, table.columns(), &names)?;
     let columns = columns_at(alloc, number, &read)?;
-    let rows = rows_of(alloc, stretches)?;
     Ok(Atom {
         number,
         columns,

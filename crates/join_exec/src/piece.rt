@@ -23,9 +23,10 @@ use crate::atom::gather_atoms;
 use cond_expr::{Cond, Expr, gather_references};
 use joining::answer_choices;
 use piece_ir::Piece;
-use prima_base::{Name, NoMemory, Period, Steps, TimedRow};
+use prima_base::{Name, NoMemory, Period, Steps};
 use std::alloc::Global;
 use std::sync::ledger::Ledger;
+use timed_rows::TimedRows;
 use version_groups::Groups;
 
 // Equal outputs, without their names.
@@ -49,7 +50,7 @@ fn answer_tables<'a, L: Ledger>(
     cond: &Cond,
     slice: Period,
     steps: &mut Steps<L>,
-) -> Result<Vec<TimedRow<'a>>, NoMemory>
+) -> Result<TimedRows<'a>, NoMemory>
     requires { AreReadable groups.now version (all_references (map tree outs.now) (test cond.now)) 0
         tables.now }
     ensures rows { (m : ℕ) → covers slice m ≡ true → IfOk result (λ rows. rows_at rows.items m
@@ -88,7 +89,7 @@ pub fn run_piece<'a, L: Ledger>(
     piece: &Piece,
     slice: Period,
     steps: &mut Steps<L>,
-) -> Result<Vec<TimedRow<'a>>, NoMemory>
+) -> Result<TimedRows<'a>, NoMemory>
     requires { (past : Past) × Represents groups.now past × (version ≤ length past.versions)
         × IsTyped (tables_of past version) (piece_of piece.now) }
     ensures rows { (past : Past) → Represents groups.now past → (m : ℕ) → covers slice m ≡ true

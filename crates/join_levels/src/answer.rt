@@ -1,10 +1,10 @@
 //! What outputs and a condition answer of choices, and what is answered so far.
 
-ghost use Rattle.std.specs.Prelude.{◌≡◌, ◌++◌, ℕ, true, List, [], map, IfOk, OnOk, OnErr};
+ghost use Rattle.std.specs.Prelude.{◌≡◌, ◌++◌, ℕ, true, List, [], map, OnOk, OnErr};
 ghost use Rattle.relations.specs.Spans.{covers};
 ghost use Rattle.relations.specs.Timed.{held_at, at};
 ghost use Rattle.prima_base.specs.Order.{row_cmp, shown};
-ghost use Rattle.prima_base.specs.Timed.{entry_of, entries_of, rows_at};
+ghost use Rattle.prima_base.specs.Timed.{entries_of, rows_at};
 ghost use Rattle.cond_expr.specs.Trees.{Tree};
 ghost use Rattle.cond_expr.specs.Seen.{tree, test};
 ghost use Rattle.cond_expr.specs.Rows.{AreValid};
@@ -19,6 +19,7 @@ use coalesce::coalesce_in_place;
 use cond_expr::{Column, Cond, Expr, eval};
 use prima_base::{NoMemory, Period, TimedRow, Val};
 use std::alloc::Global;
+use timed_rows::TimedRows;
 
 // so many answers are kept as they come
 const FEW: usize = 65_536;
@@ -27,7 +28,9 @@ const FEW: usize = 65_536;
 /// rows than the list of it.
 #[derive(Drop)]
 pub(crate) struct Answered<'a> {
-    pub(crate) rows: Vec<TimedRow<'a>>,
+    pub(crate) rows: TimedRows<'a>,
+    // room for the values of an answer while they are made
+    row: Vec<Val<'a>>,
     // as many rows are coalesced
     limit: usize,
 }
@@ -37,58 +40,61 @@ pub(crate) fn none_yet<'a>(alloc: Global) -> Answered<'a>
     ensures { result.rows.items ≡ [] }
 {
     Answered {
-        rows: Vec::new(alloc),
+        rows: TimedRows::new(alloc),
+        row: Vec::new(alloc),
         limit: FEW,
     }
 }
 
-// The values of the outputs, in written order.
+// Makes `row` the values of the outputs, in written order.
 fn output_row<'a>(
     alloc: Global,
+    row: &mut Vec<Val<'a>>,
     outs: &[Expr],
     columns: &[Column],
     values: &[Val<'a>],
-) -> Result<Vec<Val<'a>>, NoMemory>
+) -> Result<(), NoMemory>
     requires { AreValid values.now }
     ensures borrowed { (which : BorrowedValues) → RowBorrows which columns.now values.now
-        → IfOk result (λ row. StaysBorrowed which (map tree outs.now) row.items) }
-    ensures values { IfOk result (λ row. map shown row.items
+        → OnOk result (StaysBorrowed which (map tree outs.now) row.new.items) }
+    ensures values { OnOk result (map shown row.new.items
         ≡ outputs columns.now (map tree outs.now) (map shown values.now)) }
 {
-    let mut row = Vec::with_capacity(alloc, outs.len())?;
+    row.clear();
     for out in outs {
         row.push(eval(alloc, out, columns, values)?)?;
     }
-    Ok(row)
+    Ok(())
 }
 
-/// Puts the values of the outputs after the other rows, where the choice meets the condition. On
+/// Puts the values of the outputs after the other rows, where the choice of these values, which
+/// holds in the period, meets the condition. `row` has room for them while they are made. On
 /// `NoMemory` the rows are as before.
 pub fn put_answer<'a>(
     alloc: Global,
-    rows: &mut Vec<TimedRow<'a>>,
+    rows: &mut TimedRows<'a>,
+    row: &mut Vec<Val<'a>>,
     outs: &[Expr],
     cond: &Cond,
     columns: &[Column],
-    choice: &TimedRow<'a>,
+    values: &[Val<'a>],
+    period: Period,
 ) -> Result<(), NoMemory>
-    requires { IsValidRow (map shown choice.now.values.items) }
+    requires { IsValidRow (map shown values.now) }
     ensures borrowed { (which : BorrowedValues)
         → AllStayBorrowed which (map tree outs.now) rows.old.items
-        → RowBorrows which columns.now choice.now.values.items
+        → RowBorrows which columns.now values.now
         → OnOk result (AllStayBorrowed which (map tree outs.now) rows.new.items) }
     ensures rows { OnOk result (entries_of rows.new.items ≡ entries_of rows.old.items
-        ++ answer columns.now (map tree outs.now) (test cond.now) (entry_of choice.now)) }
+        ++ answer columns.now (map tree outs.now) (test cond.now)
+        (record { item = map shown values.now; period = period })) }
     ensures unchanged { OnErr result (rows.new.items ≡ rows.old.items) }
 {
-    if !is_met(alloc, cond, columns, &choice.values)? {
+    if !is_met(alloc, cond, columns, values)? {
         return Ok(());
     }
-    let values = output_row(alloc, outs, columns, &choice.values)?;
-    rows.push(TimedRow {
-        values,
-        period: choice.period,
-    })?;
+    output_row(alloc, row, outs, columns, values)?;
+    rows.push_from(row, period)?;
     Ok(())
 }
 
@@ -96,7 +102,8 @@ pub fn put_answer<'a>(
 // other rows.
 fn put_answers<'a>(
     alloc: Global,
-    rows: &mut Vec<TimedRow<'a>>,
+    rows: &mut TimedRows<'a>,
+    row: &mut Vec<Val<'a>>,
     outs: &[Expr],
     cond: &Cond,
     columns: &[Column],
@@ -111,14 +118,23 @@ fn put_answers<'a>(
         ++ answers columns.now (map tree outs.now) (test cond.now) (entries_of choices.now)) }
 {
     for choice in choices {
-        put_answer(alloc, rows, outs, cond, columns, choice)?;
+        put_answer(
+            alloc,
+            rows,
+            row,
+            outs,
+            cond,
+            columns,
+            &choice.values,
+            choice.period,
+        )?;
     }
     Ok(())
 }
 
 // Coalesces the rows, where they are as many as the limit. Answered is at how many they are
 // coalesced next.
-fn settled(rows: &mut Vec<TimedRow<'_>>, slice: Period, limit: usize) -> usize
+fn settled(rows: &mut TimedRows<'_>, slice: Period, limit: usize) -> usize
     ensures borrowed { (which : BorrowedValues) → (outs : List Tree)
         → AllStayBorrowed which outs rows.old.items
         → AllStayBorrowed which outs rows.new.items }
@@ -157,7 +173,15 @@ pub(crate) fn answer_made<'a>(
         → rows_at answered.old.rows.items m ≡ []
         → OnOk result (rows_at answered.new.rows.items m ≡ []) }
 {
-    put_answers(alloc, &mut answered.rows, outs, cond, columns, choices)?;
+    put_answers(
+        alloc,
+        &mut answered.rows,
+        &mut answered.row,
+        outs,
+        cond,
+        columns,
+        choices,
+    )?;
     answered.limit = settled(&mut answered.rows, slice, answered.limit);
     Ok(())
 }

@@ -22,6 +22,7 @@ use cond_expr::{Column, Cond, Expr};
 use prima_base::{NoMemory, Period, TimedRow};
 use std::alloc::Global;
 use std::collections::VecDeque;
+use timed_rows::TimedRows;
 
 // The choice of no row, over the whole slice.
 fn no_rows_yet<'a>(alloc: Global, slice: Period) -> Result<Vec<TimedRow<'a>>, NoMemory>
@@ -48,7 +49,7 @@ pub fn join_rows<'a>(
     columns: &[Column],
     sources: VecDeque<Source<'a>>,
     slice: Period,
-) -> Result<Vec<TimedRow<'a>>, NoMemory>
+) -> Result<TimedRows<'a>, NoMemory>
     requires { sum_by (λ (s : OneSource). s.width) sources.items < 2 ^ 64 }
     ensures borrowed { (which : BorrowedValues)
         → SourcesBorrow which columns.now sources.entry.items

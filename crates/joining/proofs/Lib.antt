@@ -5,3 +5,4 @@ pub mod PrunedRows
 pub mod SingleAtoms
 pub mod OwnRows
 pub mod KeptRows
+pub mod RowPlaces

@@ -3,7 +3,7 @@ ghost use Rattle.prima_base.specs.Timed.{entries_of};
 ghost use Rattle.timed_choices.specs.Fitting.{Fit, fit_once, AreOwn, own_once};
 
 use cond_expr::Column;
-use prima_base::TimedRow;
+use timed_rows::TimedRows;
 
 /// An atom: its number, its columns, and its rows with periods, each of one value a column. The
 /// values are valid.
@@ -11,7 +11,7 @@ use prima_base::TimedRow;
 pub struct Atom<'a> {
     pub number: u32,
     pub columns: Vec<Column>,
-    pub rows: Vec<TimedRow<'a>>,
+    pub rows: TimedRows<'a>,
     pub ghost own: { AreOwn number columns.items } by { own_once number columns.items },
     pub ghost fit: { Fit (length columns.items) (entries_of rows.items) } by { fit_once (length columns.items) (entries_of rows.items) },
 }

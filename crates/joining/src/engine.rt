@@ -15,8 +15,9 @@ use crate::atom::Atom;
 use crate::order::join_in_order;
 use crate::single_atom::answer_atom;
 use cond_expr::{Cond, Expr};
-use prima_base::{NoMemory, Period, TimedRow};
+use prima_base::{NoMemory, Period};
 use std::alloc::Global;
+use timed_rows::TimedRows;
 
 // What outputs answer of the choices of one row of each atom that hold together and meet the
 // condition. Where there is one atom alone nothing is joined.
@@ -26,7 +27,7 @@ fn answer_atoms<'a>(
     cond: &Cond,
     atoms: Vec<Atom<'a>>,
     slice: Period,
-) -> Result<Vec<TimedRow<'a>>, NoMemory>
+) -> Result<TimedRows<'a>, NoMemory>
     requires { AreNumbered atoms.items }
     ensures borrowed { (which : BorrowedValues) → AtomsBorrow which atoms.entry.items
         → IfOk result (λ rows. AllStayBorrowed which (map tree outs.now) rows.items) }
@@ -58,7 +59,7 @@ pub fn answer_choices<'a>(
     cond: &Cond,
     atoms: Vec<Atom<'a>>,
     slice: Period,
-) -> Result<Vec<TimedRow<'a>>, NoMemory>
+) -> Result<TimedRows<'a>, NoMemory>
     requires { AreNumbered atoms.items }
     ensures borrowed { (which : BorrowedValues) → AtomsBorrow which atoms.entry.items
         → IfOk result (λ rows. AllStayBorrowed which (map tree outs.now) rows.items) }

@@ -4,6 +4,7 @@
 
 mod atom;
 mod engine;
+mod listed_rows;
 mod order;
 mod own_part;
 mod single_atom;

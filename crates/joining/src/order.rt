@@ -16,12 +16,14 @@ ghost use Rattle.joining.specs.Atoms.{AtomsBorrow, blocks_of};
 ghost use Rattle.joining.specs.Atoms.{columns_of_atoms, AreNumbered};
 
 use crate::atom::Atom;
+use crate::listed_rows::listed;
 use crate::own_part::pruned_atoms;
 use cond_expr::{CmpOp, ColRef, Column, Cond, Expr};
 use join_levels::{Source, gather_parts, in_turn, join_rows, place_of};
-use prima_base::{NoMemory, Period, TimedRow};
+use prima_base::{NoMemory, Period};
 use std::alloc::Global;
 use std::collections::VecDeque;
+use timed_rows::TimedRows;
 
 // Whether one of the atoms has the column.
 fn is_there(atoms: &[Atom<'_>], reference: &ColRef) -> bool {
@@ -113,6 +115,7 @@ fn in_order<'a>(
 
 // Puts the atom's columns and its rows, in the order of their starts, after those of the others.
 fn put_apart<'a>(
+    alloc: Global,
     types: &mut Vec<Column>,
     sources: &mut VecDeque<Source<'a>>,
     atom: Atom<'a>,
@@ -136,7 +139,7 @@ fn put_apart<'a>(
     types.append(&mut columns)?;
     sources.push_back(Source {
         width,
-        rows: in_turn(rows),
+        rows: in_turn(listed(alloc, &rows)?),
     })?;
     Ok(())
 }
@@ -157,7 +160,7 @@ fn taken_apart<'a>(
     let mut types = Vec::new(alloc);
     let mut sources = VecDeque::new(alloc);
     for atom in atoms {
-        put_apart(&mut types, &mut sources, atom)?;
+        put_apart(alloc, &mut types, &mut sources, atom)?;
     }
     Ok((types, sources))
 }
@@ -171,7 +174,7 @@ pub(crate) fn join_in_order<'a>(
     cond: &Cond,
     atoms: Vec<Atom<'a>>,
     slice: Period,
-) -> Result<Vec<TimedRow<'a>>, NoMemory>
+) -> Result<TimedRows<'a>, NoMemory>
     requires { AreNumbered atoms.items }
     ensures borrowed { (which : BorrowedValues) → AtomsBorrow which atoms.entry.items
         → IfOk result (λ rows. AllStayBorrowed which (map tree outs.now) rows.items) }

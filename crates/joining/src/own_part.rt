@@ -14,8 +14,9 @@ ghost use Rattle.joining.specs.Atoms.{AtomsBorrow, block_of, blocks_of, AreNumbe
 use crate::atom::Atom;
 use cond_expr::{Column, Cond};
 use join_levels::{all_met, is_settled};
-use prima_base::{NoMemory, TimedRow};
+use prima_base::NoMemory;
 use std::alloc::Global;
+use timed_rows::TimedRows;
 
 // The parts all of whose references are among the columns.
 fn own_parts<'c>(
@@ -40,8 +41,8 @@ pub(crate) fn passing<'a>(
     alloc: Global,
     columns: &[Column],
     conds: &[&Cond],
-    rows: Vec<TimedRow<'a>>,
-) -> Result<Vec<TimedRow<'a>>, NoMemory>
+    rows: TimedRows<'a>,
+) -> Result<TimedRows<'a>, NoMemory>
     requires { AllValid (entries_of rows.items) }
     ensures { IfOk result (λ kept. kept.items
         ≡ filter (λ (t : OneRow). meets_all columns.now (borrowed_tests conds.now)
@@ -51,7 +52,7 @@ pub(crate) fn passing<'a>(
     let mut kept = 0;
     let mut next = 0;
     'rows: while next < rows.len() {
-        if all_met(alloc, conds, columns, &rows[next].values)? {
+        if all_met(alloc, conds, columns, rows.values(next))? {
             rows.swap(kept, next);
             kept += 1;
         }

@@ -8,7 +8,7 @@ ghost use Rattle.relations.specs.Spans.{covers};
 ghost use Rattle.relations.specs.Timed.{Entry as OneEntry};
 ghost use Rattle.prima_base.specs.declared.value.Value.{Value as OneValue};
 ghost use Rattle.prima_base.specs.Order.{shown};
-ghost use Rattle.prima_base.specs.Timed.{entry_of, entries_of, rows_at};
+ghost use Rattle.prima_base.specs.Timed.{entries_of, rows_at};
 ghost use Rattle.cond_expr.specs.Rows.{cells};
 ghost use Rattle.cond_expr.specs.Seen.{tree, test};
 ghost use Rattle.cond_expr.specs.Trees.{always};
@@ -29,8 +29,9 @@ use crate::own_part::passing;
 use coalesce::cut_to_slice;
 use cond_expr::{Column, Cond, Expr};
 use join_levels::{column_place, put_answer};
-use prima_base::{NoMemory, Period, TimedRow, meet};
+use prima_base::{NoMemory, Period, Val, meet};
 use std::alloc::Global;
+use timed_rows::TimedRows;
 
 // Whether the output is what the column at this place holds.
 fn is_column_at(columns: &[Column], out: &Expr, place: usize) -> bool
@@ -59,31 +60,31 @@ fn are_columns(columns: &[Column], outs: &[Expr]) -> bool
     true
 }
 
-// Puts what the row answers in its moments of the slice after the rows.
+// Puts what the row of these values answers in its moments of the slice after the rows.
 fn put_in_slice<'a>(
     alloc: Global,
-    rows: &mut Vec<TimedRow<'a>>,
+    rows: &mut TimedRows<'a>,
+    row: &mut Vec<Val<'a>>,
     outs: &[Expr],
     cond: &Cond,
     columns: &[Column],
     slice: Period,
-    row: TimedRow<'a>,
+    values: &[Val<'a>],
+    period: Period,
 ) -> Result<(), NoMemory>
-    requires { IsValidRow (map shown row.values.items) }
+    requires { IsValidRow (map shown values.now) }
     ensures borrowed { (which : BorrowedValues)
         → AllStayBorrowed which (map tree outs.now) rows.old.items
-        → RowBorrows which columns.now row.entry.values.items
+        → RowBorrows which columns.now values.now
         → OnOk result (AllStayBorrowed which (map tree outs.now) rows.new.items) }
     ensures rows { OnOk result (entries_of rows.new.items ≡ entries_of rows.old.items
         ++ answers columns.now (map tree outs.now) (test cond.now)
-        (in_slice slice (entry_of row.entry))) }
+        (in_slice slice (record { item = map shown values.now; period = period }))) }
 {
-    let TimedRow { values, period } = row;
-    let Some(period) = meet(slice, period) else {
-        return Ok(());
-    };
-    let choice = TimedRow { values, period };
-    put_answer(alloc, rows, outs, cond, columns, &choice)
+    match meet(slice, period) {
+        None => Ok(()),
+        Some(within) => put_answer(alloc, rows, row, outs, cond, columns, values, within),
+    }
 }
 
 // What the rows answer in their moments of the slice, each row made anew.
@@ -93,18 +94,29 @@ fn made_rows<'a>(
     cond: &Cond,
     columns: &[Column],
     slice: Period,
-    rows: Vec<TimedRow<'a>>,
-) -> Result<Vec<TimedRow<'a>>, NoMemory>
-    requires { AllValid (entries_of rows.items) }
-    ensures borrowed { (which : BorrowedValues) → RowsBorrow which columns.now rows.entry.items
+    rows: &TimedRows<'a>,
+) -> Result<TimedRows<'a>, NoMemory>
+    requires { AllValid (entries_of rows.now.items) }
+    ensures borrowed { (which : BorrowedValues) → RowsBorrow which columns.now rows.now.items
         → IfOk result (λ v. AllStayBorrowed which (map tree outs.now) v.items) }
     ensures rows { IfOk result (λ v. entries_of v.items
         ≡ answers columns.now (map tree outs.now) (test cond.now)
-        (all_in_slice slice (entries_of rows.entry.items))) }
+        (all_in_slice slice (entries_of rows.now.items))) }
 {
-    let mut made = Vec::with_capacity(alloc, rows.len())?;
-    for row in rows {
-        put_in_slice(alloc, &mut made, outs, cond, columns, slice, row)?;
+    let mut made = TimedRows::with_capacity(alloc, rows.len(), rows.len())?;
+    let mut row = Vec::new(alloc);
+    for i in 0..rows.len() {
+        put_in_slice(
+            alloc,
+            &mut made,
+            &mut row,
+            outs,
+            cond,
+            columns,
+            slice,
+            rows.values(i),
+            rows.period(i),
+        )?;
     }
     Ok(made)
 }
@@ -123,8 +135,8 @@ fn own_rows<'a>(
     cond: &Cond,
     columns: &[Column],
     slice: Period,
-    rows: Vec<TimedRow<'a>>,
-) -> Result<Vec<TimedRow<'a>>, NoMemory>
+    rows: TimedRows<'a>,
+) -> Result<TimedRows<'a>, NoMemory>
     requires { AllValid (entries_of rows.items) }
     ensures values { IfOk result (λ v. HaveValuesOf rows.entry.items v.items) }
     ensures rows { IfOk result (λ v. entries_of v.items
@@ -147,8 +159,8 @@ fn answered_rows<'a>(
     cond: &Cond,
     columns: &[Column],
     slice: Period,
-    rows: Vec<TimedRow<'a>>,
-) -> Result<Vec<TimedRow<'a>>, NoMemory>
+    rows: TimedRows<'a>,
+) -> Result<TimedRows<'a>, NoMemory>
     requires { Fit (length columns.now) (entries_of rows.items) }
     ensures borrowed { (which : BorrowedValues) → RowsBorrow which columns.now rows.entry.items
         → IfOk result (λ v. AllStayBorrowed which (map tree outs.now) v.items) }
@@ -159,7 +171,7 @@ fn answered_rows<'a>(
     if are_columns(columns, outs) {
         return own_rows(alloc, cond, columns, slice, rows);
     }
-    made_rows(alloc, outs, cond, columns, slice, rows)
+    made_rows(alloc, outs, cond, columns, slice, &rows)
 }
 
 /// What outputs answer of the rows of one atom that meet the condition: at each moment of the slice
@@ -171,7 +183,7 @@ pub(crate) fn answer_atom<'a>(
     cond: &Cond,
     atom: Atom<'a>,
     slice: Period,
-) -> Result<Vec<TimedRow<'a>>, NoMemory>
+) -> Result<TimedRows<'a>, NoMemory>
     ensures borrowed { (which : BorrowedValues)
         → RowsBorrow which atom.entry.columns.items atom.entry.rows.items
         → IfOk result (λ rows. AllStayBorrowed which (map tree outs.now) rows.items) }

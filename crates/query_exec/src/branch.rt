@@ -30,12 +30,13 @@ use crate::piece::put_rows;
 use crate::route::Route;
 use cond_expr::{ColRef, Cond, gather_references};
 use joining::{Atom, answer_choices};
-use prima_base::{Name, NoMemory, Steps, TimedRow};
+use prima_base::{Name, NoMemory, Steps};
 use rule_book::{Rule, RuleBook};
 use schema_catalog::Schema;
 use std::alloc::Global;
 use std::sync::ledger::Ledger;
 use temporal_lang::Branch;
+use timed_rows::TimedRows;
 use version_groups::Groups;
 
 // What is read of each item's table, as the atom that is its place.
@@ -100,7 +101,7 @@ fn answer_branch<'a, L: Ledger, R: Rule>(
     schema: &Schema,
     branch: &Branch,
     steps: &mut Steps<L>,
-) -> Result<Vec<TimedRow<'a>>, NoMemory>
+) -> Result<TimedRows<'a>, NoMemory>
     requires represents { (past : Past) × Represents groups.now past }
     requires route { IsRoute (versions_in groups.now) route.now }
     requires schema { schema.now ≡ tables_from no_tables (versions_in groups.now) route.now.asked }
@@ -157,7 +158,7 @@ pub(crate) fn answer_branches<'a, L: Ledger, R: Rule>(
     schema: &Schema,
     branches: &[Branch],
     steps: &mut Steps<L>,
-) -> Result<Vec<TimedRow<'a>>, NoMemory>
+) -> Result<TimedRows<'a>, NoMemory>
     requires represents { (past : Past) × Represents groups.now past }
     requires route { IsRoute (versions_in groups.now) route.now }
     requires schema { schema.now ≡ tables_from no_tables (versions_in groups.now) route.now.asked }
@@ -188,7 +189,7 @@ pub(crate) fn answer_branches<'a, L: Ledger, R: Rule>(
         → IfOk result (λ _. steps.old + explained_read groups.now e ≤ steps.new) }
     ensures rises { steps.old ≤ steps.new }
 {
-    let mut rows = Vec::new(alloc);
+    let mut rows = TimedRows::new(alloc);
     for branch in branches {
         let news = answer_branch(alloc, groups, book, route, schema, branch, steps)?;
         put_rows(&mut rows, news)?;

@@ -22,26 +22,22 @@ ghost use Rattle.query_exec.specs.Reads.{pieces_read};
 
 use join_exec::run_piece;
 use piece_ir::Piece;
-use prima_base::{NoMemory, Period, Steps, TimedRow};
+use prima_base::{NoMemory, Period, Steps};
 use std::alloc::Global;
 use std::sync::ledger::Ledger;
+use timed_rows::TimedRows;
 use version_groups::Groups;
 
 /// Puts rows after the others. The first are taken as they are, so that what is read of one table
 /// at one time is copied nowhere on the way.
-pub(crate) fn put_rows<'a>(
-    rows: &mut Vec<TimedRow<'a>>,
-    news: Vec<TimedRow<'a>>,
-) -> Result<(), NoMemory>
+pub(crate) fn put_rows<'a>(rows: &mut TimedRows<'a>, news: TimedRows<'a>) -> Result<(), NoMemory>
     ensures items { OnOk result (rows.new.items ≡ rows.old.items ++ news.entry.items) }
 {
     if rows.is_empty() {
         *rows = news;
         return Ok(());
     }
-    let mut news = news;
-    rows.append(&mut news)?;
-    Ok(())
+    rows.append(news)
 }
 
 // A period has a moment: its start.
@@ -52,11 +48,11 @@ fn has_moments(period: Period)
 }
 
 // Each row has a moment, the first of its period. So nothing is done here.
-fn have_moments(rows: &[TimedRow<'_>])
-    ensures { (row : OneRow) → In row rows.now → row.period.start < row.period.end }
+fn have_moments(rows: &TimedRows<'_>)
+    ensures { (row : OneRow) → In row rows.now.items → row.period.start < row.period.end }
 {
-    for row in rows {
-        has_moments(row.period);
+    for i in 0..rows.len() {
+        has_moments(rows.period(i));
     }
 }
 
@@ -68,7 +64,7 @@ fn run_pieces<'a, L: Ledger>(
     pieces: &[Piece],
     period: Period,
     steps: &mut Steps<L>,
-) -> Result<Vec<TimedRow<'a>>, NoMemory>
+) -> Result<TimedRows<'a>, NoMemory>
     requires { (past : Past) × Represents groups.now past × (version ≤ length past.versions)
         × AllTyped (tables_of past version) (pieces_of pieces.now) }
     ensures rows { (past : Past) → Represents groups.now past → (m : ℕ) → covers period m ≡ true
@@ -84,7 +80,7 @@ fn run_pieces<'a, L: Ledger>(
         ≡ steps.old + pieces_read groups.now version (pieces_of pieces.now)) }
     ensures rises { steps.old ≤ steps.new }
 {
-    let mut rows = Vec::new(alloc);
+    let mut rows = TimedRows::new(alloc);
     for piece in pieces {
         let news = run_piece(alloc, groups, version, piece, period, steps)?;
         have_moments(&news);
@@ -100,7 +96,7 @@ pub(crate) fn read_run<'a, L: Ledger>(
     groups: &'a Groups,
     run: (Period, u32),
     pieces: &[Piece],
-    rows: &mut Vec<TimedRow<'a>>,
+    rows: &mut TimedRows<'a>,
     steps: &mut Steps<L>,
 ) -> Result<(), NoMemory>
     requires { (past : Past) × Represents groups.now past × (run.1 ≤ length past.versions)

@@ -21,11 +21,12 @@ ghost use Rattle.query_exec.specs.Reads.{explained_read, reads_of};
 use crate::branch::answer_branches;
 use crate::route::{ends_in_time, route_of};
 use coalesce::coalesce_in_place;
-use prima_base::{NoMemory, Steps, TimedRow};
+use prima_base::{NoMemory, Steps};
 use rule_book::{Rule, RuleBook};
 use std::alloc::Global;
 use std::sync::ledger::Ledger;
 use temporal_lang::{Query, slice};
+use timed_rows::TimedRows;
 use version_groups::Groups;
 
 /// What a query lists, over all of history: each row with the longest periods of its slice in which
@@ -47,7 +48,7 @@ pub fn answer<'a, L: Ledger, R: Rule>(
     book: &RuleBook<R>,
     query: &Query,
     steps: &mut Steps<L>,
-) -> Result<Vec<TimedRow<'a>>, NoMemory>
+) -> Result<TimedRows<'a>, NoMemory>
     requires answerable { IsAnswerable groups.now (query_of query.now) }
     requires there { query.now.version ≤ length groups.now.versions }
     requires lasting { IsLasting query.now.when }

@@ -36,10 +36,11 @@ use crate::route::Route;
 use crate::run::run_of;
 use crate::walk::pieces_along;
 use coalesce::coalesce_in_place;
-use prima_base::{Name, NoMemory, Steps, TimedRow};
+use prima_base::{Name, NoMemory, Steps};
 use rule_book::{Rule, RuleBook};
 use std::alloc::Global;
 use std::sync::ledger::Ledger;
+use timed_rows::TimedRows;
 use version_groups::Groups;
 
 /// The pieces of the table over each version of the slice, in the order of the versions. Each rule
@@ -89,7 +90,7 @@ fn read_parts<'a, L: Ledger>(
     groups: &'a Groups,
     plan: &[PartPieces],
     steps: &mut Steps<L>,
-) -> Result<Vec<TimedRow<'a>>, NoMemory>
+) -> Result<TimedRows<'a>, NoMemory>
     requires ready { (past : Past) × Represents groups.now past
         × ((x : OnePart) → In x plan.now → IsOwn (versions_in groups.now) x.part
         × AllTyped (tables_of past x.part.1) (pieces_of x.pieces.items)) }
@@ -108,7 +109,7 @@ fn read_parts<'a, L: Ledger>(
         → IfOk result (λ _. steps.old + part_read groups.now x ≤ steps.new) }
     ensures rises { steps.old ≤ steps.new }
 {
-    let mut rows = Vec::new(alloc);
+    let mut rows = TimedRows::new(alloc);
     let mut at: usize = 0;
     'runs: while at < plan.len() {
         let first = &plan[at];
@@ -138,7 +139,7 @@ pub(crate) fn read_table<'a, L: Ledger, R: Rule>(
     table: &Name,
     question: &Question,
     steps: &mut Steps<L>,
-) -> Result<Vec<TimedRow<'a>>, NoMemory>
+) -> Result<TimedRows<'a>, NoMemory>
     requires represents { (past : Past) × Represents groups.now past }
     requires route { IsRoute (versions_in groups.now) route.now }
     requires read { MayBeRead (versions_in groups.now) route.now table.now (read_asked

@@ -1,14 +1,10 @@
-use Rattle.std.proofs.Common.{◌≡◌, sym, ap, subst, ◌∙◌, List, ◌++◌, length, take, drop, arith}
-use Rattle.std.proofs.Common.{true}
+use Rattle.std.proofs.Common.{◌≡◌, sym, subst, ◌∙◌, List, true}
 use Rattle.std.specs.List.Sorted.{IsPermutation}
-use Rattle.std.proofs.lemmas.Grind.{common_steps}
-use Rattle.std.proofs.lemmas.List.{take_at}
-use Rattle.std.proofs.lemmas.List.Sorted.{IsPermutation-trans, length_permutation}
+use Rattle.std.proofs.lemmas.List.Sorted.{IsPermutation-trans}
 use Rattle.relations.specs.Listing.{IsListing}
 use Rattle.prima_base.specs.Order.{row_cmp}
 use Rattle.prima_base.specs.Timed.{rows_at, entries_of}
 use Rattle.prima_base.specs.declared.timed_row.TimedRow.{TimedRow}
-use Rattle.coalesce.specs.Listed.{is_listing}
 use Rattle.coalesce.proofs.Sorted.{coalesced}
 use Rattle.coalesce.proofs.Values.{have_values, moved_have_values, listed_have_values}
 use Rattle.coalesce.proofs.Listed.{same_at, unlisted_at}
@@ -17,27 +13,16 @@ use Rattle.coalesce.proofs.coalesce_in_place.Goals as goal
 use Rattle.coalesce.proofs.coalesce_in_place.Goals.{After-is_listing-2, After-join_sorted}
 
 -- sorting by groups moves rows, and so does sorting all
-moved : (c : After-join_sorted)
-    → IsPermutation c.cut_rows.new.rows.items c.sort_unstable.new.self.items
-moved c =
-    let grouped : IsPermutation c.cut_rows.new.rows.items c.sort_groups.new.rows =
-    subst (λ (l : List TimedRow). IsPermutation l c.sort_groups.new.rows)
-    c.deref_mut.ensures.value c.sort_groups.ensures in
-    let len : length c.cut_rows.new.rows.items ≡ c.cut_rows.new.rows.len =
-    grind (arith, common_steps) in
-    IsPermutation-trans _ _ _ grouped
-    (subst (λ (l : List TimedRow). IsPermutation l c.sort_unstable.new.self.items)
-    (take_at c.sort_groups.new.rows _ _ (length_permutation _ _ grouped ∙ len))
-    c.sort_unstable.ensures.permutation)
+moved : (c : After-join_sorted) → IsPermutation c.cut_rows.new.rows.items c.sort.new.self.items
+moved c = IsPermutation-trans _ _ _ c.sort_groups.ensures c.sort.ensures.permutation
 
 listed : (c : After-join_sorted) → IsListing row_cmp (rows_at c.args.rows.now.items) c.args.slice
     (entries_of c.join_sorted.new.rows.items)
 listed c =
     subst (λ (l : List TimedRow). IsListing row_cmp (rows_at c.args.rows.now.items) c.args.slice
     (entries_of l)) (sym c.join_sorted.ensures)
-    (coalesced c.args.rows.now.items c.cut_rows.new.rows.items c.sort_unstable.new.self.items
-    c.args.slice c.cut_rows.ensures (moved c)
-    c.sort_unstable.ensures.sorted)
+    (coalesced c.args.rows.now.items c.cut_rows.new.rows.items c.sort.new.self.items
+    c.args.slice c.cut_rows.ensures (moved c) c.sort.ensures.sorted)
 
 pub returns-clause-listing : goal.returns-clause-listing
 returns-clause-listing c = listed (goal.at.returns-clause-listing c).After-join_sorted
@@ -53,48 +38,30 @@ returns-clause-inside c = unlisted_at (rows_at c.args.rows.now.items) c.args.sli
 
 pub returns-clause-values : goal.returns-clause-values
 returns-clause-values c = have_values c.args.rows.now.items c.cut_rows.new.rows.items
-    c.sort_unstable.new.self.items _ c.args.slice c.cut_rows.ensures
+    c.sort.new.self.items _ c.args.slice c.cut_rows.ensures
     (moved (goal.at.returns-clause-values c).After-join_sorted) c.join_sorted.ensures
 
 pub returns-then-is_listing-clause-listing : goal.returns-then-is_listing-clause-listing
 returns-then-is_listing-clause-listing c = unmoved c.args.slice c.args.rows.now.items
-    (ap (is_listing c.args.slice) (sym c.deref.ensures.value) ∙ sym c.is_listing.ensures
-    ∙ c.if-is_listing.true)
+    (sym c.is_listing.ensures ∙ c.if-is_listing.true)
 
 pub returns-then-is_listing-clause-inside : goal.returns-then-is_listing-clause-inside
 returns-then-is_listing-clause-inside c = unlisted_at (rows_at c.args.rows.now.items) c.args.slice
     (entries_of c.args.rows.now.items)
-    (unmoved c.args.slice c.args.rows.now.items
-    (ap (is_listing c.args.slice) (sym c.deref.ensures.value) ∙ sym c.is_listing.ensures
-    ∙ c.if-is_listing.true))
+    (unmoved c.args.slice c.args.rows.now.items (sym c.is_listing.ensures ∙ c.if-is_listing.true))
 
 pub returns-then-is_listing-clause-values : goal.returns-then-is_listing-clause-values
 returns-then-is_listing-clause-values c = listed_have_values c.args.slice c.args.rows.now.items
-    (ap (is_listing c.args.slice) (sym c.deref.ensures.value) ∙ sym c.is_listing.ensures
-    ∙ c.if-is_listing.true)
+    (sym c.is_listing.ensures ∙ c.if-is_listing.true)
 
 -- ---- the groups in order are the list
 
-abbrev grouped : After-is_listing-2 → List TimedRow
-grouped c = take c.cut_rows.new.rows.len (c.sort_groups.new.rows
-    ++ drop (length c.sort_groups.new.rows) c.cut_rows.new.rows.items)
-
-in_groups : (c : After-is_listing-2) → IsPermutation c.cut_rows.new.rows.items (grouped c)
-in_groups c =
-    let sorted : IsPermutation c.cut_rows.new.rows.items c.sort_groups.new.rows =
-    subst (λ (l : List TimedRow). IsPermutation l c.sort_groups.new.rows)
-    c.deref_mut.ensures.value c.sort_groups.ensures in
-    let len : length c.cut_rows.new.rows.items ≡ c.cut_rows.new.rows.len =
-    grind (arith, common_steps) in
-    subst (λ (l : List TimedRow). IsPermutation c.cut_rows.new.rows.items l)
-    (sym (take_at c.sort_groups.new.rows _ _ (length_permutation _ _ sorted ∙ len))) sorted
-
 listed_groups : (c : After-is_listing-2) → c.is_listing-2.result ≡ true
-    → IsListing row_cmp (rows_at c.args.rows.now.items) c.args.slice (entries_of (grouped c))
+    → IsListing row_cmp (rows_at c.args.rows.now.items) c.args.slice
+    (entries_of c.sort_groups.new.rows.items)
 listed_groups c found = unjoined_listing c.args.rows.now.items c.cut_rows.new.rows.items
-    (grouped c) c.args.slice c.cut_rows.ensures (in_groups c)
-    (ap (is_listing c.args.slice) (sym c.deref-2.ensures.value) ∙ sym c.is_listing-2.ensures
-    ∙ found)
+    c.sort_groups.new.rows.items c.args.slice c.cut_rows.ensures c.sort_groups.ensures
+    (sym c.is_listing-2.ensures ∙ found)
 
 pub returns-then-is_listing-2-clause-listing : goal.returns-then-is_listing-2-clause-listing
 returns-then-is_listing-2-clause-listing c =
@@ -114,5 +81,5 @@ returns-then-is_listing-2-clause-inside c = unlisted_at (rows_at c.args.rows.now
 
 pub returns-then-is_listing-2-clause-values : goal.returns-then-is_listing-2-clause-values
 returns-then-is_listing-2-clause-values c = moved_have_values c.args.rows.now.items
-    c.cut_rows.new.rows.items _ c.args.slice c.cut_rows.ensures
-    (in_groups (goal.at.returns-then-is_listing-2-clause-values c).After-is_listing-2)
+    c.cut_rows.new.rows.items c.sort_groups.new.rows.items c.args.slice c.cut_rows.ensures
+    c.sort_groups.ensures

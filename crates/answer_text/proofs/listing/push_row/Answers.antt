@@ -13,20 +13,17 @@ returns-in_err-push_head-clause-part g c = on_err _ _
 pub returns-in_err-push_values-clause-part : goal.returns-in_err-push_values-clause-part
 returns-in_err-push_values-clause-part g c =
     let p = c.in_ok-push_head.ensures.all in
-    let h = head_text c.args.told c.args.row.now.period.start c.args.row.now.period.end in
-    let v = values_text (map shown c.args.row.now.values.items) in
-    on_err _ _ (less_within _ _ _ _ _ h v (codes "\n") _ p
-    (rw c.deref.ensures.value at c.in_err-push_values.ensures.part)
+    let h = head_text c.args.told c.args.period.start c.args.period.end in
+    let v = values_text (map shown c.args.values.now) in
+    on_err _ _ (less_within _ _ _ _ _ h v (codes "\n") _ p c.in_err-push_values.ensures.part
     (append_assoc h v (codes "\n")))
 
 pub returns-clause-all : goal.returns-clause-all
 returns-clause-all g c =
-    let p = more _ _ _ _ _ _ _ _ c.in_ok-push_head.ensures.all
-    (rw c.deref.ensures.value at c.in_ok-push_values.ensures.all) in
+    let p = more _ _ _ _ _ _ _ _ c.in_ok-push_head.ensures.all c.in_ok-push_values.ensures.all in
     on_ok_weaker c.push.result (more _ _ _ _ _ _ _ (codes "\n") p) c.push.ensures.all
 
 pub returns-clause-part : goal.returns-clause-part
 returns-clause-part g c =
-    let p = more _ _ _ _ _ _ _ _ c.in_ok-push_head.ensures.all
-    (rw c.deref.ensures.value at c.in_ok-push_values.ensures.all) in
+    let p = more _ _ _ _ _ _ _ _ c.in_ok-push_head.ensures.all c.in_ok-push_values.ensures.all in
     on_err_weaker c.push.result (less_gathered _ _ _ _ _ _ (codes "\n") p) c.push.ensures.part

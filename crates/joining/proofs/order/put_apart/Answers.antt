@@ -1,4 +1,6 @@
 use Rattle.std.proofs.Common.{sym, ◌≡◌, ◌++◌, [], ◌∷◌, List, length, ap, ◌∙◌, subst, arith}
+use Rattle.relations.specs.Timed.{Entry, at}
+use Rattle.prima_base.specs.Order.{row_cmp}
 use Rattle.prima_base.specs.declared.value.Value.{Value}
 use Rattle.prima_base.specs.Timed.{entries_of, rows_at}
 use Rattle.std.proofs.lemmas.List.{map-append}
@@ -15,8 +17,10 @@ pub invariant_of-push_back : goal.invariant_of-push_back
 invariant_of-push_back c = record {
   fit = (let e : length c.args.atom.columns.items ≡ c.len-width.result = omega arith in
       subst (λ n. Fit n (entries_of c.in_turn.result.items)) e
-      (fit_moved c.args.atom.rows.items c.in_turn.result.items c.in_turn.ensures.same
-      (length c.args.atom.columns.items) c.args.atom.fit));
+      (fit_moved c.in_ok-listed.field-0.items c.in_turn.result.items c.in_turn.ensures.same
+      (length c.args.atom.columns.items)
+      (subst (Fit (length c.args.atom.columns.items)) (sym c.in_ok-listed.ensures.entries)
+      c.args.atom.fit)));
 }
 
 pub returns-clause-rows : goal.returns-clause-rows
@@ -24,7 +28,8 @@ returns-clause-rows c = λ m.
     ap (λ (ss : List Source). relations_of ss m) c.in_ok-push_back.ensures.items
     ∙ map-append (λ (s : Source). rows_at s.rows.items m) c.args.sources.now.items _
     ∙ ap (λ (rows : List (List Value)). relations_of c.args.sources.now.items m ++ rows ∷ [])
-    (at_moved c.args.atom.rows.items c.in_turn.result.items c.in_turn.ensures.same m)
+    (at_moved c.in_ok-listed.field-0.items c.in_turn.result.items c.in_turn.ensures.same m
+    ∙ ap (λ (es : List (Entry (List Value))). at row_cmp es m) c.in_ok-listed.ensures.entries)
 
 pub returns-clause-borrowed : goal.returns-clause-borrowed
 returns-clause-borrowed c = λ which h k.
@@ -34,5 +39,6 @@ returns-clause-borrowed c = λ which h k.
     (sym c.in_ok-push_back.ensures.items)
     (sources_with which c.args.types.now.items c.args.atom.columns.items c.args.sources.now.items _
     h
-    (each_moved c.args.atom.rows.items c.in_turn.result.items c.in_turn.ensures.same
-    (RowBorrows which c.args.atom.columns.items) k)))
+    (each_moved c.in_ok-listed.field-0.items c.in_turn.result.items c.in_turn.ensures.same
+    (RowBorrows which c.args.atom.columns.items)
+    (c.in_ok-listed.ensures.borrowed which c.args.atom.columns.items k))))

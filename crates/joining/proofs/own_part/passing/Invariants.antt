@@ -1,4 +1,4 @@
-use Rattle.std.proofs.Common.{◌≡◌, ◌≤◌, ◌-◌, drop, vec_len}
+use Rattle.std.proofs.Common.{◌≡◌, ◌≤◌, ◌-◌, drop, length}
 use Rattle.std.specs.List.{filter}
 use Rattle.prima_base.specs.declared.timed_row.TimedRow.{TimedRow}
 use Rattle.prima_base.specs.Timed.{entry_of, entries_of}
@@ -9,7 +9,7 @@ use Rattle.joining.proofs.own_part.passing.Given as goal
 abbrev pub invariant-rows : goal.invariant-rows
 invariant-rows l = record {
   kept : l.kept ≤ l.next;
-  next : l.next ≤ vec_len l.rows;
+  next : l.next ≤ length l.rows.items;
   valid : AllValid (entries_of (drop l.next l.rows.items));
   stands : left (λ (t : TimedRow). meets_all l.columns (borrowed_tests l.conds) (entry_of t).item)
       l.kept l.next l.rows.items
@@ -18,4 +18,4 @@ invariant-rows l = record {
 }
 
 abbrev pub decreases-rows : goal.decreases-rows
-decreases-rows l = vec_len l.rows - l.next
+decreases-rows l = length l.rows.items - l.next

@@ -1,53 +1,62 @@
-use Rattle.std.proofs.Common.{◌≡◌, ◌∷◌, List, map, refl, sym, ap, subst, inl, inr}
-use Rattle.std.specs.Vec.Iter.{into_iter_items}
-use Rattle.relations.specs.Sets.{In}
+use Rattle.std.proofs.Common.{◌≡◌, ◌<◌, ◌++◌, List, map, length, take, get_or, refl, sym, ap, ◌∙◌}
+use Rattle.std.proofs.Common.{subst, arith}
+use Rattle.std.proofs.lemmas.List.{take_all}
+use Rattle.relations.specs.Timed.{Entry}
 use Rattle.prima_base.specs.declared.timed_row.TimedRow.{TimedRow}
+use Rattle.prima_base.specs.declared.value.Value.{Value}
 use Rattle.prima_base.specs.Timed.{entry_of, entries_of}
 use Rattle.cond_expr.specs.Seen.{tree, test}
+use Rattle.timed_choices.specs.Answering.{answers}
 use Rattle.timed_choices.specs.Keeping.{AllValid}
-use Rattle.timed_choices.specs.BorrowedOutputs.{RowsBorrow, AllStayBorrowed}
+use Rattle.timed_choices.specs.BorrowedOutputs.{RowBorrows, AllStayBorrowed}
+use Rattle.timed_choices.proofs.BorrowedLaws.{each_at}
+use Rattle.timed_choices.proofs.Tests.{valid_row}
+use Rattle.timed_rows.proofs.Moves.{no_row}
+use Rattle.timed_rows.proofs.ReadRows.{read_entry}
+use Rattle.joining.specs.InSlice.{in_slice, all_in_slice}
+use Rattle.joining.proofs.RowPlaces.{rows_more, valid_at}
 use Rattle.joining.proofs.SingleAtoms.{row_more}
 use Rattle.joining.proofs.single_atom.made_rows.Goals as goal
 
 pub put_in_slice-requires : goal.put_in_slice-requires
-put_in_slice-requires c =
-    let steps : into_iter_items c.loop-row.row-iterator ≡ c.in-Some.row
-    ∷ into_iter_items c.next.new.self = c.in-Some.ensures.steps.0 in
-    c.loop-row.invariant.left (entry_of c.in-Some.row)
-    (subst (λ (rows : List TimedRow). In (entry_of c.in-Some.row) (entries_of rows)) (sym steps)
-    (inl refl))
+put_in_slice-requires c = valid_at c.args.rows.now.items c.loop-i.i c.values.result.now c.requires
+    (omega arith) (c.values.ensures.values no_row)
 
-pub loop-row-preserved : goal.loop-row-preserved
-loop-row-preserved c =
-    let steps : into_iter_items c.loop-row.row-iterator ≡ c.in-Some.row
-    ∷ into_iter_items c.next.new.self = c.in-Some.ensures.steps.0 in
+pub loop-i-preserved : goal.loop-i-preserved
+loop-i-preserved c =
+    let xs = c.args.rows.now.items in
+    let i = c.loop-i.i in
+    let here : i < length xs = omega arith in
+    let cs = c.args.columns.now in
+    let outs = map tree c.args.outs.now in
+    let cond = test c.args.cond.now in
+    let row = get_or xs i no_row in
+    let is = read_entry xs i c.values.result.now c.period.result (c.values.ensures.values no_row)
+    (c.period.ensures.period no_row) in
     record {
-      rows = row_more c.args.columns.now (map tree c.args.outs.now) (test c.args.cond.now)
-          c.args.slice c.loop-row.yielded c.in-Some.row (entries_of c.loop-row.made.items)
-          (entries_of c.put_in_slice.new.rows.items) c.loop-row.invariant.rows
-          c.in_ok-put_in_slice.ensures.rows;
-      left = λ e i. c.loop-row.invariant.left e
-          (subst (λ (rows : List TimedRow). In e (entries_of rows)) (sym steps) (inr i));
-      borrowed = λ which h.
-          let before = c.loop-row.invariant.borrowed which h in
-          let both : RowsBorrow which c.args.columns.now
-          (c.in-Some.row ∷ into_iter_items c.next.new.self) =
-          subst (RowsBorrow which c.args.columns.now) steps before.1 in
-          (c.in_ok-put_in_slice.ensures.borrowed which before.0 both.0, both.1);
+      rows = subst (λ (rows : List TimedRow). entries_of c.put_in_slice.new.rows.items
+          ≡ answers cs outs cond (all_in_slice c.args.slice (entries_of rows)))
+          (sym (rows_more xs i here))
+          (row_more cs outs cond c.args.slice (take i xs) row (entries_of c.loop-i.made.items)
+          (entries_of c.put_in_slice.new.rows.items) c.loop-i.invariant.rows
+          (c.in_ok-put_in_slice.ensures.rows
+          ∙ ap (λ (e : Entry (List Value)). entries_of c.loop-i.made.items
+          ++ answers cs outs cond (in_slice c.args.slice e)) is));
+      borrowed = λ which h. c.in_ok-put_in_slice.ensures.borrowed which
+          (c.loop-i.invariant.borrowed which h)
+          (subst (RowBorrows which cs) (sym (c.values.ensures.values no_row))
+          (each_at (RowBorrows which cs) xs i row here refl h));
     }
 
-pub loop-row-init : goal.loop-row-init
-loop-row-init c =
-    let given = c.into_iter-row-iterator.ensures.into_iter_gives.0 in
-    record {
-      rows = ap (λ (rows : List TimedRow). entries_of rows) c.in_ok-made.ensures.items;
-      left = subst (λ (rows : List TimedRow). AllValid (entries_of rows)) (sym given) c.requires;
-      borrowed = λ which h. (
-        subst (AllStayBorrowed which (map tree c.args.outs.now))
-            (sym c.in_ok-made.ensures.items) tt,
-        subst (RowsBorrow which c.args.columns.now) (sym given) h,
-      );
-    }
+pub loop-i-init : goal.loop-i-init
+loop-i-init c = record {
+  rows = ap (λ (rows : List TimedRow). entries_of rows) c.in_ok-made.ensures;
+  borrowed = λ which h. subst (AllStayBorrowed which (map tree c.args.outs.now))
+      (sym c.in_ok-made.ensures) tt;
+}
 
-pub returns-clause-borrowed : goal.returns-clause-borrowed
-returns-clause-borrowed c = λ which h. (c.loop-row.invariant.borrowed which h).0
+pub returns-clause-rows : goal.returns-clause-rows
+returns-clause-rows c = c.loop-i.invariant.rows
+    ∙ ap (λ (rows : List TimedRow). answers c.args.columns.now (map tree c.args.outs.now)
+    (test c.args.cond.now) (all_in_slice c.args.slice (entries_of rows)))
+    (take_all c.loop-i.i c.args.rows.now.items (omega arith))

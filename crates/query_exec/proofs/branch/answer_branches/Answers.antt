@@ -25,13 +25,13 @@ pub loop-branch-init : goal.loop-branch-init
 loop-branch-init g c = record {
   may = c.requires.read;
   rows = λ past represents m inside. ap (λ (rs : List TimedRow). rows_at rs m)
-      c.new-rows.ensures.items
+      c.new-rows.ensures
       ∙ none_answered (branch_answers (tables_of past c.args.route.now.asked)
       (migrated past m c.args.route.now.asked)) m;
   borrowed = λ past represents number by_branch h.
       let e : number ≡ number + 0 = omega arith in (
         subst (AlwaysBorrowedBy past c.args.route.now.asked by_branch number
-            (branches_of c.args.branches.now)) (sym c.new-rows.ensures.items)
+            (branches_of c.args.branches.now)) (sym c.new-rows.ensures)
             (λ row m. absurd m),
         subst (λ (n : ℕ). AllSpare c.args.groups.now by_branch
             (branches_pieces (book_of g.R.Rule.handles g.R.Rule.answers c.args.book.now.rules.items)

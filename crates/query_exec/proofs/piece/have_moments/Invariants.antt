@@ -3,6 +3,6 @@ use Rattle.relations.specs.Sets.{In}
 use Rattle.prima_base.specs.declared.timed_row.TimedRow.{TimedRow}
 use Rattle.query_exec.proofs.piece.have_moments.Given as goal
 
-abbrev pub invariant-loop-row : goal.invariant-loop-row
-invariant-loop-row l = (row : TimedRow) → In row (take l.row-index l.rows)
+abbrev pub invariant-loop-i : goal.invariant-loop-i
+invariant-loop-i l = (row : TimedRow) → In row (take l.i l.rows.items)
     → row.period.start < row.period.end

@@ -57,7 +57,7 @@ loop-piece-preserved g c =
           (piece_of c.piece-item.result)) c.args.period c.in_ok-news.news.items
           c.in_ok-news.ensures.stored c.in_ok-news.ensures.inside which columns
           (out_trees (piece_of c.piece-item.result).outs)
-          (λ row i. c.have_moments.ensures row (subst (In row) (sym c.deref.ensures.value) i))
+          c.have_moments.ensures
           (h (piece_of c.piece-item.result) (in_map piece_of c.piece-item.result c.args.pieces.now
           (among_taken c.args.pieces.now c.loop-piece.piece-index c.piece-item.result below
           c.piece-item.is))) c.in_ok-news.ensures.borrowed);
@@ -74,10 +74,10 @@ loop-piece-preserved g c =
 pub loop-piece-init : goal.loop-piece-init
 loop-piece-init g c = record {
   rows = λ past represents m inside meant h. ap (λ (rs : List TimedRow). rows_at rs m)
-      c.new-rows.ensures.items ∙ none_run (tables_of past h.version) (database_at past m) m;
-  inside = λ m outside. ap (λ (rs : List TimedRow). rows_at rs m) c.new-rows.ensures.items
+      c.new-rows.ensures ∙ none_run (tables_of past h.version) (database_at past m) m;
+  inside = λ m outside. ap (λ (rs : List TimedRow). rows_at rs m) c.new-rows.ensures
       ∙ nothing_at m;
-  borrowed = λ which columns h. subst (RowsBorrow which columns) (sym c.new-rows.ensures.items) tt;
+  borrowed = λ which columns h. subst (RowsBorrow which columns) (sym c.new-rows.ensures) tt;
   count = omega arith;
   rises = omega arith;
 }

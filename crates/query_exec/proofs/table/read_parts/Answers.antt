@@ -34,9 +34,9 @@ pub runs-init : goal.runs-init
 runs-init g c = record {
   within = omega arith;
   rows = λ past represents relation means. subst (λ (rs : List TimedRow).
-      IsGathered relation [] (entries_of rs)) (sym c.new-rows.ensures.items)
+      IsGathered relation [] (entries_of rs)) (sym c.new-rows.ensures)
       (nothing_gathered relation);
-  borrowed = λ which columns h. subst (RowsBorrow which columns) (sym c.new-rows.ensures.items) tt;
+  borrowed = λ which columns h. subst (RowsBorrow which columns) (sym c.new-rows.ensures) tt;
   cost = omega arith;
   least = λ x m. absurd m;
   rises = omega arith;

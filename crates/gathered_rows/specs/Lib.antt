@@ -1,0 +1,5 @@
+pub mod Entries
+pub mod Gathered
+pub mod HeadValues
+pub mod Reading
+pub mod Walking

@@ -1,0 +1,12 @@
+//! Rows with periods whose values stand in one list.
+//!
+//! A row of a query is told by where its values stand, so no row has a list of its own. A contract
+//! sees the rows as a list of `TimedRow`. Rows that are moved, cut or dropped leave the values
+//! where they are.
+#![tactic(auto)]
+
+mod order;
+mod place;
+mod rows;
+
+pub use rows::TimedRows;
