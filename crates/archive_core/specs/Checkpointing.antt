@@ -13,12 +13,12 @@ use Rattle.archive_core.specs.declared.fault.CommitFault.TheVariants.{Broken, Re
 use Rattle.archive_core.specs.declared.fault.CommitFault.TheVariants.{NoMemory}
 
 -- the image of what an archive has
-abbrev pub image_of : ArchiveContent → Image
-image_of archive = image_in archive.groups archive.last
+abbrev pub image_of_archive : ArchiveContent → Image
+image_of_archive archive = image_in archive.groups archive.last
 
 -- the record of its checkpoint
 abbrev pub checkpoint_of : ArchiveContent → LogRecord
-checkpoint_of archive = checkpointed (image_of archive)
+checkpoint_of archive = checkpointed (image_of_archive archive)
 
 -- how many bytes a put of the image of a past writes
 abbrev pub checkpoint_need : Past → ℕ

@@ -55,12 +55,13 @@ Commits past command at limit old (Err NoMemory) new = IsUnchanged past old new
 
 -- a command that is accepted was judged, and this was found; another is refused by its first
 -- refusal
-abbrev pub IsJudged : Past → PlainCommand → Result (AcceptedCommand × Sealed) CommitFault → Type 0
-IsJudged past command (Ok it) = IsAcceptedAfter past it.0
-IsJudged past command (Err (Refused r)) = command_fault past command ≡ Some r
-IsJudged past command (Err Disk) = ⊥
-IsJudged past command (Err Broken) = ⊥
-IsJudged past command (Err NoMemory) = ⊤
+abbrev pub IsCommandJudged : Past → PlainCommand → Result (AcceptedCommand × Sealed) CommitFault
+    → Type 0
+IsCommandJudged past command (Ok it) = IsAcceptedAfter past it.0
+IsCommandJudged past command (Err (Refused r)) = command_fault past command ≡ Some r
+IsCommandJudged past command (Err Disk) = ⊥
+IsCommandJudged past command (Err Broken) = ⊥
+IsCommandJudged past command (Err NoMemory) = ⊤
 
 -- a record that fits is put, or else the disk fails; another is refused
 abbrev pub IsPut : Record → ℕ → ℕ → Result (Unit {0}) CommitFault → Type 0

@@ -17,7 +17,7 @@ ghost use Rattle.archive_file.specs.LogRecords.{LogRecord, logged, record_of, re
 ghost use Rattle.archive_file.specs.LogRecords.{replayed_of};
 ghost use Rattle.archive_file.specs.Opening.{Opens, Damages};
 ghost use Rattle.archive_state.specs.ArchiveContents.{RepresentsPast, RepresentsSome};
-ghost use Rattle.version_groups.specs.Judged.{judged_command, IsAccepted};
+ghost use Rattle.version_groups.specs.Judged.{judged_command, IsCommandAccepted};
 ghost use Rattle.archive_state.specs.Asking.{IsAsked, IsExplained, TellsWayBack, ArePiecesOf};
 ghost use Rattle.archive_state.specs.Asking.{query_asked};
 ghost use Rattle.piece_texts.specs.ExplainedPieces.{PlainExplained};
@@ -63,7 +63,8 @@ impl<D: Disk> Archive<D> {
     ghost use Rattle.archive_core.specs.Fields.{is_broken};
     ghost use Rattle.archive_core.specs.Committing.{Commits, IsPut};
     ghost use Rattle.archive_core.specs.Holding.{HoldsAt};
-    ghost use Rattle.archive_core.specs.Checkpointing.{Checkpoints, image_of, checkpoint_of};
+    ghost use Rattle.archive_core.specs.Checkpointing.{Checkpoints, image_of_archive};
+    ghost use Rattle.archive_core.specs.Checkpointing.{checkpoint_of};
     ghost use Rattle.archive_core.specs.Mounting.{IsMounted};
     ghost use Rattle.store_image.specs.ImageIn.{IsImageOf};
 
@@ -214,10 +215,10 @@ impl<D: Disk> Archive<D> {
         ensures checkpoints { (past : Past) → RepresentsPast (standing_of self.old) past
             → Checkpoints past (place_of self.old) (limit_of self.old) result }
         ensures image { OnOk result ((past : Past) → RepresentsPast (standing_of self.old) past
-            → IsImageOf past (image_of (standing_of self.old))) }
+            → IsImageOf past (image_of_archive (standing_of self.old))) }
         ensures image_so_far { result ≡ Err fault.Disk → (past : Past)
             → RepresentsPast (standing_of self.old) past
-            → IsImageOf past (image_of (standing_of self.old)) }
+            → IsImageOf past (image_of_archive (standing_of self.old)) }
         ensures same { standing_of self.new ≡ standing_of self.old }
         ensures untouched { IfErr result (λ e. (e ≡ fault.Disk → ⊥)
             → (disk_of self.new ≡ disk_of self.old) × (place_of self.new ≡ place_of self.old)) }
@@ -323,12 +324,12 @@ impl<D: Disk> Archive<D> {
     fn accept(&mut self, judged: Judged<'_>, sealed: &Sealed) -> Result<Done, CommitFault>
         requires whole { is_broken self.old ≡ false }
         requires accepted { (past : Past) × RepresentsPast (standing_of self.old) past
-            × IsAccepted past judged }
+            × IsCommandAccepted past judged }
         requires sealed { sealed_record sealed.now ≡ record_of (logged (judged_command judged)) }
         ensures breaks { (is_broken self.new ≡ true) ↔ (result ≡ Err fault.Disk) }
         ensures unbroken { result ≡ Err fault.Broken → ⊥ }
         ensures commits { (past : Past) → RepresentsPast (standing_of self.old) past
-            → IsAccepted past judged.entry
+            → IsCommandAccepted past judged.entry
             → Commits past (judged_command judged.entry) (place_of self.old) (limit_of self.old)
             (standing_of self.old) result (standing_of self.new) }
         ensures represents { RepresentsSome (standing_of self.new) }

@@ -10,7 +10,7 @@ ghost use Rattle.journal.specs.JournalFiles.{sealed_record};
 ghost use Rattle.archive_state.specs.AcceptedCommands.{accepted_command};
 ghost use Rattle.archive_state.specs.ArchiveContents.{RepresentsPast, RepresentsSome};
 ghost use Rattle.archive_file.specs.LogRecords.{logged, record_of};
-ghost use Rattle.archive_core.specs.Committing.{IsJudged};
+ghost use Rattle.archive_core.specs.Committing.{IsCommandJudged};
 ghost use Rattle.archive_core.specs.Checkpointing.{checkpoint_of};
 ghost use Rattle.store_image.specs.ImageIn.{GroupsHold};
 
@@ -59,7 +59,7 @@ pub(crate) fn judge_and_seal(
 ) -> Result<(AcceptedCommand, Sealed), CommitFault>
     ensures same { IfOk result (λ it. accepted_command it.0 ≡ command_of command) }
     ensures judged { (past : Past) → RepresentsPast state.now past
-        → IsJudged past (command_of command) result }
+        → IsCommandJudged past (command_of command) result }
     ensures sealed { IfOk result (λ it. sealed_record it.1
         ≡ record_of (logged (command_of command))) }
     ensures spelled { OnOk result (IsCommand (command_of command)) }

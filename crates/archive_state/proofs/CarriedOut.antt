@@ -7,8 +7,8 @@ use Rattle.smo_meaning.specs.Past.{Past, next_past, past_with}
 use Rattle.version_groups.specs.Groups.{Kept}
 use Rattle.version_groups.specs.Representation.{Represents}
 use Rattle.version_groups.specs.Steps.{step_of, makes_version, IsStep}
-use Rattle.version_groups.specs.declared.prepared_groups.Step.{Step}
-use Rattle.version_groups.specs.declared.prepared_groups.Step.TheVariants.{Changed, Evolved}
+use Rattle.version_groups.specs.declared.prepared_command.Step.{Step}
+use Rattle.version_groups.specs.declared.prepared_command.Step.TheVariants.{Changed, Evolved}
 use Rattle.archive_state.specs.Committing.{version_made}
 use Rattle.archive_state.specs.ArchiveContents.{RepresentsPast}
 

@@ -28,7 +28,7 @@ use Rattle.smo_ops.specs.TablePlaces.{StandAt}
 use Rattle.smo_meaning.proofs.CountedOperators.{counted_length}
 use Rattle.smo_meaning.proofs.Firsts.{first_at, first_later}
 use Rattle.version_groups.specs.Groups.{Kept}
-use Rattle.version_groups.specs.Judged.{IsAcceptedAs, IsAccepted}
+use Rattle.version_groups.specs.Judged.{IsAcceptedAs, IsCommandAccepted}
 use Rattle.version_groups.specs.Steps.{a_command}
 use Rattle.version_groups.specs.declared.judged.Judged.TheVariants as judged
 use Rattle.version_groups.specs.Representation.{Represents}
@@ -97,7 +97,7 @@ answers past command (Err NoMemory) refused same found stamp hold = tt
 pub borrowed : (past : Past) (stamp : ℕ) (changes : Vec Change) (places : Vec ℕ)
     (slice : Bor (List Change)) → slice.now ≡ changes.items
     → IsAcceptedAfter past (Changes stamp changes places)
-    → IsAccepted past (judged.Changes stamp slice places)
+    → IsCommandAccepted past (judged.Changes stamp slice places)
 borrowed past stamp changes places slice is accepted = subst (λ (items : List Change).
     IsAcceptedAs past (a_command stamp (changing (changes_of items)))
     (StandAt (newest_tables past) (changes_of items) places.items)) (sym is) accepted

@@ -10,7 +10,7 @@ use std::alloc::Global;
 use std::marker::Model;
 use std::sync::ledger::Ledger;
 use temporal_lang::Query;
-use version_groups::{Groups, Judged, PreparedGroups};
+use version_groups::{Groups, Judged, PreparedCommand};
 
 /// What was accepted: the versions with their stored tables, and the last stamp. Every archive
 /// represents a past.
@@ -64,7 +64,7 @@ impl ArchiveState {
     ghost use Rattle.prima_base.specs.Faults.{IsTestedAs};
     ghost use Rattle.smo_meaning.specs.Accepts.{command_fault};
     ghost use Rattle.smo_meaning.specs.Past.{Past, beginning, past_with};
-    ghost use Rattle.version_groups.specs.Judged.{judged_command, IsAccepted};
+    ghost use Rattle.version_groups.specs.Judged.{judged_command, IsCommandAccepted};
     ghost use Rattle.version_groups.specs.Steps.{Prepares};
     ghost use Rattle.archive_state.specs.ArchiveContents.{RepresentsPast, RepresentsSome};
     ghost use Rattle.archive_state.specs.ArchiveContents.{archive_content};
@@ -137,13 +137,13 @@ impl ArchiveState {
     /// taken, and `carry_out` then accepts it. The archive represents the past that it represented,
     /// with the same stored tables but for room. The one error is `NoMemory`, where memory runs
     /// out.
-    pub fn prepare<'a>(&mut self, judged: Judged<'a>) -> Result<PreparedGroups<'a>, NoMemory>
-        requires { (past : Past) × RepresentsPast self.old past × IsAccepted past judged }
+    pub fn prepare<'a>(&mut self, judged: Judged<'a>) -> Result<PreparedCommand<'a>, NoMemory>
+        requires { (past : Past) × RepresentsPast self.old past × IsCommandAccepted past judged }
         ensures before { IsAsBefore self.old self.new }
         ensures represents { (past : Past) → RepresentsPast self.old past
             → RepresentsPast self.new past }
         ensures prepared { (past : Past) → RepresentsPast self.old past
-            → IsAccepted past judged.entry → IfOk result (λ prepared.
+            → IsCommandAccepted past judged.entry → IfOk result (λ prepared.
             Prepares self.new.groups past (judged_command judged.entry) prepared) }
     {
         self.groups.prepare(judged)
@@ -152,7 +152,7 @@ impl ArchiveState {
     /// Carries out what `prepare` made of a command and this very archive, which then
     /// represents the past with the command. It takes no memory, and cannot fail.
     #[tactic(auto, using(crate::proofs::CarriedOut::represents_next, crate::proofs::CarriedOut::newest_next))]
-    pub fn carry_out(&mut self, prepared: PreparedGroups<'_>) -> Done
+    pub fn carry_out(&mut self, prepared: PreparedCommand<'_>) -> Done
         requires { (past : Past) × (command : PlainCommand) × RepresentsPast self.old past
             × Prepares self.old.groups past command prepared }
         ensures done { (past : Past) → (command : PlainCommand) → RepresentsPast self.old past
@@ -267,9 +267,9 @@ impl ArchiveState {
 
     // Makes an accepted command ready, and carries it out.
     fn accept(&mut self, judged: Judged<'_>) -> Result<Done, CommandFault>
-        requires { (past : Past) × RepresentsPast self.old past × IsAccepted past judged }
+        requires { (past : Past) × RepresentsPast self.old past × IsCommandAccepted past judged }
         ensures commits { (past : Past) → RepresentsPast self.old past
-            → IsAccepted past judged.entry
+            → IsCommandAccepted past judged.entry
             → Accepts past (judged_command judged.entry) self.old result self.new }
         ensures represents { RepresentsSome self.new }
     {

@@ -13,7 +13,7 @@ ghost use Rattle.version_groups.specs.Representation.{Represents};
 ghost use Rattle.rewrite.specs.Books.{meaning_of};
 ghost use Rattle.archive_state.specs.Asking.{tells_periods, ArePiecesOf, IsAsked, IsExplained};
 ghost use Rattle.archive_state.specs.Asking.{query_asked};
-ghost use Rattle.archive_state.specs.Asking.{IsWrong, IsAskedSchema, IsChecked, IsReady};
+ghost use Rattle.archive_state.specs.Asking.{IsWrong, IsAskedSchema, IsChecked, IsQueryReady};
 
 use crate::AskFault;
 use answer_text::Listing;
@@ -91,7 +91,7 @@ fn judge_losses(
 fn judged(alloc: Global, groups: &Groups, query: &Query) -> Result<Query, AskFault>
     requires { (past : Past) × Represents groups.now past }
     ensures { (past : Past) → Represents groups.now past
-        → MatchResult result (λ checked. IsReady past (query_of query.now) checked)
+        → MatchResult result (λ checked. IsQueryReady past (query_of query.now) checked)
         (λ fault. IsWrong past (query_of query.now) fault) }
 {
     let schema = asked_schema(groups, query)?;

@@ -14,7 +14,7 @@ use Rattle.history_store.specs.Scans.{keys_from}
 use Rattle.gathered_rows.specs.Reading.{AreNames}
 use Rattle.gathered_rows.specs.Entries.{HasRow, AllInTurn}
 use Rattle.gathered_rows.specs.Walking.{AreLeft, IsRowOf, AreAdded, both}
-use Rattle.gathered_rows.specs.Gathered.{picked, HoldsIn, IsGathered, columns_in, or_none}
+use Rattle.gathered_rows.specs.Gathered.{named_cells, HoldsIn, IsGathered, columns_in, or_none}
 use Rattle.gathered_rows.proofs.EntriesInTurn.{entries_turn}
 use Rattle.gathered_rows.proofs.Passing.{row_left, row_of_left, left_turn, each_left_of_left}
 use Rattle.gathered_rows.proofs.Passing.{each_is_left}
@@ -176,9 +176,9 @@ module _ (s : Store) (slice : Span) (names : List (List ℕ)) (w : IsStore s)
           let held = (in_both key.period slice m c).0 in
           let covered = subst (λ (p : Span). covers p m ≡ true) its.period held in
           let h = picked_is_row s names at.place m w known (its.below, covered) in (
-            picked s names at.place m,
-            subst (λ id. HasRow left id (picked s names at.place m) m) (sym its.id)
-                (row_left at.place 0 at.place m columns left (picked s names at.place m)
+            named_cells s names at.place m,
+            subst (λ id. HasRow left id (named_cells s names at.place m) m) (sym its.id)
+                (row_left at.place 0 at.place m columns left (named_cells s names at.place m)
                 (inr (refl, omega arith)) at.left h),
           )
 
@@ -210,7 +210,7 @@ module _ (s : Store) (slice : Span) (names : List (List ℕ)) (w : IsStore s)
         none = no_next s.keys at.place at.place (sym at.keys ∙ e)
 
         there : (row : List Value) (m : ℕ) → IsHeld entries row m → (id : ℕ)
-            × HoldsIn slice s.keys id m × (row ≡ picked s names id m)
+            × HoldsIn slice s.keys id m × (row ≡ named_cells s names id m)
         there row m (x, i, same, c) =
             let r = at.gathered.new x i in
             let u = r.2.within m c in
@@ -221,7 +221,7 @@ module _ (s : Store) (slice : Span) (names : List (List ℕ)) (w : IsStore s)
             )
 
         back : (row : List Value) (m : ℕ) → ((id : ℕ) × HoldsIn slice s.keys id m
-            × (row ≡ picked s names id m)) → IsHeld entries row m
+            × (row ≡ named_cells s names id m)) → IsHeld entries row m
         back row m (id, held, is) =
             let c = of_both (get_or s.keys id (span 0 0)) slice m held.0.1 held.1 in
             let k = held.0.0 in

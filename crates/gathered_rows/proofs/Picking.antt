@@ -19,7 +19,7 @@ use Rattle.table_histories.specs.Store.{Cell, Store, shown_at, row_at, Holds, Is
 use Rattle.table_histories.specs.Store.{column_of}
 use Rattle.gathered_rows.specs.Reading.{AreNames, count_in, entries_in}
 use Rattle.gathered_rows.specs.Entries.{Has, HasRow}
-use Rattle.gathered_rows.specs.Gathered.{picked, or_none, columns_in}
+use Rattle.gathered_rows.specs.Gathered.{named_cells, or_none, columns_in}
 
 -- the values that a column's entries show
 pub from_shown : (id m : ℕ) (cells : List Cell) (v : Value) → In v (shown_at id m cells)
@@ -173,7 +173,7 @@ cell_is_value s name id m w known k =
 -- the row that columns have at a moment of its key is made of the cells
 pub row_is_picked : (s : Store) (names : List (List ℕ)) (id m : ℕ) (row : List Value) → IsStore s
     → AreNames s.columns names → Holds s.keys id m → HasRow (columns_in s names) id row m
-    → row ≡ picked s names id m
+    → row ≡ named_cells s names id m
 row_is_picked s [] id m [] w known k h = refl
 row_is_picked s [] id m (v ∷ row) w known k h = absurd h
 row_is_picked s (name ∷ names) id m [] w known k h = absurd h
@@ -184,7 +184,7 @@ row_is_picked s (name ∷ names) id m (v ∷ row) w known k h =
 
 pub picked_is_row : (s : Store) (names : List (List ℕ)) (id m : ℕ) → IsStore s
     → AreNames s.columns names → Holds s.keys id m
-    → HasRow (columns_in s names) id (picked s names id m) m
+    → HasRow (columns_in s names) id (named_cells s names id m) m
 picked_is_row s [] id m w known k = tt
 picked_is_row s (name ∷ names) id m w known k = (
   cell_is_value s name id m w (known name (inl refl)) k,

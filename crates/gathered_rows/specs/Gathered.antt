@@ -9,8 +9,8 @@ use Rattle.timed_choices.specs.Fitting.{Fit}
 use Rattle.table_histories.specs.Store.{Cell, Store, Holds, row_at, column_of}
 
 -- the cells of these names that the row with the id has at the moment
-abbrev pub picked : Store → List (List ℕ) → ℕ → ℕ → List Value
-picked s names id m = map (cell s.columns (row_at id m s.cells)) names
+abbrev pub named_cells : Store → List (List ℕ) → ℕ → ℕ → List Value
+named_cells s names id m = map (cell s.columns (row_at id m s.cells)) names
 
 -- the key with the id has the moment, which is one of the slice
 abbrev pub HoldsIn : Span → List Span → ℕ → ℕ → Type 0
@@ -22,7 +22,7 @@ pub record IsGathered (s : Store) (slice : Span) (names : List (List ℕ))
     (entries : List (Entry (List Value))) : Type 0 where
   pub fit : Fit (length names) entries
   pub has : (row : List Value) (m : ℕ) → IsHeld entries row m
-      ↔ ((id : ℕ) × HoldsIn slice s.keys id m × (row ≡ picked s names id m))
+      ↔ ((id : ℕ) × HoldsIn slice s.keys id m × (row ≡ named_cells s names id m))
 
 -- the entries of the columns with these names
 abbrev pub or_none : Option (List Cell) → List Cell

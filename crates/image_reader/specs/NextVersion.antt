@@ -33,9 +33,9 @@ is_valid tables op inverse = is_none (first_excess (evolving op inverse))
     && (is_none (op_fault tables op) && is_none (inverse_fault tables op inverse))
 
 -- the schema after it is told just where it is
-abbrev pub IsAccepted : Tables → Operator → List Operator → Option Tables → Type 0
-IsAccepted tables op inverse None = is_valid tables op inverse ≡ false
-IsAccepted tables op inverse (Some next) = (is_valid tables op inverse ≡ true)
+abbrev pub IsOperatorAccepted : Tables → Operator → List Operator → Option Tables → Type 0
+IsOperatorAccepted tables op inverse None = is_valid tables op inverse ≡ false
+IsOperatorAccepted tables op inverse (Some next) = (is_valid tables op inverse ≡ true)
     × (next ≡ schema_after tables op)
 
 abbrev pub version_read : Tables → ℕ × Op × Vec Op Global → PlainVersion

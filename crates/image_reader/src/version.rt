@@ -8,7 +8,7 @@ ghost use Rattle.command_spelling.specs.Reading.{pair};
 ghost use Rattle.command_spelling.specs.Reader as parts;
 ghost use Rattle.command_codec.specs.Reads.{Reads};
 ghost use Rattle.image_spelling.specs.Reader as spec;
-ghost use Rattle.image_reader.specs.NextVersion.{newest_stamp, is_in_turn, IsAccepted};
+ghost use Rattle.image_reader.specs.NextVersion.{newest_stamp, is_in_turn, IsOperatorAccepted};
 ghost use Rattle.image_reader.specs.NextVersion.{IsAcceptedAfter};
 
 use crate::count::count_32;
@@ -43,7 +43,8 @@ fn next_schema(
     op: &Op,
     inverse: &[Op],
 ) -> Result<Option<Schema>, NoMemory>
-    ensures { IfOk result (IsAccepted schema.now (operator_of op.now) (operators_of inverse.now)) }
+    ensures { IfOk result (IsOperatorAccepted schema.now (operator_of op.now)
+        (operators_of inverse.now)) }
 {
     match check_evolve(op, inverse) {
         Ok(()) => {}

@@ -21,7 +21,7 @@ use Rattle.cond_expr.specs.Trees.{Tree, Test}
 use Rattle.timed_choices.specs.Answering.{outputs, answer, answers}
 use Rattle.timed_choices.specs.Choosing.{paired, extended_where}
 use Rattle.timed_choices.specs.Fitting.{Fit}
-use Rattle.timed_choices.specs.Keeping.{meets, passing, picked, borrowed_tests, IsValidRow}
+use Rattle.timed_choices.specs.Keeping.{meets, passing, values_at, borrowed_tests, IsValidRow}
 use Rattle.timed_choices.specs.Keeping.{AllValid}
 use Rattle.timed_choices.specs.BorrowedOutputs.{BorrowedValues}
 use Rattle.timed_choices.proofs.HeldPairs.{held_append, held_pairs}
@@ -94,19 +94,19 @@ pub made_here : (cs : List Column) (level : Level) (choice : TimedRow) (own : Li
     → tests ≡ level.tests.items → start ≡ []
     → entries_of made ≡ entries_of start ++ flat_map
     (paired (passing cs (borrowed_tests tests)) (entry_of choice))
-    (entries_of (with_key level (picked own (map shown choice.values.items))))
+    (entries_of (with_key level (values_at own (map shown choice.values.items))))
     → given ≡ made → entries_of given ≡ made_beside cs level (entry_of choice)
 made_here cs level choice own tests start made given is_own are_tests none is same =
     ap entries_of same ∙ is
     ∙ ap (λ (rows : List TimedRow). entries_of rows
     ++ flat_map (paired (passing cs (borrowed_tests tests)) (entry_of choice))
-    (entries_of (with_key level (picked own (map shown choice.values.items))))) none
+    (entries_of (with_key level (values_at own (map shown choice.values.items))))) none
     ∙ ap (λ (bs : List (Bor Cond)). flat_map (paired (passing cs (borrowed_tests bs))
     (entry_of choice)) (entries_of (with_key level
-    (picked own (map shown choice.values.items))))) are_tests
+    (values_at own (map shown choice.values.items))))) are_tests
     ∙ ap (λ (places : List ℕ). flat_map (paired (passing cs (borrowed_tests level.tests.items))
     (entry_of choice)) (entries_of (with_key level
-    (picked places (map shown choice.values.items))))) is_own
+    (values_at places (map shown choice.values.items))))) is_own
 
 pub valid_beside : (cs : List Column) (level : Level) (choice : TimedRow) (given : List TimedRow)
     → entries_of given ≡ made_beside cs level (entry_of choice)
@@ -115,8 +115,8 @@ pub valid_beside : (cs : List Column) (level : Level) (choice : TimedRow) (given
 valid_beside cs level choice given is row valid =
     subst AllValid (sym is) (paired_valid (passing cs (borrowed_tests level.tests.items))
     (entry_of choice) (entries_of (with_key level
-    (picked level.own.items (map shown choice.values.items)))) row
-    (valid (picked level.own.items (map shown choice.values.items))))
+    (values_at level.own.items (map shown choice.values.items)))) row
+    (valid (values_at level.own.items (map shown choice.values.items))))
 
 -- ---- choice by choice
 
@@ -246,7 +246,7 @@ none_beside cs level choices i choice m below is h =
     let p = entry_of choice in
     let keep = passing cs (borrowed_tests level.tests.items) in
     let ys : List (Entry (List Value)) = entries_of
-    (with_key level (picked level.own.items p.item)) in
+    (with_key level (values_at level.own.items p.item)) in
     ap (λ (es : List (Entry (List Value))). held_at es m)
     (sym (append-nil (flat_map (paired keep p) ys)))
     ∙ held_pairs keep m (p ∷ []) ys

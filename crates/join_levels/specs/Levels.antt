@@ -9,7 +9,7 @@ use Rattle.prima_base.specs.Order.{row_cmp}
 use Rattle.prima_base.specs.Timed.{entries_of}
 use Rattle.cond_expr.specs.declared.expr.Column.{Column}
 use Rattle.timed_choices.specs.Choosing.{paired}
-use Rattle.timed_choices.specs.Keeping.{picked, passing, in_group, borrowed_tests, AllValid}
+use Rattle.timed_choices.specs.Keeping.{values_at, passing, in_group, borrowed_tests, AllValid}
 use Rattle.timed_choices.specs.BorrowedOutputs.{BorrowedValues, RowsBorrow}
 use Rattle.join_levels.specs.declared.level.Level.{Level}
 
@@ -21,7 +21,7 @@ with_key level key = in_group (get row_cmp level.groups key)
 -- moments
 abbrev pub made_beside : List Column → Level → Entry (List Value) → List (Entry (List Value))
 made_beside columns level p = flat_map (paired (passing columns (borrowed_tests level.tests.items))
-    p) (entries_of (with_key level (picked level.own.items p.item)))
+    p) (entries_of (with_key level (values_at level.own.items p.item)))
 
 -- the same of each choice, and of each level after the other
 abbrev pub made_on : List Column → Level → List (Entry (List Value)) → List (Entry (List Value))

@@ -14,7 +14,7 @@ ghost use Rattle.timed_choices.specs.BorrowedOutputs.{AllStayBorrowed};
 ghost use Rattle.timed_choices.specs.Keeping.{IsValidRow, AllValid};
 ghost use Rattle.timed_choices.specs.Answering.{outputs, answer, answers};
 
-use crate::step::is_met;
+use crate::step::values_meet;
 use coalesce::coalesce_in_place;
 use cond_expr::{Column, Cond, Expr, eval};
 use prima_base::{NoMemory, Period, TimedRow, Val};
@@ -70,7 +70,7 @@ fn output_row<'a>(
 /// Puts the values of the outputs after the other rows, where the choice of these values, which
 /// holds in the period, meets the condition. `row` has room for them while they are made. On
 /// `NoMemory` the rows are as before.
-pub fn put_answer<'a>(
+pub fn put_choice_answer<'a>(
     alloc: Global,
     rows: &mut TimedRows<'a>,
     row: &mut Vec<Val<'a>>,
@@ -90,7 +90,7 @@ pub fn put_answer<'a>(
         (record { item = map shown values.now; period = period })) }
     ensures unchanged { OnErr result (rows.new.items ≡ rows.old.items) }
 {
-    if !is_met(alloc, cond, columns, values)? {
+    if !values_meet(alloc, cond, columns, values)? {
         return Ok(());
     }
     output_row(alloc, row, outs, columns, values)?;
@@ -100,7 +100,7 @@ pub fn put_answer<'a>(
 
 // Puts the values of the outputs of each choice that meets the condition, in its period, after the
 // other rows.
-fn put_answers<'a>(
+fn put_choice_answers<'a>(
     alloc: Global,
     rows: &mut TimedRows<'a>,
     row: &mut Vec<Val<'a>>,
@@ -118,7 +118,7 @@ fn put_answers<'a>(
         ++ answers columns.now (map tree outs.now) (test cond.now) (entries_of choices.now)) }
 {
     for choice in choices {
-        put_answer(
+        put_choice_answer(
             alloc,
             rows,
             row,
@@ -173,7 +173,7 @@ pub(crate) fn answer_made<'a>(
         → rows_at answered.old.rows.items m ≡ []
         → OnOk result (rows_at answered.new.rows.items m ≡ []) }
 {
-    put_answers(
+    put_choice_answers(
         alloc,
         &mut answered.rows,
         &mut answered.row,

@@ -10,7 +10,7 @@ ghost use Rattle.prima_base.specs.declared.value.Value.{Value as OneValue};
 ghost use Rattle.prima_base.specs.declared.timed_row.TimedRow.{TimedRow as OneRow};
 ghost use Rattle.prima_base.specs.Order.{row_cmp};
 ghost use Rattle.prima_base.specs.Timed.{entry_of};
-ghost use Rattle.timed_choices.specs.Keeping.{picked, in_group};
+ghost use Rattle.timed_choices.specs.Keeping.{values_at, in_group};
 ghost use Rattle.join_levels.specs.Grouping.{rows_of_runs, magnitude, turn_cmp, is_of_run};
 
 use crate::key::{Key, values_at};
@@ -271,7 +271,7 @@ pub(crate) fn grouped<'a>(
     rows: Vec<TimedRow<'a>>,
 ) -> Result<BTreeMap<Key<'a>, Group<'a>>, NoMemory>
     ensures { IfOk result (λ m. (key : List OneValue) → in_group (tree.get row_cmp m key)
-        ≡ filter (λ (t : OneRow). is_eq (row_cmp (picked places.now (entry_of t).item) key))
+        ≡ filter (λ (t : OneRow). is_eq (row_cmp (values_at places.now (entry_of t).item) key))
         rows.entry.items) }
 {
     let mut groups = BTreeMap::new(alloc);

@@ -2,7 +2,7 @@
 
 ghost use Rattle.std.specs.Prelude.{◌≡◌, IfOk, map};
 ghost use Rattle.prima_base.specs.Order.{shown, is_borrowed};
-ghost use Rattle.timed_choices.specs.Keeping.{value_at, picked, lies_at};
+ghost use Rattle.timed_choices.specs.Keeping.{value_at, values_at, lies_at};
 
 use prima_base::{NoMemory, Val, compare_vals};
 use std::alloc::Global;
@@ -110,7 +110,7 @@ pub(crate) fn values_at<'a>(
     values: &[Val<'a>],
 ) -> Result<Vec<Val<'a>>, NoMemory>
     ensures values { IfOk result (λ v. map shown v.items
-        ≡ picked places.now (map shown values.now)) }
+        ≡ values_at places.now (map shown values.now)) }
     ensures same { IfOk result (λ v. map is_borrowed v.items
         ≡ map (lies_at values.now) places.now) }
 {

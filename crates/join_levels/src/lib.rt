@@ -13,7 +13,7 @@ mod plan;
 mod source;
 mod step;
 
-pub use answer::put_answer;
+pub use answer::put_choice_answer;
 pub use group::in_turn;
 pub use join::join_rows;
 pub use part::gather_parts;

@@ -6,7 +6,7 @@ ghost use Rattle.prima_base.specs.declared.value.Value.{Value as OneValue};
 ghost use Rattle.cond_expr.specs.Seen.{test};
 ghost use Rattle.cond_expr.specs.Faults.{test_references};
 ghost use Rattle.timed_choices.specs.Placing.{all_below};
-ghost use Rattle.timed_choices.specs.Keeping.{meets_all, picked, borrowed_tests};
+ghost use Rattle.timed_choices.specs.Keeping.{meets_all, values_at, borrowed_tests};
 ghost use Rattle.join_levels.specs.Places.{own_keys, other_keys};
 
 use crate::place::{is_after, is_settled, key_places};
@@ -36,7 +36,7 @@ pub(crate) fn keys_of(
         (borrowed_tests parts.now) taken width) }
     ensures same { (p y c : List OneValue) → length p ≡ taken → length y ≡ width
         → meets_all columns.now (borrowed_tests parts.now) ((p ++ y) ++ c) ≡ true
-        → IfOk result (λ k. picked k.other.items y ≡ picked k.own.items p) }
+        → IfOk result (λ k. values_at k.other.items y ≡ values_at k.own.items p) }
 {
     let mut own = Vec::new(alloc);
     let mut other = Vec::new(alloc);

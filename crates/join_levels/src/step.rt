@@ -12,7 +12,7 @@ ghost use Rattle.cond_expr.specs.declared.expr.Column.{Column as OneColumn};
 ghost use Rattle.timed_choices.specs.BorrowedOutputs.{BorrowedValues, RowBorrows, RowsBorrow};
 ghost use Rattle.timed_choices.specs.Choosing.{paired};
 ghost use Rattle.join_levels.specs.Grouping.{rows_of_runs};
-ghost use Rattle.timed_choices.specs.Keeping.{picked, meets, meets_all, passing, in_group};
+ghost use Rattle.timed_choices.specs.Keeping.{values_at, meets, meets_all, passing, in_group};
 ghost use Rattle.timed_choices.specs.Keeping.{borrowed_tests, IsValidRow, AllValid};
 
 use crate::group::{Group, Run};
@@ -24,7 +24,7 @@ use std::collections::BTreeMap;
 
 // Whether the values meet the condition.
 #[tactic(auto, using(timed_choices::proofs::Tests::met_is))]
-pub(crate) fn is_met(
+pub(crate) fn values_meet(
     alloc: Global,
     cond: &Cond,
     columns: &[Column],
@@ -52,7 +52,7 @@ pub fn all_met(
     match conds {
         [] => Ok(true),
         [first, rest @ ..] => {
-            if !is_met(alloc, first, columns, values)? {
+            if !values_meet(alloc, first, columns, values)? {
                 return Ok(false);
             }
             all_met(alloc, rest, columns, values)
@@ -198,7 +198,7 @@ pub(crate) fn put_choice<'a>(
     ensures rows { OnOk result (entries_of into.new.items ≡ entries_of into.old.items
         ++ flat_map (paired (passing columns.now (borrowed_tests tests.now)) (entry_of choice.now))
         (entries_of (in_group (tree.get row_cmp groups.now
-        (picked own.now (map shown choice.now.values.items)))))) }
+        (values_at own.now (map shown choice.now.values.items)))))) }
 {
     let values = values_at(alloc, own, &choice.values)?;
     let key = Key::of(values);

@@ -27,7 +27,8 @@ use Rattle.cond_expr.specs.Values.{Cells, value, truth}
 use Rattle.cond_expr.specs.Rows.{same, cells}
 use Rattle.cond_expr.specs.AtomColumns.{columns_at}
 use Rattle.cond_expr.specs.Trees.{Tree, Test}
-use Rattle.plain_answers.specs.Choosing.{chosen_cell, chosen_cells, is_met, answered, answers_over}
+use Rattle.plain_answers.specs.Choosing.{chosen_cell, chosen_cells, choice_meets, answered}
+use Rattle.plain_answers.specs.Choosing.{answers_over}
 use Rattle.std.proofs.lemmas.List.{length-map}
 use Rattle.joining.specs.declared.atom.Atom.{Atom as OneAtom}
 use Rattle.timed_choices.specs.Keeping.{meets}
@@ -171,27 +172,28 @@ module _ (columns : List (List Column)) (outs : List Tree) (test : Test) where
       → ((c : List (List Value)) → In c cs → Shape columns c)
       → map (outputs (atoms_from 0 columns) outs)
       (filter (meets (atoms_from 0 columns) test) (map one_row cs))
-      ≡ map (answered columns outs) (filter (is_met columns test) cs)
+      ≡ map (answered columns outs) (filter (choice_meets columns test) cs)
   each_answered [] h = refl
-  each_answered (c ∷ cs) h = step (each_answered cs (λ d i. h d (inr i))) (is_met columns test c)
+  each_answered (c ∷ cs) h = step (each_answered cs (λ d i. h d (inr i)))
+      (choice_meets columns test c)
       refl
     where
       same : cells (atoms_from 0 columns) (one_row c) ≡ chosen_cells columns c
       same = same_cells columns c (h c (inl refl))
 
-      met : meets (atoms_from 0 columns) test (one_row c) ≡ is_met columns test c
+      met : meets (atoms_from 0 columns) test (one_row c) ≡ choice_meets columns test c
       met = ap (λ (at : Cells). truth at test) same
 
       step : map (outputs (atoms_from 0 columns) outs)
           (filter (meets (atoms_from 0 columns) test) (map one_row cs))
-          ≡ map (answered columns outs) (filter (is_met columns test) cs) → (t : Bool)
-          → is_met columns test c ≡ t
+          ≡ map (answered columns outs) (filter (choice_meets columns test) cs) → (t : Bool)
+          → choice_meets columns test c ≡ t
           → map (outputs (atoms_from 0 columns) outs)
           (cond (meets (atoms_from 0 columns) test (one_row c))
           (one_row c ∷ filter (meets (atoms_from 0 columns) test) (map one_row cs))
           (filter (meets (atoms_from 0 columns) test) (map one_row cs)))
-          ≡ map (answered columns outs) (cond (is_met columns test c)
-          (c ∷ filter (is_met columns test) cs) (filter (is_met columns test) cs))
+          ≡ map (answered columns outs) (cond (choice_meets columns test c)
+          (c ∷ filter (choice_meets columns test) cs) (filter (choice_meets columns test) cs))
       step f true e = rw (met, e) (ap (λ (x : List Value).
           x ∷ map (outputs (atoms_from 0 columns) outs)
           (filter (meets (atoms_from 0 columns) test) (map one_row cs)))

@@ -28,7 +28,7 @@ use crate::atom::Atom;
 use crate::own_part::passing;
 use coalesce::cut_to_slice;
 use cond_expr::{Column, Cond, Expr};
-use join_levels::{column_place, put_answer};
+use join_levels::{column_place, put_choice_answer};
 use prima_base::{NoMemory, Period, Val, meet};
 use std::alloc::Global;
 use timed_rows::TimedRows;
@@ -83,7 +83,7 @@ fn put_in_slice<'a>(
 {
     match meet(slice, period) {
         None => Ok(()),
-        Some(within) => put_answer(alloc, rows, row, outs, cond, columns, values, within),
+        Some(within) => put_choice_answer(alloc, rows, row, outs, cond, columns, values, within),
     }
 }
 

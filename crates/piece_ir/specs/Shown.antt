@@ -12,8 +12,8 @@ use Rattle.piece_ir.specs.declared.view.TableViews.{TableViews}
 abbrev pub piece_of : Piece → PlainPiece
 piece_of p = record { atoms = p.atoms.items; cond = test p.cond; outs = sets_of p.outs.items }
 
-abbrev pub pieces_of : List Piece → List PlainPiece
-pieces_of ps = map piece_of ps
+abbrev pub shown_pieces : List Piece → List PlainPiece
+shown_pieces ps = map piece_of ps
 
 abbrev pub view_of : View → PlainView
 view_of v = record {

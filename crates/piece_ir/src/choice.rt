@@ -3,7 +3,8 @@ ghost use Rattle.std.specs.Prelude.{slice_index_or};
 ghost use Rattle.relations.specs.Choices.{choices};
 ghost use Rattle.piece_meaning.specs.Views.{whole as whole_table, views_of as views_of_table};
 ghost use Rattle.piece_meaning.specs.Unfolding.{unfolded, unfoldings};
-ghost use Rattle.piece_ir.specs.Shown.{piece_of, pieces_of, view_of, all_views_of, borrowed_views};
+ghost use Rattle.piece_ir.specs.Shown.{piece_of, shown_pieces, view_of, all_views_of};
+ghost use Rattle.piece_ir.specs.Shown.{borrowed_views};
 
 use crate::unfolded::unfold;
 use crate::{Piece, TableViews, View};
@@ -67,7 +68,7 @@ fn unfold_from<'v>(
     requires same { map view_of by.now.wholes.now ≡ map whole_table by.now.piece.now.atoms.items }
     requires inside { at ≤ length by.now.piece.now.atoms.items }
     ensures chosen { OnOk result (chosen.new.items ≡ chosen.old.items) }
-    ensures news { OnOk result (pieces_of news.new.items ≡ pieces_of news.old.items
+    ensures news { OnOk result (shown_pieces news.new.items ≡ shown_pieces news.old.items
         ++ map (λ rest. unfolded (piece_of by.now.piece.now)
         (borrowed_views chosen.old.items ++ rest))
         (choices (map (views_of_table (all_views_of by.now.views.now))
@@ -97,7 +98,7 @@ fn unfold_after<'v>(
     requires same { map view_of by.now.wholes.now ≡ map whole_table by.now.piece.now.atoms.items }
     requires inside { at ≤ length by.now.piece.now.atoms.items }
     ensures chosen { OnOk result (chosen.new.items ≡ chosen.old.items) }
-    ensures news { OnOk result (pieces_of news.new.items ≡ pieces_of news.old.items
+    ensures news { OnOk result (shown_pieces news.new.items ≡ shown_pieces news.old.items
         ++ map (λ rest. unfolded (piece_of by.now.piece.now)
         ((borrowed_views chosen.old.items ++ view_of view.now ∷ []) ++ rest))
         (choices (map (views_of_table (all_views_of by.now.views.now))
@@ -112,7 +113,7 @@ fn unfold_after<'v>(
 
 fn unfold_all(by: &Unfolding<'_>, alloc: Global) -> Result<Vec<Piece>, NoMemory>
     requires same { map view_of by.now.wholes.now ≡ map whole_table by.now.piece.now.atoms.items }
-    ensures { IfOk result (λ news. pieces_of news.items
+    ensures { IfOk result (λ news. shown_pieces news.items
         ≡ unfoldings (all_views_of by.now.views.now) (piece_of by.now.piece.now)) }
 {
     let mut chosen = Vec::with_capacity(alloc, by.piece.atoms.len())?;
@@ -128,7 +129,7 @@ fn unfold_with<'v>(
     wholes: &'v [View],
 ) -> Result<Vec<Piece>, NoMemory>
     requires same { map view_of wholes.now ≡ map whole_table piece.now.atoms.items }
-    ensures { IfOk result (λ news. pieces_of news.items
+    ensures { IfOk result (λ news. shown_pieces news.items
         ≡ unfoldings (all_views_of views.now) (piece_of piece.now)) }
 {
     let by = Unfolding {
@@ -143,7 +144,7 @@ fn unfold_with<'v>(
 /// one of its table's views in place of each atom, the piece. A table that has no views here is
 /// itself. The one error is `NoMemory`, where memory runs out.
 pub fn unfold_by(alloc: Global, views: &[TableViews], piece: &Piece) -> Result<Vec<Piece>, NoMemory>
-    ensures { IfOk result (λ news. pieces_of news.items
+    ensures { IfOk result (λ news. shown_pieces news.items
         ≡ unfoldings (all_views_of views.now) (piece_of piece.now)) }
 {
     let wholes = whole_tables(alloc, &piece.atoms)?;

@@ -3,7 +3,7 @@
 ghost use Rattle.std.specs.Prelude.{◌≡◌, map};
 ghost use Rattle.smo_types.specs.Changes.{sets_of};
 ghost use Rattle.cond_expr.specs.Seen.{tree, test, trees_of, tests_of};
-ghost use Rattle.piece_ir.specs.Shown.{piece_of, pieces_of};
+ghost use Rattle.piece_ir.specs.Shown.{piece_of, shown_pieces};
 ghost use Rattle.piece_ir.specs.Sameness.{same_whose, same_tree, same_trees, same_test, same_tests};
 ghost use Rattle.piece_ir.specs.Sameness.{same_names, same_outs, same_piece, same_pieces};
 
@@ -132,7 +132,7 @@ fn same_piece(a: &Piece, b: &Piece) -> bool
 /// Whether pieces are one by one the same: over the same tables, with the same condition and the
 /// same outputs, as they are written. It takes no memory.
 pub fn same_pieces(a: &[Piece], b: &[Piece]) -> bool
-    ensures { result ≡ same_pieces (pieces_of a.now) (pieces_of b.now) }
+    ensures { result ≡ same_pieces (shown_pieces a.now) (shown_pieces b.now) }
 {
     match a {
         [] => b.is_empty(),

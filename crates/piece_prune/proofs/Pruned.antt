@@ -13,12 +13,12 @@ use Rattle.schema_catalog.specs.Databases.{Database}
 use Rattle.smo_meaning.specs.OneRow.{Row}
 use Rattle.smo_meaning.specs.ValidValues.{IsValidDatabase}
 use Rattle.dead_conditions.proofs.DeadLaws.{dead_holds_of_nothing}
-use Rattle.plain_answers.specs.Choosing.{answered, is_met, chosen_cells}
+use Rattle.plain_answers.specs.Choosing.{answered, choice_meets, chosen_cells}
 use Rattle.piece_meaning.specs.Pieces.{PlainPiece, out_trees, atom_columns, atom_rows}
 use Rattle.piece_meaning.specs.Pieces.{piece_answers, means, all_mean}
 use Rattle.piece_meaning.specs.Typed.{IsTyped, AllTyped, atom_kinds}
 use Rattle.piece_ir.specs.declared.piece.Piece.{Piece}
-use Rattle.piece_ir.specs.Shown.{piece_of, pieces_of}
+use Rattle.piece_ir.specs.Shown.{piece_of, shown_pieces}
 use Rattle.piece_prune.specs.DeadPieces.{IsDeadPiece, AreLiving, none_left, a_dead_one}
 use Rattle.piece_prune.specs.DeadPieces.{a_living_one, Decides}
 use Rattle.piece_prune.proofs.ValidCells.{cells_fit, cells_valid}
@@ -36,7 +36,7 @@ nothing = refl
 module _ (tables : Tables) (db : Database) (d : IsValidDatabase tables db) where
   none_met : (p : PlainPiece) → IsDeadPiece tables p → (choice : List Row)
       → In choice (choices (atom_rows db p.atoms))
-      → is_met (atom_columns tables p.atoms) p.cond choice ≡ false
+      → choice_meets (atom_columns tables p.atoms) p.cond choice ≡ false
   none_met p h choice m =
       let c = from_choices choice (atom_rows db p.atoms) m in
       dead_holds_of_nothing (atom_kinds tables p.atoms)
@@ -46,7 +46,8 @@ module _ (tables : Tables) (db : Database) (d : IsValidDatabase tables db) where
   pub answers_nothing : (p : PlainPiece) → IsDeadPiece tables p → piece_answers tables db p ≡ []
   answers_nothing p h =
       ap (map (answered (atom_columns tables p.atoms) (out_trees p.outs)))
-      (none_passes (is_met (atom_columns tables p.atoms) p.cond) (choices (atom_rows db p.atoms))
+      (none_passes (choice_meets (atom_columns tables p.atoms) p.cond)
+      (choices (atom_rows db p.atoms))
       (none_met p h))
 
   pub means_nothing : (p : PlainPiece) → IsDeadPiece tables p → means tables db p ≡ []
@@ -71,16 +72,16 @@ module _ {F : Type 0} (R : F → Piece → Bool → F → Type 0) (tables : Tabl
     (h : (x : Piece) (b : Bool) (g : F) → R f x b g → Decides b (piece_of x) × (g ≡ f)) where
   one_kept : (x : Piece) (xs : List Piece) (bs : List Bool) (b : Bool) → Decides b (piece_of x)
       → IsTyped tables (piece_of x)
-      → AreLiving tables (pieces_of xs) (pieces_of (items_where_true bs xs))
-      → AreLiving tables (pieces_of (x ∷ xs)) (pieces_of (items_where_true (b ∷ bs) (x ∷ xs)))
-  one_kept x xs bs true d t a = a_living_one (piece_of x) (pieces_of xs)
-      (pieces_of (items_where_true bs xs)) (d tables t) a
-  one_kept x xs bs false d t a = a_dead_one (piece_of x) (pieces_of xs)
-      (pieces_of (items_where_true bs xs)) (d tables t) a
+      → AreLiving tables (shown_pieces xs) (shown_pieces (items_where_true bs xs))
+      → AreLiving tables (shown_pieces (x ∷ xs)) (shown_pieces (items_where_true (b ∷ bs) (x ∷ xs)))
+  one_kept x xs bs true d t a = a_living_one (piece_of x) (shown_pieces xs)
+      (shown_pieces (items_where_true bs xs)) (d tables t) a
+  one_kept x xs bs false d t a = a_dead_one (piece_of x) (shown_pieces xs)
+      (shown_pieces (items_where_true bs xs)) (d tables t) a
 
   kept_live : (bs : List Bool) (xs : List Piece) (q : F) → length bs ≡ length xs
-      → AllTyped tables (pieces_of xs) → ReturnsInTurn R f bs xs q
-      → AreLiving tables (pieces_of xs) (pieces_of (items_where_true bs xs))
+      → AllTyped tables (shown_pieces xs) → ReturnsInTurn R f bs xs q
+      → AreLiving tables (shown_pieces xs) (shown_pieces (items_where_true bs xs))
   kept_live [] [] q e t r = none_left
   kept_live [] (x ∷ xs) q e t r = absurd (omega arith)
   kept_live (b ∷ bs) [] q e t r = absurd r
@@ -90,7 +91,9 @@ module _ {F : Type 0} (R : F → Piece → Bool → F → Type 0) (tables : Tabl
       (kept_live bs xs q (omega arith) (λ p m. t p (inr m))
       (subst (λ (y : F). ReturnsInTurn R y bs xs q) one.1 r.2))
 
-  pub filtered_live : (xs ys : List Piece) → AllTyped tables (pieces_of xs) → IsFiltered R f xs ys
-      → AreLiving tables (pieces_of xs) (pieces_of ys)
+  pub filtered_live : (xs ys : List Piece) → AllTyped tables (shown_pieces xs)
+      → IsFiltered R f xs ys
+      → AreLiving tables (shown_pieces xs) (shown_pieces ys)
   filtered_live xs ys t k = subst (λ (l : List Piece).
-      AreLiving tables (pieces_of xs) (pieces_of l)) (sym k.4) (kept_live k.0 xs k.1 k.2 t k.3)
+      AreLiving tables (shown_pieces xs) (shown_pieces l)) (sym k.4)
+      (kept_live k.0 xs k.1 k.2 t k.3)

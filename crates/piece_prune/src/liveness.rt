@@ -1,6 +1,6 @@
 ghost use Rattle.std.specs.Prelude.{◌≡◌, ◌↔◌, not, IsTrue};
 ghost use Rattle.piece_meaning.specs.Typed.{IsTyped, AllTyped};
-ghost use Rattle.piece_ir.specs.Shown.{piece_of, pieces_of};
+ghost use Rattle.piece_ir.specs.Shown.{piece_of, shown_pieces};
 ghost use Rattle.piece_prune.specs.DeadPieces.{IsDeadPiece, AreLiving, Decides, lives};
 
 use dead_conditions::is_dead as is_dead_condition;
@@ -30,8 +30,8 @@ fn lives(piece: &Piece) -> bool
 /// The pieces that are not dead, in their order. Each is well-typed over the schema. It takes no
 /// memory.
 pub fn living(pieces: Vec<Piece>, before: &Schema) -> Vec<Piece>
-    requires { AllTyped before.now (pieces_of pieces.items) }
-    ensures { AreLiving before.now (pieces_of pieces.items) (pieces_of result.items) }
+    requires { AllTyped before.now (shown_pieces pieces.items) }
+    ensures { AreLiving before.now (shown_pieces pieces.items) (shown_pieces result.items) }
 {
     let _typed_over = before;
     let mut left = pieces;

@@ -12,7 +12,8 @@ use Rattle.cond_expr.specs.declared.expr.Whose.TheVariants.{Free, Alias, Atom}
 use Rattle.cond_expr.specs.Trees.{Tree, Test}
 use Rattle.cond_expr.specs.Values.{Cells, value, truth}
 use Rattle.smo_meaning.specs.OneRow.{Row, Relation, own_cells, meets}
-use Rattle.plain_answers.specs.Choosing.{chosen_cell, chosen_cells, is_met, answered, answers_over}
+use Rattle.plain_answers.specs.Choosing.{chosen_cell, chosen_cells, choice_meets, answered}
+use Rattle.plain_answers.specs.Choosing.{answers_over}
 
 none_first : (k : ℕ) → (0 == suc k) ≡ false
 none_first k = grind (arith)
@@ -39,19 +40,20 @@ module _ (cs : List Column) (outs : List Tree) (c : Test) where
   one_choice [] = refl
   one_choice (row ∷ rows) = ap (λ (xs : List (List Row)). (row ∷ []) ∷ xs) (one_choice rows)
 
-  kept : (rows : Relation) → filter (is_met (cs ∷ []) c) (map (λ row. row ∷ []) rows)
+  kept : (rows : Relation) → filter (choice_meets (cs ∷ []) c) (map (λ row. row ∷ []) rows)
       ≡ map (λ row. row ∷ []) (filter (meets cs c) rows)
   kept [] = refl
   kept (row ∷ rows) =
-      ap (λ (b : Bool). cond b ((row ∷ []) ∷ filter (is_met (cs ∷ []) c) (map (λ r. r ∷ []) rows))
-      (filter (is_met (cs ∷ []) c) (map (λ r. r ∷ []) rows)))
+      ap (λ (b : Bool). cond b ((row ∷ []) ∷ filter (choice_meets (cs ∷ []) c)
+      (map (λ r. r ∷ []) rows))
+      (filter (choice_meets (cs ∷ []) c) (map (λ r. r ∷ []) rows)))
       (ap (λ (at : Cells). truth at c) (own_alike cs row))
       ∙ step (meets cs c row) (kept rows)
     where
-      step : (b : Bool) → filter (is_met (cs ∷ []) c) (map (λ r. r ∷ []) rows)
+      step : (b : Bool) → filter (choice_meets (cs ∷ []) c) (map (λ r. r ∷ []) rows)
           ≡ map (λ r. r ∷ []) (filter (meets cs c) rows)
-          → cond b ((row ∷ []) ∷ filter (is_met (cs ∷ []) c) (map (λ r. r ∷ []) rows))
-          (filter (is_met (cs ∷ []) c) (map (λ r. r ∷ []) rows))
+          → cond b ((row ∷ []) ∷ filter (choice_meets (cs ∷ []) c) (map (λ r. r ∷ []) rows))
+          (filter (choice_meets (cs ∷ []) c) (map (λ r. r ∷ []) rows))
           ≡ map (λ r. r ∷ []) (cond b (row ∷ filter (meets cs c) rows) (filter (meets cs c) rows))
       step true e = ap (λ (xs : List (List Row)). (row ∷ []) ∷ xs) e
       step false e = e
@@ -67,7 +69,8 @@ module _ (cs : List Column) (outs : List Tree) (c : Test) where
   pub one_relation : (rows : Relation) → answers_over (cs ∷ []) (rows ∷ []) outs c
       ≡ map (λ row. map (value (own_cells cs row)) outs) (filter (meets cs c) rows)
   one_relation rows =
-      ap (λ (xs : List (List Row)). map (answered (cs ∷ []) outs) (filter (is_met (cs ∷ []) c) xs))
+      ap (λ (xs : List (List Row)). map (answered (cs ∷ []) outs)
+      (filter (choice_meets (cs ∷ []) c) xs))
       (one_choice rows)
       ∙ ap (map (answered (cs ∷ []) outs)) (kept rows)
       ∙ outputs (filter (meets cs c) rows)

@@ -15,7 +15,7 @@ use Rattle.cond_expr.specs.Trees.{some_of, fails, Tests, no_tests, a_test, fill_
 use Rattle.cond_expr.specs.Values.{Cells, over, value, truth, all_true}
 use Rattle.cond_expr.proofs.AtomLaws.{truth_for_atoms}
 use Rattle.smo_meaning.specs.OneRow.{Row, own_cells, meets}
-use Rattle.plain_answers.specs.Choosing.{chosen_cell, is_met}
+use Rattle.plain_answers.specs.Choosing.{chosen_cell, choice_meets}
 use Rattle.plain_answers.specs.Reading.{said_of, IsPartOf}
 use Rattle.cond_expr.specs.Parts.{parts_but_true as parts, all_parts_but_true as all_parts}
 
@@ -87,14 +87,14 @@ module _ (columns : List (List Column)) (rows : List Row) (i : ℕ) (cs : List C
       step true = here n
       step false = refl
 
-  same_said : (t : Test) → is_met columns (fill_test (said_of i) t) rows ≡ meets cs t row
+  same_said : (t : Test) → choice_meets columns (fill_test (said_of i) t) rows ≡ meets cs t row
   same_said t =
       truth_for_atoms (chosen_cell columns rows) said t
       ∙ ap (λ (at : ℕ → List ℕ → Value). truth (over at) t)
       (fun_ext (λ j. fun_ext (λ n. cells_are j n)))
 
   -- a row of a choice that meets the condition meets what is a part of it
-  pub part_met : (own c : Test) → IsPartOf i own c → is_met columns c rows ≡ true
+  pub part_met : (own c : Test) → IsPartOf i own c → choice_meets columns c rows ≡ true
       → meets cs own row ≡ true
   part_met own c part met =
       parts_true (own_cells cs row) own

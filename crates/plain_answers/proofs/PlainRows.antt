@@ -14,7 +14,7 @@ use Rattle.schema_catalog.specs.Tables.{Tables}
 use Rattle.schema_catalog.specs.Databases.{Database}
 use Rattle.cond_expr.specs.Trees.{Tree, Test}
 use Rattle.smo_meaning.specs.OneRow.{Row, Relation}
-use Rattle.plain_answers.specs.Choosing.{is_met, answered, answers_over, Gives}
+use Rattle.plain_answers.specs.Choosing.{choice_meets, answered, answers_over, Gives}
 use Rattle.plain_answers.specs.Branches.{PlainBranch, item_columns, item_rows, branch_answers}
 use Rattle.plain_answers.specs.Branches.{plain, BranchGives}
 
@@ -24,16 +24,17 @@ module _ (columns : List (List Column)) (relations : List Relation) (outs : List
       → In row (answers_over columns relations outs c)
   in_answers row g =
       subst (λ (r : Row). In r (answers_over columns relations outs c)) g.is
-      (in_map (answered columns outs) g.choice (filter (is_met columns c) (choices relations))
-      (in_filter (is_met columns c) g.choice (choices relations)
+      (in_map (answered columns outs) g.choice (filter (choice_meets columns c) (choices relations))
+      (in_filter (choice_meets columns c) g.choice (choices relations)
       (in_choices g.choice relations g.chosen) g.met))
 
   pub from_answers : (row : Row) → In row (answers_over columns relations outs c)
       → Gives columns relations outs c row
   from_answers row m =
-      let f = from_map (answered columns outs) row (filter (is_met columns c) (choices relations))
+      let f = from_map (answered columns outs) row
+      (filter (choice_meets columns c) (choices relations))
       m in
-      let g = from_filter (is_met columns c) f.0 (choices relations) f.1 in
+      let g = from_filter (choice_meets columns c) f.0 (choices relations) f.1 in
       record { choice = f.0; chosen = from_choices f.0 relations g.0; met = g.1; is = f.2 }
 
 module _ (tables : Tables) (db : Database) (branches : List PlainBranch) (row : Row) where

@@ -25,7 +25,8 @@ use Rattle.smo_meaning.specs.Making.{named}
 use Rattle.smo_meaning.proofs.NameLaws.{among_in, in_among, in_names}
 use Rattle.smo_meaning.proofs.MadeRows.{column_named}
 use Rattle.smo_meaning.proofs.MadeCells.{same_cell}
-use Rattle.plain_answers.specs.Choosing.{chosen_cell, chosen_cells, is_met, answered, answers_over}
+use Rattle.plain_answers.specs.Choosing.{chosen_cell, chosen_cells, choice_meets, answered}
+use Rattle.plain_answers.specs.Choosing.{answers_over}
 use Rattle.plain_answers.specs.Branches.{Item, PlainBranch, item_columns, item_rows, branch_answers}
 use Rattle.plain_answers.specs.Branches.{plain}
 use Rattle.plain_answers.specs.Naming.{all_references, IsNamed, names_from}
@@ -104,7 +105,7 @@ module _ (outs : List Tree) (c : Test) where
       → AsMany reads columns → AsMany columns relations → Chosen rows relations
       → AreEnough k reads outs c
       → (all_columns : List (List Column)) (all_rows : List Row)
-      → is_met all_columns c all_rows ≡ true
+      → choice_meets all_columns c all_rows ≡ true
       → ((j : ℕ) (n : List ℕ) → chosen_cell all_columns all_rows (k + j) n
       ≡ chosen_cell columns rows j n)
       → Chosen (all_projected reads columns rows) (read_rows reads columns relations)
@@ -179,7 +180,7 @@ module _ (outs : List Tree) (c : Test) where
             (subst (λ j. named_there j r.name) (sym (from_nought i)) (is_named r m i q))
 
     met_alike : (rows : List Row) → Chosen rows relations
-        → is_met columns c rows ≡ is_met (read_columns reads columns) c
+        → choice_meets columns c rows ≡ choice_meets (read_columns reads columns) c
         (all_projected reads columns rows)
     met_alike rows h =
         truth_like (Alike rows) (before rows) (after rows) (λ w n q. q) c
@@ -229,7 +230,7 @@ module _ (outs : List Tree) (c : Test) where
           choice = h.0;
           chosen = h.1;
           met = met_alike h.0 h.1 ∙ ap (λ (rows : List Row).
-              is_met (read_columns reads columns) c rows) h.2 ∙ g.met;
+              choice_meets (read_columns reads columns) c rows) h.2 ∙ g.met;
           is = answer_alike h.0 h.1 ∙ ap (λ (rows : List Row).
               answered (read_columns reads columns) outs rows) h.2 ∙ g.is;
         })

@@ -22,8 +22,8 @@ abbrev pub chosen_cells : List (List Column) → List Row → Cells
 chosen_cells columns rows = over (chosen_cell columns rows)
 
 -- the choice meets the condition
-abbrev pub is_met : List (List Column) → Test → List Row → Bool
-is_met columns cond choice = truth (chosen_cells columns choice) cond
+abbrev pub choice_meets : List (List Column) → Test → List Row → Bool
+choice_meets columns cond choice = truth (chosen_cells columns choice) cond
 
 -- the values of the outputs, in written order
 abbrev pub answered : List (List Column) → List Tree → List Row → Row
@@ -32,7 +32,7 @@ answered columns outs choice = map (value (chosen_cells columns choice)) outs
 -- of each choice of one row per relation that meets the condition, the values of the outputs
 abbrev pub answers_over : List (List Column) → List Relation → List Tree → Test → List Row
 answers_over columns relations outs cond =
-    map (answered columns outs) (filter (is_met columns cond) (choices relations))
+    map (answered columns outs) (filter (choice_meets columns cond) (choices relations))
 
 -- a choice of one row per relation meets the condition, and its outputs are the row
 pub record Gives (columns : List (List Column)) (relations : List Relation) (outs : List Tree)
@@ -40,5 +40,5 @@ pub record Gives (columns : List (List Column)) (relations : List Relation) (out
     (row : Row) : Type 0 where
   pub choice : List Row
   pub chosen : Chosen choice relations
-  pub met : is_met columns cond choice ≡ true
+  pub met : choice_meets columns cond choice ≡ true
   pub is : answered columns outs choice ≡ row

@@ -12,7 +12,7 @@ use Rattle.plain_answers.specs.Reading.{Read}
 use Rattle.version_groups.specs.Groups.{Kept}
 use Rattle.piece_meaning.specs.Pieces.{PlainPiece}
 use Rattle.piece_meaning.specs.Rules.{Book}
-use Rattle.piece_ir.specs.Shown.{pieces_of}
+use Rattle.piece_ir.specs.Shown.{shown_pieces}
 use Rattle.piece_prune.specs.DeadPieces.{IsDeadPiece, AreLiving, none_left, a_dead_one}
 use Rattle.piece_prune.specs.DeadPieces.{a_living_one, lives}
 use Rattle.piece_texts.specs.ExplainedPieces.{PlainExplained}
@@ -150,9 +150,9 @@ module _ (versions : List PlainVersion) where
         (own_pieces branch atom x)
     own_alive p x h =
         subst (λ (own : Part). AreAlive versions (part_pieces book versions q table r branch atom p)
-        (map (explained_in branch atom own) (pieces_of x.pieces.items))) (sym h.part)
+        (map (explained_in branch atom own) (shown_pieces x.pieces.items))) (sym h.part)
         (living_alive branch atom p (unfolded_to book versions p.1 q (first_piece table r ∷ []))
-        (pieces_of x.pieces.items) h.living)
+        (shown_pieces x.pieces.items) h.living)
 
     -- what is planned are the pieces
     pub planned_alive : (parts : List Part) (plan : List PartPieces)
@@ -217,7 +217,8 @@ module _ (versions : List PlainVersion) where
         told_joined (part_pieces book versions q table r branch atom p)
         (table_pieces book versions q table r branch atom parts) (own_pieces branch atom x)
         (planned_pieces branch atom plan)
-        (ap (λ (own : Part). map (explained_in branch atom own) (pieces_of x.pieces.items)) h.0.part
+        (ap (λ (own : Part). map (explained_in branch atom own) (shown_pieces x.pieces.items))
+        h.0.part
         ∙ ap (map (explained_in branch atom p)) h.0.told
         ∙ own_told branch atom p (unfolded_to book versions p.1 q (first_piece table r ∷ [])))
         (plan_told parts plan h.1)
@@ -250,7 +251,7 @@ module _ (kept : Kept) where
       total_joined (explained_read kept) (own_pieces branch atom x)
       (planned_pieces branch atom plan)
       ∙ ap (λ (n : ℕ). n + reads_of kept (planned_pieces branch atom plan))
-      (own_read branch atom x.part (pieces_of x.pieces.items))
+      (own_read branch atom x.part (shown_pieces x.pieces.items))
       ∙ ap (λ (n : ℕ). part_read kept x + n) (planned_read branch atom plan)
 
   -- a plan reads what its pieces read
@@ -278,11 +279,11 @@ module _ (kept : Kept) where
       (planned_pieces branch atom plan) e
       (planned_alive versions book q table r branch atom parts plan h) a in
       let x = from_flat_map (own_pieces branch atom) e plan among in
-      let p = from_map (explained_in branch atom x.0.part) e (pieces_of x.0.pieces.items) x.2 in (
+      let p = from_map (explained_in branch atom x.0.part) e (shown_pieces x.0.pieces.items) x.2 in (
         x.0,
         x.1,
         subst (λ (y : PlainExplained). explained_read kept y ≤ part_read kept x.0) p.2
-            (total_member (piece_reads kept x.0.part.1) (pieces_of x.0.pieces.items) p.0 p.1),
+            (total_member (piece_reads kept x.0.part.1) (shown_pieces x.0.pieces.items) p.0 p.1),
       )
 
   -- a piece that is not dead is still to be read, or as much was read as there is for it

@@ -38,7 +38,7 @@ use Rattle.plain_answers.specs.Reading.{Read}
 use Rattle.piece_meaning.specs.Pieces.{PlainPiece, out_names, out_trees}
 use Rattle.piece_meaning.specs.Rules.{Book, IsValidBook}
 use Rattle.piece_meaning.specs.Typed.{atom_kinds, typed_names}
-use Rattle.piece_ir.specs.Shown.{piece_of, pieces_of}
+use Rattle.piece_ir.specs.Shown.{piece_of, shown_pieces}
 use Rattle.piece_ir.specs.declared.piece.Piece.{Piece}
 use Rattle.piece_texts.specs.ExplainedPieces.{PlainExplained}
 use Rattle.rewrite_chains.specs.Beginnings.{first_piece, own_column}
@@ -135,14 +135,14 @@ pub plan_plain : (kept : Kept) (versions : List PlainVersion) (book : Book) (q :
     → ((e : PlainExplained) → IsAlive versions (table_pieces book versions q table r branch atom
     parts) e → IsPlainIn kept which columns e)
     → (x : PartPieces) → In x plan
-    → AllPlainIn kept x.part.1 x.part.0 which columns (pieces_of x.pieces.items)
+    → AllPlainIn kept x.part.1 x.part.0 which columns (shown_pieces x.pieces.items)
 plan_plain kept versions book q table r branch atom parts plan which columns planned h x m = λ p k.
     h (explained_in branch atom x.part p)
     (in_alive versions (table_pieces book versions q table r branch atom parts)
     (planned_pieces branch atom plan) (explained_in branch atom x.part p)
     (planned_alive versions book q table r branch atom parts plan planned)
     (in_flat_map (own_pieces branch atom) x (explained_in branch atom x.part p) plan m
-    (in_map (explained_in branch atom x.part) p (pieces_of x.pieces.items) k)))
+    (in_map (explained_in branch atom x.part) p (shown_pieces x.pieces.items) k)))
 
 -- ---- outputs and columns of one name
 

@@ -7,7 +7,7 @@ use Rattle.std.proofs.lemmas.Bool.{cond-true, cond-false}
 use Rattle.std.proofs.lemmas.List.{map-append}
 use Rattle.schema_catalog.specs.Tables.{Tables}
 use Rattle.piece_meaning.specs.Pieces.{PlainPiece}
-use Rattle.piece_ir.specs.Shown.{piece_of, pieces_of}
+use Rattle.piece_ir.specs.Shown.{piece_of, shown_pieces}
 use Rattle.piece_ir.specs.declared.piece.Piece.{Piece}
 use Rattle.piece_prune.specs.DeadPieces.{IsDeadPiece, AreLiving, none_left, a_dead_one}
 use Rattle.piece_prune.specs.DeadPieces.{a_living_one, lives}
@@ -33,13 +33,13 @@ module _ (tables : Tables) (p : PlainPiece) where
       a_living_one x (xs ++ p ∷ []) (left ++ p ∷ []) m (living_last xs left h n)
 
   pub living_more : (ps : List PlainPiece) (old new : List Piece) (copy : Piece)
-      → new ≡ old ++ copy ∷ [] → piece_of copy ≡ p → AreLiving tables ps (pieces_of old)
-      → ¬ IsDeadPiece tables p → AreLiving tables (ps ++ p ∷ []) (pieces_of new)
+      → new ≡ old ++ copy ∷ [] → piece_of copy ≡ p → AreLiving tables ps (shown_pieces old)
+      → ¬ IsDeadPiece tables p → AreLiving tables (ps ++ p ∷ []) (shown_pieces new)
   living_more ps old new copy e c h n =
       subst (λ (xs : List PlainPiece). AreLiving tables (ps ++ p ∷ []) xs)
-      (sym (ap pieces_of e ∙ map-append piece_of old (copy ∷ [])
-      ∙ ap (λ (x : PlainPiece). pieces_of old ++ x ∷ []) c))
-      (living_last ps (pieces_of old) h n)
+      (sym (ap shown_pieces e ∙ map-append piece_of old (copy ∷ [])
+      ∙ ap (λ (x : PlainPiece). shown_pieces old ++ x ∷ []) c))
+      (living_last ps (shown_pieces old) h n)
 
   -- the same by the test
   pub dead_told : (ps living : List PlainPiece) → living ≡ filter lives ps → lives p ≡ false
@@ -49,12 +49,12 @@ module _ (tables : Tables) (p : PlainPiece) where
       ∙ append-nil (filter lives ps))
 
   pub told_more : (ps : List PlainPiece) (old new : List Piece) (copy : Piece)
-      → new ≡ old ++ copy ∷ [] → piece_of copy ≡ p → pieces_of old ≡ filter lives ps
+      → new ≡ old ++ copy ∷ [] → piece_of copy ≡ p → shown_pieces old ≡ filter lives ps
       → lives p ≡ true
-      → pieces_of new ≡ filter lives (ps ++ p ∷ [])
+      → shown_pieces new ≡ filter lives (ps ++ p ∷ [])
   told_more ps old new copy e c h l =
-      ap pieces_of e ∙ map-append piece_of old (copy ∷ [])
-      ∙ ap (λ (x : PlainPiece). pieces_of old ++ x ∷ []) c
+      ap shown_pieces e ∙ map-append piece_of old (copy ∷ [])
+      ∙ ap (λ (x : PlainPiece). shown_pieces old ++ x ∷ []) c
       ∙ ap (λ (xs : List PlainPiece). xs ++ p ∷ []) h
       ∙ sym (filter-append lives ps (p ∷ []) ∙ ap (λ (xs : List PlainPiece). filter lives ps ++ xs)
       (cond-true (lives p) (p ∷ []) [] l))
@@ -62,15 +62,15 @@ module _ (tables : Tables) (p : PlainPiece) where
 module _ (pieces : List Piece) (i : ℕ) (p : Piece) (l : i < length pieces)
     (is : p ≡ get_or pieces i p) where
   pub next_living : (tables : Tables) (living : List PlainPiece)
-      → AreLiving tables (pieces_of (take i pieces) ++ piece_of p ∷ []) living
-      → AreLiving tables (pieces_of (take (i + 1) pieces)) living
+      → AreLiving tables (shown_pieces (take i pieces) ++ piece_of p ∷ []) living
+      → AreLiving tables (shown_pieces (take (i + 1) pieces)) living
   next_living tables living h =
       subst (λ (ps : List PlainPiece). AreLiving tables ps living)
-      (sym (ap pieces_of (taken_is pieces i p l is)
+      (sym (ap shown_pieces (taken_is pieces i p l is)
       ∙ map-append piece_of (take i pieces) (p ∷ []))) h
 
   pub next_told : (living : List PlainPiece) → living
-      ≡ filter lives (pieces_of (take i pieces) ++ piece_of p ∷ [])
-      → living ≡ filter lives (pieces_of (take (i + 1) pieces))
+      ≡ filter lives (shown_pieces (take i pieces) ++ piece_of p ∷ [])
+      → living ≡ filter lives (shown_pieces (take (i + 1) pieces))
   next_told living h = h ∙ ap (filter lives) (sym
-      (ap pieces_of (taken_is pieces i p l is) ∙ map-append piece_of (take i pieces) (p ∷ [])))
+      (ap shown_pieces (taken_is pieces i p l is) ∙ map-append piece_of (take i pieces) (p ∷ [])))

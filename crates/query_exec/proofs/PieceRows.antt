@@ -17,7 +17,7 @@ use Rattle.schema_catalog.specs.Databases.{Database}
 use Rattle.smo_meaning.specs.OneRow.{Row, Relation}
 use Rattle.version_groups.specs.Groups.{Kept}
 use Rattle.piece_meaning.specs.Pieces.{means, all_mean}
-use Rattle.piece_ir.specs.Shown.{piece_of, pieces_of}
+use Rattle.piece_ir.specs.Shown.{piece_of, shown_pieces}
 use Rattle.piece_ir.specs.declared.piece.Piece.{Piece}
 use Rattle.query_pieces.specs.Gathering.{IsGathered}
 use Rattle.query_pieces.proofs.Gatherings.{of_either, more_gathered}
@@ -58,24 +58,25 @@ none_after old news new m e f g = ap (λ (es : List (Entry Row)). at row_cmp es 
 
 module _ (pieces : List Piece) (i : ℕ) (p : Piece) (l : i < length pieces)
     (is : p ≡ get_or pieces i p) where
-  taken_pieces : pieces_of (take (i + 1) pieces) ≡ pieces_of (take i pieces) ++ piece_of p ∷ []
-  taken_pieces = ap pieces_of (taken_is pieces i p l is)
+  taken_pieces : shown_pieces (take (i + 1) pieces) ≡ shown_pieces (take i pieces) ++ piece_of p
+      ∷ []
+  taken_pieces = ap shown_pieces (taken_is pieces i p l is)
       ∙ map-append piece_of (take i pieces) (p ∷ [])
 
   -- the rows of one piece more
   pub next_run : (tables : Tables) (db : Database) (old news new : List TimedRow) (m : ℕ)
-      → new ≡ old ++ news → rows_at old m ≡ all_mean tables db (pieces_of (take i pieces))
+      → new ≡ old ++ news → rows_at old m ≡ all_mean tables db (shown_pieces (take i pieces))
       → rows_at news m ≡ means tables db (piece_of p)
-      → rows_at new m ≡ all_mean tables db (pieces_of (take (i + 1) pieces))
+      → rows_at new m ≡ all_mean tables db (shown_pieces (take (i + 1) pieces))
   next_run tables db old news new m e f g =
       ap (λ (es : List (Entry Row)). at row_cmp es m) (joined_entries old news new e)
-      ∙ one_more_run tables db (pieces_of (take i pieces)) (piece_of p) (entries_of old)
+      ∙ one_more_run tables db (shown_pieces (take i pieces)) (piece_of p) (entries_of old)
       (entries_of news) m f g
       ∙ ap (all_mean tables db) (sym taken_pieces)
 
-  pub reads_left : (kept : Kept) (k : ℕ) → pieces_read kept k (pieces_of (drop i pieces))
-      ≡ piece_reads kept k (piece_of p) + pieces_read kept k (pieces_of (drop (i + 1) pieces))
-  reads_left kept k = ap (λ (ps : List Piece). pieces_read kept k (pieces_of ps))
+  pub reads_left : (kept : Kept) (k : ℕ) → pieces_read kept k (shown_pieces (drop i pieces))
+      ≡ piece_reads kept k (piece_of p) + pieces_read kept k (shown_pieces (drop (i + 1) pieces))
+  reads_left kept k = ap (λ (ps : List Piece). pieces_read kept k (shown_pieces ps))
       (left_is pieces i p l is)
 
 -- the rows of one part more

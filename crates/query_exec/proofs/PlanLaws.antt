@@ -20,7 +20,7 @@ use Rattle.plain_answers.specs.Reading.{Read}
 use Rattle.piece_meaning.specs.Pieces.{PlainPiece, all_mean}
 use Rattle.piece_meaning.specs.Typed.{AllTyped}
 use Rattle.piece_meaning.specs.Rules.{Book, IsValidBook}
-use Rattle.piece_ir.specs.Shown.{pieces_of}
+use Rattle.piece_ir.specs.Shown.{shown_pieces}
 use Rattle.piece_prune.specs.DeadPieces.{AreLiving, none_left, a_dead_one, a_living_one, lives}
 use Rattle.piece_prune.proofs.Pruned.{mean_the_same}
 use Rattle.rewrite_chains.specs.Beginnings.{first_piece}
@@ -50,12 +50,12 @@ module _ (book : Book) (versions : List PlainVersion) (q : ℕ) (table : List �
 
   pub one_planned : (p : Part) (x : PartPieces) (ps : List PlainPiece) → x.part ≡ p
       → ps ≡ unfolded_to book versions p.1 q (first_piece table r ∷ [])
-      → AreLiving (tables_from no_tables versions p.1) ps (pieces_of x.pieces.items)
-      → pieces_of x.pieces.items ≡ filter lives ps → IsPlanned book versions q table r p x
+      → AreLiving (tables_from no_tables versions p.1) ps (shown_pieces x.pieces.items)
+      → shown_pieces x.pieces.items ≡ filter lives ps → IsPlanned book versions q table r p x
   one_planned p x ps e u h told = record {
     part = e;
     living = subst (λ (us : List PlainPiece).
-        AreLiving (tables_from no_tables versions p.1) us (pieces_of x.pieces.items)) u h;
+        AreLiving (tables_from no_tables versions p.1) us (shown_pieces x.pieces.items)) u h;
     told = told ∙ ap (filter lives) u;
   }
 
@@ -191,22 +191,22 @@ module _ (kept : Kept) (past : Past) (represents : Represents kept past) (book :
 
   -- it may be read
   pub plan_ready : (x : PartPieces) → In x plan → IsOwn (versions_in kept) x.part
-      × AllTyped (tables_of past x.part.1) (pieces_of x.pieces.items)
+      × AllTyped (tables_of past x.part.1) (shown_pieces x.pieces.items)
   plan_ready x m =
       let h = its x m in
       let typed : AllTyped (tables_from no_tables (versions_in kept) h.part.1)
-      (pieces_of x.pieces.items) =
+      (shown_pieces x.pieces.items) =
       still_typed (tables_from no_tables (versions_in kept) h.part.1)
       (unfolded_to book (versions_in kept) h.part.1 route.asked (first_piece table r ∷ []))
-      (pieces_of x.pieces.items)
+      (shown_pieces x.pieces.items)
       (stand_typed book (versions_in kept) h.part.1 route.asked table r valid
       (unfolded_to book (versions_in kept) h.part.1 route.asked (first_piece table r ∷ []))
       may.question
       (stands (versions_in kept) route is table r may book h.part h.among)) h.is.living in
       subst (λ (p : Part). IsOwn (versions_in kept) p
-      × AllTyped (tables_of past p.1) (pieces_of x.pieces.items)) (sym h.is.part) (
+      × AllTyped (tables_of past p.1) (shown_pieces x.pieces.items)) (sym h.is.part) (
         is.each h.part h.among,
-        typed_there kept past represents h.part.1 (pieces_of x.pieces.items)
+        typed_there kept past represents h.part.1 (shown_pieces x.pieces.items)
             typed,
       )
 
@@ -239,11 +239,11 @@ module _ (kept : Kept) (past : Past) (represents : Represents kept past) (book :
       (stands (versions_in kept) route is table r may book p i) m c
 
   pub plan_means : (x : PartPieces) → In x plan → (m : ℕ) → covers x.part.0 m ≡ true
-      → all_mean (tables_of past x.part.1) (database_at past m) (pieces_of x.pieces.items)
+      → all_mean (tables_of past x.part.1) (database_at past m) (shown_pieces x.pieces.items)
       ≡ table_read past route.asked table r m
   plan_means x k m c =
       let h = its x k in
       subst (λ (p : Part). covers p.0 m ≡ true
-      → all_mean (tables_of past p.1) (database_at past m) (pieces_of x.pieces.items)
+      → all_mean (tables_of past p.1) (database_at past m) (shown_pieces x.pieces.items)
       ≡ table_read past route.asked table r m) (sym h.is.part)
-      (its_meaning h.part h.among (pieces_of x.pieces.items) h.is.living m) c
+      (its_meaning h.part h.among (shown_pieces x.pieces.items) h.is.living m) c

@@ -26,7 +26,7 @@ use Rattle.plain_answers.specs.Choosing.{answers_over}
 use Rattle.plain_answers.specs.Naming.{all_references, names_at}
 use Rattle.piece_meaning.specs.Pieces.{PlainPiece, out_trees, means, all_mean}
 use Rattle.piece_meaning.specs.Typed.{AllTyped}
-use Rattle.piece_ir.specs.Shown.{piece_of, pieces_of}
+use Rattle.piece_ir.specs.Shown.{piece_of, shown_pieces}
 use Rattle.piece_ir.specs.declared.piece.Piece.{Piece}
 use Rattle.query_pieces.specs.Gathering.{HasMoment, IsGathered}
 use Rattle.join_exec.specs.Pieces.{columns_stored, stored_columns, stored_rows, stored_meaning}
@@ -106,14 +106,15 @@ tables_more kept k j names i name l is h e n m =
 
 pub all_more : (kept : Kept) (k j : ℕ) (pieces : List Piece) (i : ℕ) (x : Piece)
     (names : List (List ℕ)) → i < length pieces → x ≡ get_or pieces i x → names ≡ x.atoms.items
-    → ShareAll kept k j (pieces_of (take i pieces)) → ShareTables kept k j names
-    → ShareAll kept k j (pieces_of (take (i + 1) pieces))
+    → ShareAll kept k j (shown_pieces (take i pieces)) → ShareTables kept k j names
+    → ShareAll kept k j (shown_pieces (take (i + 1) pieces))
 all_more kept k j pieces i x names l is same h e p m =
-    step (in_append p (pieces_of (take i pieces)) (piece_of x ∷ [])
+    step (in_append p (shown_pieces (take i pieces)) (piece_of x ∷ [])
     (subst (λ (ps : List PlainPiece). In p ps)
-    (ap pieces_of (taken_is pieces i x l is) ∙ map-append piece_of (take i pieces) (x ∷ [])) m))
+    (ap shown_pieces (taken_is pieces i x l is) ∙ map-append piece_of (take i pieces) (x ∷ [])) m))
   where
-    step : In p (pieces_of (take i pieces)) ⊎ In p (piece_of x ∷ []) → ShareTables kept k j p.atoms
+    step : In p (shown_pieces (take i pieces)) ⊎ In p (piece_of x ∷ [])
+        → ShareTables kept k j p.atoms
     step (inl k) = h p k
     step (inr (inl s)) = subst (λ (q : PlainPiece). ShareTables kept k j q.atoms) s
         (subst (λ (ns : List (List ℕ)). ShareTables kept k j ns) same e)
@@ -121,7 +122,7 @@ all_more kept k j pieces i x names l is same h e p m =
 
 -- what the pieces of a part that goes on mean
 pub run_rows : (kept : Kept) (first x : PartPieces) → GoesOn kept first x → (p : PlainPiece)
-    → In p (pieces_of x.pieces.items) → (m : ℕ)
+    → In p (shown_pieces x.pieces.items) → (m : ℕ)
     → stored_meaning kept first.part.1 p m ≡ stored_meaning kept x.part.1 p m
 run_rows kept first x h p i m = meaning_shared kept first.part.1 x.part.1 p m
     (h.shared p (subst (λ (ps : List PlainPiece). In p ps) h.pieces i))
@@ -131,7 +132,7 @@ pub goes_reads : (kept : Kept) (first x : PartPieces) → GoesOn kept first x
     → part_read kept x ≡ part_read kept first
 goes_reads kept first x h =
     ap (pieces_read kept x.part.1) h.pieces ∙ sym
-    (reads_shared kept first.part.1 x.part.1 (pieces_of first.pieces.items) h.shared)
+    (reads_shared kept first.part.1 x.part.1 (shown_pieces first.pieces.items) h.shared)
 
 -- what is stored of one of the pieces means what it means at the version in force
 pub piece_meant : (kept : Kept) (past : Past) → Represents kept past
@@ -227,12 +228,12 @@ module _ (kept : Kept) (first : PartPieces) (more : List PartPieces) (period : S
   -- at each moment of it the pieces mean what those of the part in which the moment lies mean there
   pub run_meant : (past : Past) → Represents kept past → (relation : ℕ → Relation)
       → ((x : PartPieces) → In x (first ∷ more) → IsOwn (versions_in kept) x.part
-      × AllTyped (tables_of past x.part.1) (pieces_of x.pieces.items))
+      × AllTyped (tables_of past x.part.1) (shown_pieces x.pieces.items))
       → ((x : PartPieces) → In x (first ∷ more) → (m : ℕ) → covers x.part.0 m ≡ true
-      → all_mean (tables_of past x.part.1) (database_at past m) (pieces_of x.pieces.items)
+      → all_mean (tables_of past x.part.1) (database_at past m) (shown_pieces x.pieces.items)
       ≡ relation m)
       → (m : ℕ) → covers period m ≡ true → IsMeant kept past first.part.1
-      (pieces_of first.pieces.items) m (relation m)
+      (shown_pieces first.pieces.items) m (relation m)
   run_meant past represents relation own means m c =
       let s = run.within m c in
       let x = from_map (λ (y : PartPieces). y.part.0) s.0 (first ∷ more) s.1 in
@@ -253,15 +254,15 @@ module _ (kept : Kept) (first : PartPieces) (more : List PartPieces) (period : S
   -- what is plain in the rows of each of its parts is so in those of the run
   pub run_plain : (which : BorrowedValues) (columns : List AtomColumn)
       → ((x : PartPieces) → In x (first ∷ more)
-      → AllPlainIn kept x.part.1 x.part.0 which columns (pieces_of x.pieces.items))
-      → AllPlainIn kept first.part.1 period which columns (pieces_of first.pieces.items)
+      → AllPlainIn kept x.part.1 x.part.0 which columns (shown_pieces x.pieces.items))
+      → AllPlainIn kept first.part.1 period which columns (shown_pieces first.pieces.items)
   run_plain which columns h p i m c row j =
       let s = run.within m c in
       let x = from_map (λ (y : PartPieces). y.part.0) s.0 (first ∷ more) s.1 in
       let g = goes x.0 x.1 in
       let inside : covers x.0.part.0 m ≡ true =
       subst (λ (t : Span). covers t m ≡ true) (sym x.2) s.2 in
-      let among : In p (pieces_of x.0.pieces.items) =
+      let among : In p (shown_pieces x.0.pieces.items) =
       subst (λ (ps : List PlainPiece). In p ps) (sym g.pieces) i in
       h x.0 x.1 p among m inside row
       (subst (λ (r : Relation). In row r) (run_rows kept first x.0 g p among m) j)

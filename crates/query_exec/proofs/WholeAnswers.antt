@@ -45,7 +45,7 @@ use Rattle.query_pieces.proofs.ReadByPieces.{is_lasting, pushed_enough, items_ke
 use Rattle.query_pieces.proofs.ReadByPieces.{answer_is}
 use Rattle.period_split.specs.Splitting.{Part, split_by}
 use Rattle.query_exec.specs.declared.route.Route.{Route}
-use Rattle.query_exec.specs.Accepted.{IsAccepted, MayItems, MayBranches}
+use Rattle.query_exec.specs.Accepted.{IsQueryAccepted, MayItems, MayBranches}
 use Rattle.query_exec.specs.QueryPieces.{branches_pieces, all_pieces}
 use Rattle.query_exec.specs.Routes.{IsRoute}
 use Rattle.query_exec.proofs.RouteLaws.{each_lasts, covers_start, asked_of, of_asked}
@@ -86,7 +86,7 @@ module _ (past : Past) (is : IsPast past) (route : Route) where
 
 module _ (kept_ : Kept) (past : Past) (asked query : PlainQuery)
     (represents : Represents kept_ past)
-    (h : IsAccepted past asked query) where
+    (h : IsQueryAccepted past asked query) where
   same_version : query.version ≡ asked.version
   same_version = ap (λ (q : PlainQuery). q.version) h.atoms
 

@@ -24,7 +24,7 @@ use Rattle.query_exec.specs.Questions.{own_read, table_read}
 use Rattle.query_exec.specs.Routes.{MayBeRead}
 
 -- the query is not refused, and this is the one with each reference made one to an atom
-pub record IsAccepted (past : Past) (asked query : PlainQuery) : Type 0 where
+pub record IsQueryAccepted (past : Past) (asked query : PlainQuery) : Type 0 where
   pub accepted : fault_of_query past asked ≡ None
   pub atoms : query ≡ with_atoms (tables_of past asked.version) asked
 
@@ -51,7 +51,7 @@ pub record IsAnswerable (kept : Kept) (query : PlainQuery) : Type 0 where
   pub past : Past
   pub asked : PlainQuery
   pub represents : Represents kept past
-  pub accepted : IsAccepted past asked query
+  pub accepted : IsQueryAccepted past asked query
 
 -- the atom has this number, the columns that are asked for, and at each moment of the slice what is
 -- read of the table

@@ -7,7 +7,7 @@ use Rattle.smo_types.specs.Commands.{PlainVersion}
 use Rattle.smo_meaning.specs.Past.{no_tables, tables_from}
 use Rattle.plain_answers.specs.Reading.{Read}
 use Rattle.piece_meaning.specs.Rules.{Book}
-use Rattle.piece_ir.specs.Shown.{pieces_of}
+use Rattle.piece_ir.specs.Shown.{shown_pieces}
 use Rattle.piece_prune.specs.DeadPieces.{AreLiving, lives}
 use Rattle.rewrite_chains.specs.Beginnings.{first_piece}
 use Rattle.rewrite_chains.specs.Chains.{unfolded_to}
@@ -21,8 +21,8 @@ pub record IsPlanned (book : Book) (versions : List PlainVersion) (q : ℕ) (tab
     (r : Read) (p : Part) (x : PartPieces) : Type 0 where
   pub part : x.part ≡ p
   pub living : AreLiving (tables_from no_tables versions p.1)
-      (unfolded_to book versions p.1 q (first_piece table r ∷ [])) (pieces_of x.pieces.items)
-  pub told : pieces_of x.pieces.items ≡ filter lives
+      (unfolded_to book versions p.1 q (first_piece table r ∷ [])) (shown_pieces x.pieces.items)
+  pub told : shown_pieces x.pieces.items ≡ filter lives
       (unfolded_to book versions p.1 q (first_piece table r ∷ []))
 
 -- in each of several, in their order
@@ -39,7 +39,7 @@ abbrev pub planned_spans : List PartPieces → List Span
 planned_spans plan = map (λ (x : PartPieces). x.part.0) plan
 
 abbrev pub own_pieces : ℕ → ℕ → PartPieces → List PlainExplained
-own_pieces branch atom x = map (explained_in branch atom x.part) (pieces_of x.pieces.items)
+own_pieces branch atom x = map (explained_in branch atom x.part) (shown_pieces x.pieces.items)
 
 abbrev pub planned_pieces : ℕ → ℕ → List PartPieces → List PlainExplained
 planned_pieces branch atom plan = flat_map (own_pieces branch atom) plan

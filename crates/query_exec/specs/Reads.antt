@@ -2,7 +2,7 @@
 use Rattle.std.specs.Prelude.{ℕ, List}
 use Rattle.version_groups.specs.Groups.{Kept}
 use Rattle.piece_meaning.specs.Pieces.{PlainPiece}
-use Rattle.piece_ir.specs.Shown.{pieces_of}
+use Rattle.piece_ir.specs.Shown.{shown_pieces}
 use Rattle.piece_texts.specs.ExplainedPieces.{PlainExplained}
 use Rattle.join_exec.specs.Pieces.{piece_reads}
 use Rattle.query_exec.specs.declared.part_piece.PartPieces.{PartPieces}
@@ -14,7 +14,7 @@ pieces_read kept k ps = total (piece_reads kept k) ps
 
 -- for those that are planned for a part of a slice
 abbrev pub part_read : Kept → PartPieces → ℕ
-part_read kept x = pieces_read kept x.part.1 (pieces_of x.pieces.items)
+part_read kept x = pieces_read kept x.part.1 (shown_pieces x.pieces.items)
 
 -- for pieces of a query
 abbrev pub explained_read : Kept → PlainExplained → ℕ

@@ -9,7 +9,7 @@ use Rattle.version_groups.specs.Groups.{Kept, table_in}
 use Rattle.version_groups.specs.Representation.{IsInForce}
 use Rattle.piece_meaning.specs.Pieces.{PlainPiece, all_mean}
 use Rattle.piece_meaning.specs.Typed.{AllTyped}
-use Rattle.piece_ir.specs.Shown.{pieces_of}
+use Rattle.piece_ir.specs.Shown.{shown_pieces}
 use Rattle.query_pieces.specs.Gathering.{HasMoment}
 use Rattle.query_exec.specs.declared.part_piece.PartPieces.{PartPieces}
 use Rattle.query_exec.specs.Planned.{planned_spans}
@@ -24,8 +24,8 @@ ShareAll kept k j ps = (p : PlainPiece) → In p ps → ShareTables kept k j p.a
 
 -- a part that may be read with one before it
 pub record GoesOn (kept : Kept) (first x : PartPieces) : Type 0 where
-  pub pieces : pieces_of x.pieces.items ≡ pieces_of first.pieces.items
-  pub shared : ShareAll kept first.part.1 x.part.1 (pieces_of first.pieces.items)
+  pub pieces : shown_pieces x.pieces.items ≡ shown_pieces first.pieces.items
+  pub shared : ShareAll kept first.part.1 x.part.1 (shown_pieces first.pieces.items)
 
 -- one period begins where another ends, and this is both
 pub record Meet (a b both : Span) : Type 0 where

@@ -4,7 +4,7 @@ ghost use Rattle.std.specs.Prelude.{◌≡◌, ◌++◌, ◌≤◌, List, map, I
 ghost use Rattle.cond_expr.specs.References.{borrowed};
 ghost use Rattle.cond_expr.specs.Seen.{test};
 ghost use Rattle.smo_meaning.specs.Past.{Past};
-ghost use Rattle.piece_ir.specs.Shown.{piece_of, pieces_of};
+ghost use Rattle.piece_ir.specs.Shown.{piece_of, shown_pieces};
 ghost use Rattle.piece_texts.specs.ExplainedPieces.{PlainExplained, explained_of, all_explained};
 ghost use Rattle.query_types.specs.Branches.{branch_of, branches_of};
 ghost use Rattle.query_types.specs.Queries.{query_of, IsLasting};
@@ -55,7 +55,7 @@ fn push_pieces(
     into: &mut Vec<Explained>,
 ) -> Result<(), NoMemory>
     ensures { OnOk result (all_explained into.new.items ≡ all_explained into.old.items
-        ++ map (explained_in branch atom part.now) (pieces_of pieces.now)) }
+        ++ map (explained_in branch atom part.now) (shown_pieces pieces.now)) }
 {
     for piece in pieces {
         let copy = piece.copy(alloc)?;

@@ -7,7 +7,7 @@ ghost use Rattle.version_groups.specs.Groups.{Kept};
 ghost use Rattle.piece_meaning.specs.Constants.{ValidInVersions};
 ghost use Rattle.piece_meaning.specs.Pieces.{PlainPiece};
 ghost use Rattle.piece_meaning.specs.Rules.{Book, IsValidBook};
-ghost use Rattle.piece_ir.specs.Shown.{pieces_of};
+ghost use Rattle.piece_ir.specs.Shown.{shown_pieces};
 ghost use Rattle.query_meaning.specs.Accepted.{fault_of_query};
 ghost use Rattle.query_meaning.specs.Atoms.{with_atoms};
 ghost use Rattle.query_types.specs.Queries.{PlainQuery};
@@ -24,7 +24,7 @@ ghost use Rattle.query_exec.specs.declared.part_piece.PartPieces.{PartPieces as 
 pub fn a_run_is_read_as_each_of_its_parts()
     ensures rows { (kept : Kept) → (first : OnePart) → (more : List OnePart) → (period : Span)
         → IsRun kept first more period → (x : OnePart) → In x more
-        → (p : PlainPiece) → In p (pieces_of x.pieces.items) → (m : ℕ)
+        → (p : PlainPiece) → In p (shown_pieces x.pieces.items) → (m : ℕ)
         → stored_meaning kept first.part.1 p m ≡ stored_meaning kept x.part.1 p m }
     ensures reads { (kept : Kept) → (first : OnePart) → (more : List OnePart) → (period : Span)
         → IsRun kept first more period → (x : OnePart) → In x more

@@ -6,7 +6,7 @@ ghost use Rattle.smo_meaning.specs.Past.{no_tables, tables_from};
 ghost use Rattle.version_groups.specs.Groups.{versions_in};
 ghost use Rattle.piece_meaning.specs.Typed.{IsTyped, AllTyped};
 ghost use Rattle.piece_meaning.specs.Pieces.{PlainPiece};
-ghost use Rattle.piece_ir.specs.Shown.{piece_of, pieces_of};
+ghost use Rattle.piece_ir.specs.Shown.{piece_of, shown_pieces};
 ghost use Rattle.piece_prune.specs.DeadPieces.{AreLiving, lives};
 
 use piece_ir::Piece;
@@ -32,11 +32,11 @@ fn push_living(
     into: &mut Vec<Piece>,
 ) -> Result<(), NoMemory>
     requires { IsTyped schema.now (piece_of piece.now) }
-    ensures living { (ps : List PlainPiece) → AreLiving schema.now ps (pieces_of into.old.items)
+    ensures living { (ps : List PlainPiece) → AreLiving schema.now ps (shown_pieces into.old.items)
         → OnOk result (AreLiving schema.now (ps ++ piece_of piece.now ∷ [])
-        (pieces_of into.new.items)) }
-    ensures told { (ps : List PlainPiece) → pieces_of into.old.items ≡ filter lives ps
-        → OnOk result (pieces_of into.new.items ≡ filter lives (ps ++ piece_of piece.now ∷ [])) }
+        (shown_pieces into.new.items)) }
+    ensures told { (ps : List PlainPiece) → shown_pieces into.old.items ≡ filter lives ps
+        → OnOk result (shown_pieces into.new.items ≡ filter lives (ps ++ piece_of piece.now ∷ [])) }
 {
     if is_dead(piece, schema) {
         return Ok(());
@@ -47,10 +47,11 @@ fn push_living(
 
 // Copies of the pieces that are not dead, in their order.
 fn living_copies(alloc: Global, pieces: &[Piece], schema: &Schema) -> Result<Vec<Piece>, NoMemory>
-    requires { AllTyped schema.now (pieces_of pieces.now) }
-    ensures living { IfOk result (λ v. AreLiving schema.now (pieces_of pieces.now)
-        (pieces_of v.items)) }
-    ensures told { IfOk result (λ v. pieces_of v.items ≡ filter lives (pieces_of pieces.now)) }
+    requires { AllTyped schema.now (shown_pieces pieces.now) }
+    ensures living { IfOk result (λ v. AreLiving schema.now (shown_pieces pieces.now)
+        (shown_pieces v.items)) }
+    ensures told { IfOk result (λ v. shown_pieces v.items
+        ≡ filter lives (shown_pieces pieces.now)) }
 {
     let mut living = Vec::new(alloc);
     for piece in pieces {
@@ -68,13 +69,13 @@ pub(crate) fn part_pieces(
 ) -> Result<PartPieces, NoMemory>
     requires there { part.1 ≤ length groups.now.versions }
     requires typed { AllTyped (tables_from no_tables (versions_in groups.now) part.1)
-        (pieces_of pieces.now) }
+        (shown_pieces pieces.now) }
     ensures part { IfOk result (λ x. x.part ≡ part) }
     ensures living { IfOk result (λ x. AreLiving
-        (tables_from no_tables (versions_in groups.now) part.1) (pieces_of pieces.now)
-        (pieces_of x.pieces.items)) }
-    ensures told { IfOk result (λ x. pieces_of x.pieces.items
-        ≡ filter lives (pieces_of pieces.now)) }
+        (tables_from no_tables (versions_in groups.now) part.1) (shown_pieces pieces.now)
+        (shown_pieces x.pieces.items)) }
+    ensures told { IfOk result (λ x. shown_pieces x.pieces.items
+        ≡ filter lives (shown_pieces pieces.now)) }
 {
     let schema = groups.schema_of(part.1);
     let pieces = living_copies(alloc, pieces, schema)?;

@@ -12,7 +12,7 @@ ghost use Rattle.smo_meaning.specs.OneRow.{Relation};
 ghost use Rattle.smo_meaning.specs.Past.{Past, tables_of};
 ghost use Rattle.version_groups.specs.Representation.{Represents};
 ghost use Rattle.piece_meaning.specs.Typed.{AllTyped};
-ghost use Rattle.piece_ir.specs.Shown.{pieces_of};
+ghost use Rattle.piece_ir.specs.Shown.{shown_pieces};
 ghost use Rattle.query_pieces.specs.Gathering.{IsGathered};
 ghost use Rattle.query_exec.specs.Runs.{IsMeant};
 ghost use Rattle.cond_expr.specs.declared.expr.Column.{Column as AtomColumn};
@@ -66,18 +66,19 @@ fn run_pieces<'a, L: Ledger>(
     steps: &mut Steps<L>,
 ) -> Result<TimedRows<'a>, NoMemory>
     requires { (past : Past) × Represents groups.now past × (version ≤ length past.versions)
-        × AllTyped (tables_of past version) (pieces_of pieces.now) }
+        × AllTyped (tables_of past version) (shown_pieces pieces.now) }
     ensures rows { (past : Past) → Represents groups.now past → (m : ℕ) → covers period m ≡ true
-        → (meant : Relation) → IsMeant groups.now past version (pieces_of pieces.now) m meant
+        → (meant : Relation) → IsMeant groups.now past version (shown_pieces pieces.now) m meant
         → IfOk result (λ rows. rows_at rows.items m ≡ meant) }
     ensures inside { (m : ℕ) → covers period m ≡ false
         → IfOk result (λ rows. rows_at rows.items m ≡ []) }
     ensures borrowed { (which : BorrowedValues) → (columns : List AtomColumn)
-        → AllPlainIn groups.now version period which columns (pieces_of pieces.now)
+        → AllPlainIn groups.now version period which columns (shown_pieces pieces.now)
         → IfOk result (λ rows. RowsBorrow which columns rows.items) }
-    ensures cost { steps.new ≤ steps.old + pieces_read groups.now version (pieces_of pieces.now) }
+    ensures cost { steps.new ≤ steps.old
+        + pieces_read groups.now version (shown_pieces pieces.now) }
     ensures counted { IfOk result (λ _. steps.new
-        ≡ steps.old + pieces_read groups.now version (pieces_of pieces.now)) }
+        ≡ steps.old + pieces_read groups.now version (shown_pieces pieces.now)) }
     ensures rises { steps.old ≤ steps.new }
 {
     let mut rows = TimedRows::new(alloc);
@@ -100,19 +101,20 @@ pub(crate) fn read_run<'a, L: Ledger>(
     steps: &mut Steps<L>,
 ) -> Result<(), NoMemory>
     requires { (past : Past) × Represents groups.now past × (run.1 ≤ length past.versions)
-        × AllTyped (tables_of past run.1) (pieces_of pieces.now) }
+        × AllTyped (tables_of past run.1) (shown_pieces pieces.now) }
     ensures rows { (past : Past) → Represents groups.now past → (relation : ℕ → Relation)
-        → ((m : ℕ) → covers run.0 m ≡ true → IsMeant groups.now past run.1 (pieces_of pieces.now) m
+        → ((m : ℕ) → covers run.0 m ≡ true
+        → IsMeant groups.now past run.1 (shown_pieces pieces.now) m
         (relation m))
         → (spans : List Span) → IsGathered relation spans (entries_of rows.old.items)
         → OnOk result (IsGathered relation (spans ++ run.0 ∷ []) (entries_of rows.new.items)) }
     ensures borrowed { (which : BorrowedValues) → (columns : List AtomColumn)
-        → AllPlainIn groups.now run.1 run.0 which columns (pieces_of pieces.now)
+        → AllPlainIn groups.now run.1 run.0 which columns (shown_pieces pieces.now)
         → RowsBorrow which columns rows.old.items
         → OnOk result (RowsBorrow which columns rows.new.items) }
-    ensures cost { steps.new ≤ steps.old + pieces_read groups.now run.1 (pieces_of pieces.now) }
+    ensures cost { steps.new ≤ steps.old + pieces_read groups.now run.1 (shown_pieces pieces.now) }
     ensures counted { OnOk result (steps.new ≡ steps.old + pieces_read groups.now run.1
-        (pieces_of pieces.now)) }
+        (shown_pieces pieces.now)) }
     ensures rises { steps.old ≤ steps.new }
 {
     let news = run_pieces(alloc, groups, run.1, pieces, run.0, steps)?;

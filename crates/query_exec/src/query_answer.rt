@@ -12,7 +12,7 @@ ghost use Rattle.query_types.specs.Queries.{PlainQuery, query_of, slice_of, IsLa
 ghost use Rattle.version_groups.specs.Groups.{versions_in};
 ghost use Rattle.version_groups.specs.Representation.{Represents};
 ghost use Rattle.rewrite.specs.Books.{meaning_of};
-ghost use Rattle.query_exec.specs.Accepted.{IsAccepted, IsAnswerable};
+ghost use Rattle.query_exec.specs.Accepted.{IsQueryAccepted, IsAnswerable};
 ghost use Rattle.piece_texts.specs.ExplainedPieces.{PlainExplained};
 ghost use Rattle.query_exec.specs.Borrowed.{BorrowedByBranch, AreSpared, AreBorrowedBy};
 ghost use Rattle.query_exec.specs.QueryPieces.{ArePieces};
@@ -53,11 +53,11 @@ pub fn answer<'a, L: Ledger, R: Rule>(
     requires there { query.now.version ≤ length groups.now.versions }
     requires lasting { IsLasting query.now.when }
     ensures listed { (past : Past) → (asked : PlainQuery) → Represents groups.now past
-        → IsAccepted past asked (query_of query.now)
+        → IsQueryAccepted past asked (query_of query.now)
         → IfOk result (λ rows. IsListing row_cmp (asked_at past asked) (slice_of asked.when)
         (entries_of rows.items)) }
     ensures rows { (past : Past) → (asked : PlainQuery) → Represents groups.now past
-        → IsAccepted past asked (query_of query.now)
+        → IsQueryAccepted past asked (query_of query.now)
         → IfOk result (λ rows. kept asked.keep (entries_of rows.items) ≡ answer past asked) }
     ensures borrowed { (past : Past) → Represents groups.now past → (pieces : List PlainExplained)
         → ArePieces (meaning_of book.now.rules.items R.handles R.answers) (versions_in groups.now)

@@ -2,7 +2,7 @@
 
 ghost use Rattle.std.specs.Prelude.{◌≡◌, ◌≤◌, true, take, IfSome, length};
 ghost use Rattle.version_groups.specs.Groups.{table_in};
-ghost use Rattle.piece_ir.specs.Shown.{pieces_of};
+ghost use Rattle.piece_ir.specs.Shown.{shown_pieces};
 ghost use Rattle.query_exec.specs.Runs.{ShareTables, ShareAll, GoesOn, Meet, IsRun};
 
 use crate::part_piece::PartPieces;
@@ -38,7 +38,7 @@ fn share_tables(groups: &Groups, version: u32, other: u32, names: &[Name]) -> bo
 
 // Whether what is stored is the same of each table of the pieces.
 fn share_all(groups: &Groups, version: u32, other: u32, pieces: &[Piece]) -> bool
-    ensures { result ≡ true → ShareAll groups.now version other (pieces_of pieces.now) }
+    ensures { result ≡ true → ShareAll groups.now version other (shown_pieces pieces.now) }
 {
     for piece in pieces {
         if !share_tables(groups, version, other, &piece.atoms) {

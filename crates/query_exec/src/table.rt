@@ -13,7 +13,7 @@ ghost use Rattle.version_groups.specs.Groups.{versions_in};
 ghost use Rattle.version_groups.specs.Representation.{Represents};
 ghost use Rattle.piece_meaning.specs.Pieces.{all_mean};
 ghost use Rattle.piece_meaning.specs.Typed.{AllTyped};
-ghost use Rattle.piece_ir.specs.Shown.{pieces_of};
+ghost use Rattle.piece_ir.specs.Shown.{shown_pieces};
 ghost use Rattle.rewrite.specs.Books.{meaning_of};
 ghost use Rattle.query_pieces.specs.Gathering.{IsGathered};
 ghost use Rattle.query_exec.specs.Asked.{read_asked};
@@ -93,16 +93,16 @@ fn read_parts<'a, L: Ledger>(
 ) -> Result<TimedRows<'a>, NoMemory>
     requires ready { (past : Past) × Represents groups.now past
         × ((x : OnePart) → In x plan.now → IsOwn (versions_in groups.now) x.part
-        × AllTyped (tables_of past x.part.1) (pieces_of x.pieces.items)) }
+        × AllTyped (tables_of past x.part.1) (shown_pieces x.pieces.items)) }
     ensures rows { (past : Past) → Represents groups.now past → (relation : ℕ → Relation)
         → ((x : OnePart) → In x plan.now → (m : ℕ) → covers x.part.0 m ≡ true
-        → all_mean (tables_of past x.part.1) (database_at past m) (pieces_of x.pieces.items)
+        → all_mean (tables_of past x.part.1) (database_at past m) (shown_pieces x.pieces.items)
         ≡ relation m)
         → IfOk result (λ rows. IsGathered relation (planned_spans plan.now) (entries_of
         rows.items)) }
     ensures borrowed { (which : BorrowedValues) → (columns : List AtomColumn)
         → ((x : OnePart) → In x plan.now
-        → AllPlainIn groups.now x.part.1 x.part.0 which columns (pieces_of x.pieces.items))
+        → AllPlainIn groups.now x.part.1 x.part.0 which columns (shown_pieces x.pieces.items))
         → IfOk result (λ rows. RowsBorrow which columns rows.items) }
     ensures cost { steps.new ≤ steps.old + total (part_read groups.now) plan.now }
     ensures least { (x : OnePart) → In x plan.now

@@ -22,7 +22,7 @@ use Rattle.version_ways.proofs.WayDatabases.{valid_at}
 use Rattle.piece_meaning.specs.Pieces.{PlainPiece}
 use Rattle.piece_meaning.specs.Typed.{IsTyped, AllTyped}
 use Rattle.piece_meaning.specs.Rules.{Book, IsValidBook}
-use Rattle.piece_ir.specs.Shown.{piece_of, pieces_of}
+use Rattle.piece_ir.specs.Shown.{piece_of, shown_pieces}
 use Rattle.piece_ir.specs.declared.piece.Piece.{Piece}
 use Rattle.rewrite_chains.specs.Chains.{through, through_each, through_operator, through_inverse}
 use Rattle.rewrite_chains.specs.Chains.{to_previous, to_next}
@@ -33,29 +33,29 @@ use Rattle.rewrite.proofs.Places.{version_at_place, in_at}
 
 module _ (book : Book) (op : Operator) (before : Tables) where
   abbrev gone : List Piece → List PlainPiece
-  gone ps = through book op before (pieces_of ps)
+  gone ps = through book op before (shown_pieces ps)
 
   pub more : (all news pieces : List Piece) (i : ℕ) (p : Piece) (goal : List PlainPiece)
-      → i < length pieces → p ≡ get_or pieces i p → pieces_of news ≡ book op before (piece_of p)
-      → pieces_of all ++ gone (drop i pieces) ≡ goal
-      → pieces_of (all ++ news) ++ gone (drop (i + 1) pieces) ≡ goal
+      → i < length pieces → p ≡ get_or pieces i p → shown_pieces news ≡ book op before (piece_of p)
+      → shown_pieces all ++ gone (drop i pieces) ≡ goal
+      → shown_pieces (all ++ news) ++ gone (drop (i + 1) pieces) ≡ goal
   more all news pieces i p goal l e is so =
       let d : drop i pieces ≡ p ∷ drop (suc i) pieces = drop-cons pieces i p l
       ∙ ap (λ (x : Piece). x ∷ drop (suc i) pieces) (sym e) in
       ap (λ (xs : List PlainPiece). xs ++ gone (drop (i + 1) pieces)) (map-append piece_of all news)
-      ∙ append_assoc (pieces_of all) (pieces_of news) (gone (drop (i + 1) pieces))
-      ∙ ap (λ (xs : List PlainPiece). pieces_of all ++ (xs ++ gone (drop (i + 1) pieces))) is
-      ∙ ap (λ (k : ℕ). pieces_of all ++ (book op before (piece_of p) ++ gone (drop k pieces)))
+      ∙ append_assoc (shown_pieces all) (shown_pieces news) (gone (drop (i + 1) pieces))
+      ∙ ap (λ (xs : List PlainPiece). shown_pieces all ++ (xs ++ gone (drop (i + 1) pieces))) is
+      ∙ ap (λ (k : ℕ). shown_pieces all ++ (book op before (piece_of p) ++ gone (drop k pieces)))
       (add-one i)
-      ∙ sym (ap (λ (xs : List Piece). pieces_of all ++ gone xs) d)
+      ∙ sym (ap (λ (xs : List Piece). shown_pieces all ++ gone xs) d)
       ∙ so
 
   pub more_of : (all news after pieces : List Piece) (i : ℕ) (p : Piece) (goal : List PlainPiece)
-      → i < length pieces → p ≡ get_or pieces i p → pieces_of news ≡ book op before (piece_of p)
-      → after ≡ all ++ news → pieces_of all ++ gone (drop i pieces) ≡ goal
-      → pieces_of after ++ gone (drop (i + 1) pieces) ≡ goal
+      → i < length pieces → p ≡ get_or pieces i p → shown_pieces news ≡ book op before (piece_of p)
+      → after ≡ all ++ news → shown_pieces all ++ gone (drop i pieces) ≡ goal
+      → shown_pieces after ++ gone (drop (i + 1) pieces) ≡ goal
   more_of all news after pieces i p goal l e is so h =
-      ap (λ (xs : List Piece). pieces_of xs ++ gone (drop (i + 1) pieces)) so
+      ap (λ (xs : List Piece). shown_pieces xs ++ gone (drop (i + 1) pieces)) so
       ∙ more all news pieces i p goal l e is h
 
 pub when_empty : (n : ℕ) → true ≡ (n == 0) → n ≡ 0
@@ -65,7 +65,7 @@ pub when_some : (n : ℕ) → false ≡ (n == 0) → n ≡ 0 → ⊥
 when_some n e z = grind (arith, e, z)
 
 pub typed_at : (tables : Tables) (pieces : List Piece) (i : ℕ) (p : Piece) → i < length pieces
-    → p ≡ get_or pieces i p → AllTyped tables (pieces_of pieces) → IsTyped tables (piece_of p)
+    → p ≡ get_or pieces i p → AllTyped tables (shown_pieces pieces) → IsTyped tables (piece_of p)
 typed_at tables pieces i p l e h = h (piece_of p) (in_map piece_of p pieces (in_at pieces i p l e))
 
 -- ---- operators one after the other

@@ -6,24 +6,25 @@ use Rattle.std.specs.List.{filter, items_where_true}
 use Rattle.std.specs.List.Retain.{ReturnsInTurn, IsFiltered}
 use Rattle.piece_meaning.specs.Pieces.{PlainPiece}
 use Rattle.piece_ir.specs.declared.piece.Piece.{Piece}
-use Rattle.piece_ir.specs.Shown.{piece_of, pieces_of}
+use Rattle.piece_ir.specs.Shown.{piece_of, shown_pieces}
 use Rattle.piece_prune.specs.DeadPieces.{lives}
 
 module _ {F : Type 0} (R : F → Piece → Bool → F → Type 0) (f : F)
     (h : (x : Piece) (b : Bool) (g : F) → R f x b g → (b ≡ lives (piece_of x)) × (g ≡ f)) where
   abbrev kept : Piece → List Piece → Bool → List PlainPiece
-  kept x xs b = cond b (piece_of x ∷ filter lives (pieces_of xs)) (filter lives (pieces_of xs))
+  kept x xs b = cond b (piece_of x ∷ filter lives (shown_pieces xs))
+      (filter lives (shown_pieces xs))
 
   one_kept : (x : Piece) (xs : List Piece) (bs : List Bool) (b : Bool) → b ≡ lives (piece_of x)
-      → pieces_of (items_where_true bs xs) ≡ filter lives (pieces_of xs)
-      → pieces_of (items_where_true (b ∷ bs) (x ∷ xs)) ≡ filter lives (pieces_of (x ∷ xs))
+      → shown_pieces (items_where_true bs xs) ≡ filter lives (shown_pieces xs)
+      → shown_pieces (items_where_true (b ∷ bs) (x ∷ xs)) ≡ filter lives (shown_pieces (x ∷ xs))
   one_kept x xs bs true e more = ap (λ (ps : List PlainPiece). piece_of x ∷ ps) more
       ∙ ap (kept x xs) e
   one_kept x xs bs false e more = more ∙ ap (kept x xs) e
 
   kept_live : (bs : List Bool) (xs : List Piece) (q : F) → length bs ≡ length xs
       → ReturnsInTurn R f bs xs q
-      → pieces_of (items_where_true bs xs) ≡ filter lives (pieces_of xs)
+      → shown_pieces (items_where_true bs xs) ≡ filter lives (shown_pieces xs)
   kept_live [] [] q e r = refl
   kept_live [] (x ∷ xs) q e r = absurd (omega arith)
   kept_live (b ∷ bs) [] q e r = absurd r
@@ -33,5 +34,5 @@ module _ {F : Type 0} (R : F → Piece → Bool → F → Type 0) (f : F)
       (subst (λ (y : F). ReturnsInTurn R y bs xs q) one.1 r.2))
 
   pub filtered_live : (xs ys : List Piece) → IsFiltered R f xs ys
-      → pieces_of ys ≡ filter lives (pieces_of xs)
-  filtered_live xs ys k = ap pieces_of k.4 ∙ kept_live k.0 xs k.1 k.2 k.3
+      → shown_pieces ys ≡ filter lives (shown_pieces xs)
+  filtered_live xs ys k = ap shown_pieces k.4 ∙ kept_live k.0 xs k.1 k.2 k.3

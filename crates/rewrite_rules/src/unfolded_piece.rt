@@ -4,7 +4,7 @@ ghost use Rattle.smo_types.specs.Operators.{operator_of};
 ghost use Rattle.smo_meaning.specs.After.{op_fault, schema_after, IsValid};
 ghost use Rattle.piece_meaning.specs.Typed.{IsTyped};
 ghost use Rattle.piece_meaning.specs.Rules.{KeepsMeaning};
-ghost use Rattle.piece_ir.specs.Shown.{piece_of, pieces_of};
+ghost use Rattle.piece_ir.specs.Shown.{piece_of, shown_pieces};
 ghost use Rattle.piece_prune.specs.DeadPieces.{lives};
 ghost use Rattle.rule_views.specs.OperatorViews.{operator_views};
 ghost use Rattle.rewrite_rules.specs.LivingUnfoldings.{living_by_views};
@@ -26,7 +26,7 @@ fn lives(piece: &Piece) -> bool
 
 // The pieces that live, in their order.
 fn living(pieces: Vec<Piece>) -> Vec<Piece>
-    ensures { pieces_of result.items ≡ filter lives (pieces_of pieces.items) }
+    ensures { shown_pieces result.items ≡ filter lives (shown_pieces pieces.items) }
 {
     let mut left = pieces;
     left.retain(lives);
@@ -45,10 +45,10 @@ pub(crate) fn unfolded(
     requires valid { IsValid before.now }
     requires accepted { op_fault before.now (operator_of op.now) ≡ None }
     requires typed { IsTyped (schema_after before.now (operator_of op.now)) (piece_of piece.now) }
-    ensures is { IfOk result (λ news. pieces_of news.items
+    ensures is { IfOk result (λ news. shown_pieces news.items
         ≡ living_by_views operator_views (operator_of op.now) before.now (piece_of piece.now)) }
     ensures keeps { IfOk result (λ news. KeepsMeaning before.now (operator_of op.now)
-        (piece_of piece.now) (pieces_of news.items)) }
+        (piece_of piece.now) (shown_pieces news.items)) }
 {
     let made = made_tables(alloc, op, before)?;
     let news = unfold_by(alloc, &made, piece)?;

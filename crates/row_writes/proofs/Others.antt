@@ -11,7 +11,7 @@ use Rattle.std.specs.Ordering.{nat_cmp}
 use Rattle.column_log.specs.Log.{Log, Write}
 use Rattle.row_order.specs.Logs.{cells_of, few_of}
 use Rattle.row_writes.specs.ValueIndexes.{Indexed, indexed_columns, is_indexed, indexed_after}
-use Rattle.row_writes.specs.ValueIndexes.{least_room, IsIndexed, IsReady}
+use Rattle.row_writes.specs.ValueIndexes.{least_room, IsIndexed, IsIndexReady}
 use Rattle.value_order.specs.ByValue.{by_value, IsWithout}
 use Rattle.row_order.proofs.Cells.{length-cells_of}
 use Rattle.value_order.proofs.Places.{not_true}
@@ -143,7 +143,7 @@ same_others logs logs' live live' xs ys e f n s a k d h =
 
 pub one_ready : (columns : List Log) (n : ℕ) (live lost : List ℕ) (x : Indexed)
     → ((q : ℕ) → In q live → q < n) → All (λ c. c.ids ≡ n) columns
-    → IsIndexed (cells_of columns) live lost x → IsReady columns x
+    → IsIndexed (cells_of columns) live lost x → IsIndexReady columns x
 one_ready columns n live lost x b a i = record {
   within = subst (λ m. x.column < m) (length-cells_of columns) i.within;
   known = λ q d j. subst (λ m. q < m) (sym (a x.column d
@@ -153,7 +153,7 @@ one_ready columns n live lost x b a i = record {
 
 pub ready_each : (columns : List Log) (n : ℕ) (live lost : List ℕ) (xs : List Indexed)
     → ((q : ℕ) → In q live → q < n) → All (λ c. c.ids ≡ n) columns
-    → All (IsIndexed (cells_of columns) live lost) xs → All (IsReady columns) xs
+    → All (IsIndexed (cells_of columns) live lost) xs → All (IsIndexReady columns) xs
 ready_each columns n live lost xs b a i k d h =
     one_ready columns n live lost (get_or xs k d) b a (i k d h)
 

@@ -8,7 +8,7 @@ ghost use Rattle.row_order.specs.Logs.{cells_of, few_of};
 ghost use Rattle.value_order.specs.ByValue.{Distinct, ids_handed};
 ghost use Rattle.row_writes.specs.ValueIndexes.{Indexed, indexed_columns, is_indexed};
 ghost use Rattle.row_writes.specs.ValueIndexes.{indexed_after};
-ghost use Rattle.row_writes.specs.ValueIndexes.{least_room, IsIndexed, IsReady, IsLosing};
+ghost use Rattle.row_writes.specs.ValueIndexes.{least_room, IsIndexed, IsIndexReady, IsLosing};
 ghost use Rattle.row_writes.specs.ValueIndexes.{IsGaining};
 
 use crate::value_index::ValueIndex;
@@ -50,7 +50,7 @@ pub fn reserve_each(others: &mut Vec<ValueIndex>, more: usize) -> Result<(), NoM
 
 // Takes the ids of lost rows out of each.
 fn lose_all(others: &mut Vec<ValueIndex>, columns: &[Column], lost: &[usize])
-    requires ready { All (IsReady columns.now) others.old.items }
+    requires ready { All (IsIndexReady columns.now) others.old.items }
     requires there { All (λ x. (q : ℕ) → In q lost.now → In q x.ids) others.old.items }
     requires distinct { Distinct lost.now }
     ensures len { vec_len others.new ≡ vec_len others.old }
@@ -73,7 +73,7 @@ pub fn lose_each(
     lost: &[usize],
     gained: usize,
 )
-    requires ready { All (IsReady columns.now) others.old.items }
+    requires ready { All (IsIndexReady columns.now) others.old.items }
     requires there { All (λ x. (q : ℕ) → In q lost.now → In q x.ids) others.old.items }
     requires distinct { Distinct lost.now }
     requires room { gained ≤ few_of rows → All (λ x. gained ≤ x.room) others.old.items }
@@ -100,7 +100,7 @@ pub fn gain_each(
     count: usize,
 )
     requires few { next + count < 2 ^ 64 }
-    requires ready { All (IsReady columns.now) others.old.items }
+    requires ready { All (IsIndexReady columns.now) others.old.items }
     requires new { (q : ℕ) (k : ℕ) (d : Log) → In q (ids_handed lost.now next count)
         → k < length columns.now → q < (slice_index_or columns.now k d).ids }
     requires fresh { All (λ x. (q : ℕ) → In q (ids_handed lost.now next count) → In q x.ids → ⊥)

@@ -7,12 +7,13 @@ use Rattle.rule_book.specs.declared.book.BookFault.TheVariants.{Twice, Missing, 
 
 -- a book has one rule of each kind: the first kind that stands twice, and else the first that is
 -- missing
-abbrev pub IsJudged : List OpKind → Result (Unit {0}) BookFault → Type 0
-IsJudged kinds (Ok u) = (first_twice kinds ≡ None) × (first_missing kinds ≡ None)
-IsJudged kinds (Err (Twice kind)) = first_twice kinds ≡ Some kind
-IsJudged kinds (Err (Missing kind)) = (first_twice kinds ≡ None) × (first_missing kinds ≡ Some kind)
-IsJudged kinds (Err NoMemory) = ⊤
+abbrev pub IsBookJudged : List OpKind → Result (Unit {0}) BookFault → Type 0
+IsBookJudged kinds (Ok u) = (first_twice kinds ≡ None) × (first_missing kinds ≡ None)
+IsBookJudged kinds (Err (Twice kind)) = first_twice kinds ≡ Some kind
+IsBookJudged kinds (Err (Missing kind)) = (first_twice kinds ≡ None)
+    × (first_missing kinds ≡ Some kind)
+IsBookJudged kinds (Err NoMemory) = ⊤
 
 -- the same of what is made of them
 abbrev pub IsFault : List OpKind → BookFault → Type 0
-IsFault kinds fault = IsJudged kinds (Err fault)
+IsFault kinds fault = IsBookJudged kinds (Err fault)

@@ -5,8 +5,8 @@ ghost use Rattle.piece_meaning.specs.Typed.{IsTyped};
 ghost use Rattle.piece_meaning.specs.Rules.{IsValidBook};
 ghost use Rattle.piece_meaning.specs.Books.{book_of, AreValidRules, HasEachKind};
 ghost use Rattle.piece_meaning.specs.Books.{first_twice as twice, first_missing as missing};
-ghost use Rattle.piece_ir.specs.Shown.{piece_of, pieces_of};
-ghost use Rattle.rule_book.specs.Faults.{IsJudged, IsFault};
+ghost use Rattle.piece_ir.specs.Shown.{piece_of, shown_pieces};
+ghost use Rattle.rule_book.specs.Faults.{IsBookJudged, IsFault};
 
 use crate::Rule;
 use crate::kind::{first_missing, first_twice, kind_of, same_kind};
@@ -51,7 +51,7 @@ fn kinds_of<R: Rule>(alloc: Global, rules: &[R]) -> Result<Vec<OpKind>, NoMemory
 }
 
 fn judge(kinds: &[OpKind]) -> Result<(), BookFault>
-    ensures { IsJudged kinds.now result }
+    ensures { IsBookJudged kinds.now result }
 {
     if let Some(kind) = first_twice(kinds) {
         return Err(BookFault::Twice(kind));
@@ -63,7 +63,7 @@ fn judge(kinds: &[OpKind]) -> Result<(), BookFault>
 }
 
 fn judge_rules<R: Rule>(alloc: Global, rules: &[R]) -> Result<(), BookFault>
-    ensures judged { IsJudged (map R.handles rules.now) result }
+    ensures judged { IsBookJudged (map R.handles rules.now) result }
     ensures each { OnOk result (missing (map R.handles rules.now) ≡ None) }
     ensures once { OnOk result (twice (map R.handles rules.now) ≡ None) }
 {
@@ -96,7 +96,7 @@ fn rewrite_by<R: Rule>(
     requires valid { IsValid before.now }
     requires accepted { op_fault before.now (operator_of op.now) ≡ None }
     requires typed { IsTyped (schema_after before.now (operator_of op.now)) (piece_of piece.now) }
-    ensures { IfOk result (λ news. pieces_of news.items
+    ensures { IfOk result (λ news. shown_pieces news.items
         ≡ book_of R.handles R.answers rules.now (operator_of op.now) before.now
         (piece_of piece.now)) }
 {
@@ -165,7 +165,7 @@ impl<R: Rule> RuleBook<R> {
         requires accepted { op_fault before.now (operator_of op.now) ≡ None }
         requires typed { IsTyped (schema_after before.now (operator_of op.now))
             (piece_of piece.now) }
-        ensures { IfOk result (λ news. pieces_of news.items
+        ensures { IfOk result (λ news. shown_pieces news.items
             ≡ book_of R.handles R.answers self.now.rules.items (operator_of op.now) before.now
             (piece_of piece.now)) }
     {

@@ -5,7 +5,7 @@ ghost use Rattle.smo_meaning.specs.OperatorKinds.{operator_kind};
 ghost use Rattle.smo_meaning.specs.After.{op_fault, schema_after, IsValid};
 ghost use Rattle.piece_meaning.specs.Typed.{IsTyped};
 ghost use Rattle.piece_meaning.specs.Rules.{Book, IsValidRule, KeepsMeaning};
-ghost use Rattle.piece_ir.specs.Shown.{piece_of, pieces_of};
+ghost use Rattle.piece_ir.specs.Shown.{piece_of, shown_pieces};
 
 use piece_ir::Piece;
 use prima_base::{NoMemory, OpKind};
@@ -44,10 +44,10 @@ pub trait Rule: Drop {
         requires accepted { op_fault before.now (operator_of op.now) ≡ None }
         requires typed { IsTyped (schema_after before.now (operator_of op.now))
             (piece_of piece.now) }
-        ensures is { IfOk result (λ news. pieces_of news.items
+        ensures is { IfOk result (λ news. shown_pieces news.items
             ≡ answers self.now (operator_of op.now) before.now (piece_of piece.now)) }
         ensures keeps { IfOk result (λ news. KeepsMeaning before.now (operator_of op.now)
-            (piece_of piece.now) (pieces_of news.items)) };
+            (piece_of piece.now) (shown_pieces news.items)) };
 }
 
 /// A boxed rule is the rule in its box.

@@ -39,7 +39,8 @@ use Rattle.shown_rows.specs.Stretches.{RowStretch, bare_from, all_merged}
 use Rattle.shown_rows.specs.declared.order.Showing.{Showing}
 use Rattle.shown_rows.specs.Showing.{stretch_at, number_alone, alone, as_row, stretch_in}
 use Rattle.shown_rows.specs.Showing.{showing_cmp}
-use Rattle.shown_rows.specs.Showing.{none_clash as none_showing_clash, goes_on, ids_on, IsJudged}
+use Rattle.shown_rows.specs.Showing.{none_clash as none_showing_clash, goes_on, ids_on}
+use Rattle.shown_rows.specs.Showing.{IsShowingJudged}
 use Rattle.shown_rows.specs.Showing.{AreOrdered}
 use Rattle.shown_rows.proofs.FilledKeys.{Fill}
 use Rattle.shown_rows.proofs.ListPlaces.{dropped_here}
@@ -125,22 +126,23 @@ module _ {T : Type 0} (values : T → List Value) (cmp : T → T → Ordering) (
       (fill : Fill 0 keys pieces) (sound : Sound told pieces) (ends : (j : ℕ) → j < length keys
       → (get_or keys j (span 0 0)).end ≤ forever)
       (showing : List (Showing T)) (is : map (stretch_at values) showing ≡ pieces) where
-    moved_pieces : (v : Option (Vec ℕ Global)) (j : IsJudged cmp showing v)
+    moved_pieces : (v : Option (Vec ℕ Global)) (j : IsShowingJudged cmp showing v)
         → IsPermutation pieces (map (stretch_at values) j.sorted)
     moved_pieces v j = subst (λ l. IsPermutation l (map (stretch_at values) j.sorted)) is
         (IsPermutation-map (stretch_at values) showing j.sorted j.moved)
 
-    pub told_apart : (ids : Vec ℕ Global) → IsJudged cmp showing (Some ids) → ApartAlways keys told
+    pub told_apart : (ids : Vec ℕ Global) → IsShowingJudged cmp showing (Some ids)
+        → ApartAlways keys told
     told_apart ids j =
         two_rows keys told pieces fill sound (map (stretch_at values) j.sorted)
         (moved_pieces (Some ids) j) (in_order j.sorted j.rises)
         (sym (none_same j.sorted) ∙ j.verdict.0)
 
-    pub told_one : IsJudged cmp showing None → ApartAlways keys told → ⊥
+    pub told_one : IsShowingJudged cmp showing None → ApartAlways keys told → ⊥
     told_one j a = one_row keys told pieces fill sound (map (stretch_at values) j.sorted)
         (moved_pieces None j) (in_order j.sorted j.rises) (sym (none_same j.sorted) ∙ j.verdict) a
 
-    pub told_order : (ids : Vec ℕ Global) → IsJudged cmp showing (Some ids)
+    pub told_order : (ids : Vec ℕ Global) → IsShowingJudged cmp showing (Some ids)
         → (cells : List (List Cell))
         → ((p q : RowStretch) → In p pieces → In q pieces → on p ≡ true → on q ≡ true
         → row_cmp p.row q.row ≡ Less → row_cmp (row_at p.id last_moment cells)
@@ -260,7 +262,8 @@ module _ (last : Option ℕ) (keys : List Span) (type : ColType) (first : List C
   module _ {T : Type 0} (values : T → List Value) (cmp : T → T → Ordering) (same : (x y : T)
       → cmp x y ≡ row_cmp (values x) (values y)) where
     pub first_told : (showing : List (Showing T)) (ids : Vec ℕ Global)
-        → map (stretch_at values) showing ≡ map stretch_in first → IsJudged cmp showing (Some ids)
+        → map (stretch_at values) showing ≡ map stretch_in first
+        → IsShowingJudged cmp showing (Some ids)
         → Told keys (first ∷ rest) ids.items
     first_told showing ids is j =
         let fill = first_fill last type 0 keys first run in
@@ -279,7 +282,8 @@ module _ {T : Type 0} (values : T → List Value) (cmp : T → T → Ordering) (
   column_told : (last : Option ℕ) (keys : List Span) (kinds : List Column) (first : List Cell)
       (rest : List (List Cell)) → ColumnsRead last keys kinds (first ∷ rest)
       → (showing : List (Showing T)) (ids : Vec ℕ Global)
-      → map (stretch_at values) showing ≡ map stretch_in first → IsJudged cmp showing (Some ids)
+      → map (stretch_at values) showing ≡ map stretch_in first
+      → IsShowingJudged cmp showing (Some ids)
       → Told keys (first ∷ rest) ids.items
   column_told last keys [] first rest r showing ids is j =
       absurd (let e : first ∷ rest ≡ [] = r in cc)
@@ -292,7 +296,7 @@ module _ {T : Type 0} (values : T → List Value) (cmp : T → T → Ordering) (
       → (first : Vec ReadCell Global) → 0 < length cells → first ≡ get_or cells 0 first
       → (showing : List (Showing T)) (ids : Vec ℕ Global)
       → map (stretch_at values) showing ≡ map stretch_in (map cell_seen first.items)
-      → IsJudged cmp showing (Some ids) → Told keys (cells_seen cells) ids.items
+      → IsShowingJudged cmp showing (Some ids) → Told keys (cells_seen cells) ids.items
   told last keys kinds cells r first some at showing ids is j =
       let seen : Vec ReadCell Global → List Cell = λ column. map cell_seen column.items in
       let here : cells_seen cells ≡ seen first ∷ drop 1 (cells_seen cells) =
@@ -349,7 +353,7 @@ module _ (last : Option ℕ) (keys : List Span) (kinds : List Column) (cells : L
       ∙ ap (row_cmp p.row) (sym (both.1 q j last_moment (still_on keys pieces both.0 ends q j b)))
       ∙ e
 
-  pub rows_told_apart : (verdict : Option (Vec ℕ Global)) → IsJudged vals_cmp showing verdict
+  pub rows_told_apart : (verdict : Option (Vec ℕ Global)) → IsShowingJudged vals_cmp showing verdict
       → is_some verdict ≡ are_apart keys cells
   rows_told_apart (Some ids) j = sym (apart_at_starts keys cells
       (told_apart as_row vals_cmp same_rows keys cells pieces both.0 both.1 ends showing is ids j))
@@ -358,7 +362,7 @@ module _ (last : Option ℕ) (keys : List Span) (kinds : List Column) (cells : L
       (told_one as_row vals_cmp same_rows keys cells pieces both.0 both.1 ends showing is j
       (apart_always keys cells (all_filled last keys kinds cells read) some a))) (λ a. sym a)
 
-  pub rows_told_order : (verdict : Option (Vec ℕ Global)) → IsJudged vals_cmp showing verdict
+  pub rows_told_order : (verdict : Option (Vec ℕ Global)) → IsShowingJudged vals_cmp showing verdict
       → IfSome verdict (λ ids. AreOrdered keys cells ids.items)
   rows_told_order (Some ids) j = λ have. told_order as_row vals_cmp same_rows keys cells pieces
       both.0 both.1 ends showing is ids j cells grows

@@ -9,7 +9,8 @@ ghost use Rattle.image_spelling.specs.Reader as spec;
 ghost use Rattle.shown_rows.specs.Cells.{cell_seen, cells_seen};
 ghost use Rattle.shown_rows.specs.Stretches.{row_stretches};
 ghost use Rattle.shown_rows.specs.Showing.{stretch_at, number_alone, alone, as_row, stretch_in};
-ghost use Rattle.shown_rows.specs.Showing.{clash, none_clash, goes_on, id_on, ids_on, IsJudged};
+ghost use Rattle.shown_rows.specs.Showing.{clash, none_clash, goes_on, id_on, ids_on};
+ghost use Rattle.shown_rows.specs.Showing.{IsShowingJudged};
 ghost use Rattle.shown_rows.specs.Showing.{AreOrdered};
 
 use crate::stretch::{Stretch, all_stretches};
@@ -81,7 +82,7 @@ fn judge<T: Ord + Drop>(
     alloc: Global,
     showing: Vec<Showing<T>>,
 ) -> Result<Option<Vec<usize>>, NoMemory>
-    ensures { IfOk result (IsJudged T.cmp showing.items) }
+    ensures { IfOk result (IsShowingJudged T.cmp showing.items) }
 {
     let mut sorted = showing;
     sorted.sort_unstable();

@@ -16,7 +16,7 @@ use Rattle.smo_meaning.specs.Preconditions.{among}
 use Rattle.smo_meaning.specs.Making.{image, joined_value, joined_columns, joined_row}
 use Rattle.smo_meaning.proofs.NameLaws.{same_turned}
 use Rattle.smo_maps.specs.declared.source.Source.{Source}
-use Rattle.smo_maps.specs.Picking.{place_of, source_of, value_at, picked, picked_row}
+use Rattle.smo_maps.specs.Picking.{place_of, source_of, value_at, picked_value, picked_row}
 
 nothing_there : (p : Option ℕ) → value_at [] p ≡ Int (pos 0)
 nothing_there None = refl
@@ -50,7 +50,7 @@ is_there (c ∷ cs) n = step (same c.0 n) (same n c.0) (place_of cs n) (among n 
 
 -- what is picked out of two rows, of one, and of one with a value more
 pub picked_joined : (cs ds : List Column) (a b : Row) (n : List ℕ)
-    → picked a b (source_of cs ds n) ≡ joined_value cs ds a b n
+    → picked_value a b (source_of cs ds n) ≡ joined_value cs ds a b n
 picked_joined cs ds a b n =
     ap (λ t. cond t (value_at a (place_of cs n)) (value_at b (place_of ds n))) (is_there cs n)
     ∙ ap (λ x. cond (among n (names_of cs)) x (value_at b (place_of ds n))) (value_there cs a n)
@@ -62,12 +62,13 @@ first_alone a None = refl
 first_alone a (Some k) = refl
 
 pub picked_own : (cs : List Column) (a : Row) (n : List ℕ)
-    → picked a [] (source_of cs [] n) ≡ cell cs a n
+    → picked_value a [] (source_of cs [] n) ≡ cell cs a n
 picked_own cs a n = first_alone a (place_of cs n) ∙ value_there cs a n
 
 pub picked_added : (cs : List Column) (c n : List ℕ) (k : ColType) (v : Value) (row : Row)
     → among c (names_of cs) ≡ false
-    → picked row (v ∷ []) (source_of cs ((c, k) ∷ []) n) ≡ (if same c n then v else cell cs row n)
+    → picked_value row (v ∷ []) (source_of cs ((c, k) ∷ []) n)
+    ≡ (if same c n then v else cell cs row n)
 picked_added cs c n k v row new = step (same c n) refl
   where
     step : (b : Bool) → same c n ≡ b → cond (is_some (place_of cs n)) (value_at row (place_of cs n))
@@ -77,7 +78,7 @@ picked_added cs c n k v row new = step (same c n) refl
     step false e = first_alone row (place_of cs n) ∙ value_there cs row n
 
 pub picked_moved : (cs : List Column) (old new : List ℕ) (row : Row) (n : List ℕ)
-    → picked row [] (source_of cs [] (if same new n then old else n))
+    → picked_value row [] (source_of cs [] (if same new n then old else n))
     ≡ (if same new n then cell cs row old else cell cs row n)
 picked_moved cs old new row n = picked_own cs row (if same new n then old else n)
     ∙ step (same new n)
@@ -88,7 +89,7 @@ picked_moved cs old new row n = picked_own cs row (if same new n then old else n
 
 -- a row that shows a value under each name
 pub shown_row : (g : List ℕ → Source) (a b : Row) (f : List ℕ → Value) (made : List Column)
-    → ((n : List ℕ) → picked a b (g n) ≡ f n)
+    → ((n : List ℕ) → picked_value a b (g n) ≡ f n)
     → picked_row (map g (names_of made)) a b ≡ map (λ (c : Column). f c.0) made
 shown_row g a b f [] h = refl
 shown_row g a b f (c ∷ made) h = ap (λ v. v ∷ picked_row (map g (names_of made)) a b) (h c.0)
@@ -97,7 +98,7 @@ shown_row g a b f (c ∷ made) h = ap (λ v. v ∷ picked_row (map g (names_of m
 pub shown_image : (g : List ℕ → Source) (more : Row → Row) (f : Row → List ℕ → Value)
     (made : List Column) (sources : List Source) (names : List (List ℕ)) (rows : Relation)
     → sources ≡ map g names → names ≡ names_of made
-    → ((row : Row) (n : List ℕ) → picked row (more row) (g n) ≡ f row n)
+    → ((row : Row) (n : List ℕ) → picked_value row (more row) (g n) ≡ f row n)
     → set_of row_cmp (map (λ (row : Row). picked_row sources row (more row)) rows)
     ≡ image made f rows
 shown_image g more f made sources names rows s e h =

@@ -24,8 +24,8 @@ value_at row None = Int (pos 0)
 value_at row (Some i) = unwrap_or (slice_get row i) (Int (pos 0))
 
 -- what stands at the source: in the first row where it has a place there, and else in the second
-abbrev pub picked : Row → Row → Source → Value
-picked a b s = if is_some s.first then value_at a s.first else value_at b s.second
+abbrev pub picked_value : Row → Row → Source → Value
+picked_value a b s = if is_some s.first then value_at a s.first else value_at b s.second
 
 abbrev pub picked_row : List Source → Row → Row → Row
-picked_row sources a b = map (picked a b) sources
+picked_row sources a b = map (picked_value a b) sources

@@ -2,7 +2,7 @@
 //! row.
 
 ghost use Rattle.std.specs.Prelude.{◌≡◌, IfOk, map};
-ghost use Rattle.smo_maps.specs.Picking.{place_of, source_of, value_at, picked, picked_row};
+ghost use Rattle.smo_maps.specs.Picking.{place_of, source_of, value_at, picked_value, picked_row};
 
 use prima_base::{ColType, Name, NoMemory, Row, Value, same_name};
 use std::alloc::Global;
@@ -70,8 +70,8 @@ fn value_at(values: &[Value], place: Option<usize>) -> Result<Value, NoMemory>
 }
 
 // An equal value to the one at the source.
-fn picked(first: &[Value], second: &[Value], source: &Source) -> Result<Value, NoMemory>
-    ensures { IfOk result (λ v. v ≡ picked first.now second.now source.now) }
+fn picked_value(first: &[Value], second: &[Value], source: &Source) -> Result<Value, NoMemory>
+    ensures { IfOk result (λ v. v ≡ picked_value first.now second.now source.now) }
 {
     match source.first {
         Some(_) => value_at(first, source.first),
@@ -90,7 +90,7 @@ pub(crate) fn picked_row(
 {
     let mut values = Vec::with_capacity(alloc, sources.len())?;
     for source in sources {
-        values.push(picked(first, second, source)?)?;
+        values.push(picked_value(first, second, source)?)?;
     }
     Ok(Row::new(alloc, values))
 }

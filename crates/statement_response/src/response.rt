@@ -113,7 +113,7 @@ fn respond_write<K: Sink, D: Disk>(
 }
 
 // Puts the lines of an answer.
-fn put_answer<K: Sink>(sink: &mut K, listing: &Listing<'_>) -> Result<Put, Failed>
+fn put_query_answer<K: Sink>(sink: &mut K, listing: &Listing<'_>) -> Result<Put, Failed>
     ensures ok { IfOk result (λ put. put ≡ Put.NoError) }
     ensures all { OnOk result (Appends (K.written sink.old) (K.written sink.new)
         (listing_text listing.now.periods (entries_of listing.now.rows.items))) }
@@ -170,7 +170,7 @@ fn respond_ask<K: Sink, D: Disk, R: Rule>(
     ensures counts { SaidCounted result (K.faults sink.old) (K.faults sink.new) }
 {
     match ask_counted::<D, Brand, R>(archive, book, query, Blank::new(1)) {
-        Ok(listing) => or_write_fault(put_answer(sink, &listing)),
+        Ok(listing) => or_write_fault(put_query_answer(sink, &listing)),
         Err(AskFault::Refused(refusal)) => or_write_fault(refuse(sink, &refusal)),
         Err(AskFault::NoMemory) => Err(Halt::NoMemory),
     }

@@ -140,17 +140,17 @@ as_ascends (row ∷ rows) s = (each rows s.0, as_ascends rows s.1)
 
 -- ---- what is known of some rows
 
-pub picked : (p : Row × Bool → Bool) (known : Known) → Ascends row_cmp (keys_of known)
+pub picked_ascends : (p : Row × Bool → Bool) (known : Known) → Ascends row_cmp (keys_of known)
     → Ascends row_cmp (keys_of (filter p known))
-picked p [] a = tt
-picked p (e ∷ known) a = elim (p e) as (λ b. Ascends row_cmp
+picked_ascends p [] a = tt
+picked_ascends p (e ∷ known) a = elim (p e) as (λ b. Ascends row_cmp
     (keys_of (cond b (e ∷ filter p known) (filter p known)))) [
       | true ↦ (
         below_each row_cmp e.0 (keys_of (filter p known))
             (λ row m. before_in row_cmp e.0 row (keys_of known) a.0 (still row m)),
-        picked p known a.1,
+        picked_ascends p known a.1,
       )
-      | false ↦ picked p known a.1
+      | false ↦ picked_ascends p known a.1
     ]
   where
     still : (row : Row) → In row (keys_of (filter p known)) → In row (keys_of known)
@@ -473,7 +473,8 @@ module _ (known : Known) (stored now : Relation) (ordered : Ascends row_cmp (key
       ∙ ap (told false) (in_has row_cmp row_exact row now i))) refl
 
   pub lost_are : lost ≡ gained_rows now stored
-  lost_are = one_list row_cmp row_exact lost (gained_rows now stored) (picked is_lost known ordered)
+  lost_are = one_list row_cmp row_exact lost (gained_rows now stored)
+      (picked_ascends is_lost known ordered)
       (filter_ascends (λ row. not (has row_cmp row now)) stored there) (record {
         there = λ row m. let h = lost_was row m in
             in_filter (λ r. not (has row_cmp r now)) row stored h.0
@@ -484,7 +485,8 @@ module _ (known : Known) (stored now : Relation) (ordered : Ascends row_cmp (key
 
   pub gained_are : gained ≡ gained_rows stored now
   gained_are = one_list row_cmp row_exact gained (gained_rows stored now)
-      (picked is_gained known ordered) (filter_ascends (λ row. not (has row_cmp row stored)) now
+      (picked_ascends is_gained known ordered)
+      (filter_ascends (λ row. not (has row_cmp row stored)) now
       ascends) (record {
         there = λ row m. let h = gained_is row m in
             in_filter (λ r. not (has row_cmp r stored)) row now h.0

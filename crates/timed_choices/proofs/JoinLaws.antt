@@ -16,7 +16,7 @@ use Rattle.cond_expr.specs.declared.expr.Column.{Column}
 use Rattle.cond_expr.specs.Trees.{Tree, Test}
 use Rattle.timed_choices.specs.Choosing.{extended_where, completed, Wide, IsSound, in_period, pair}
 use Rattle.timed_choices.specs.Choosing.{paired, pairs}
-use Rattle.timed_choices.specs.Keeping.{picked, meets, meets_all, passing, kept, IsValidRow}
+use Rattle.timed_choices.specs.Keeping.{values_at, meets, meets_all, passing, kept, IsValidRow}
 use Rattle.timed_choices.specs.Keeping.{AllValid}
 use Rattle.timed_choices.specs.Fitting.{Fit}
 use Rattle.timed_choices.specs.Answering.{outputs, answer, answers}
@@ -60,14 +60,14 @@ paired_valid keep p ys a b = λ e h.
 -- what is kept beside a choice is all that may lead to what passes
 module _ (cs : List Column) (ps : List Test) (own other : List ℕ) (tests : List Test) (n w : ℕ)
     (keys : (p y z : List Value) → length p ≡ n → length y ≡ w
-    → meets_all cs ps ((p ++ y) ++ z) ≡ true → picked other y ≡ picked own p)
+    → meets_all cs ps ((p ++ y) ++ z) ≡ true → values_at other y ≡ values_at own p)
     (due : (p y z : List Value) → length p ≡ n → length y ≡ w
     → meets_all cs ps ((p ++ y) ++ z) ≡ true → meets_all cs tests (p ++ y) ≡ true) where
   is_kept : (p y z : List Value) → length p ≡ n → length y ≡ w
       → meets_all cs ps ((p ++ y) ++ z) ≡ true → kept cs own other tests p y ≡ true
   is_kept p y z e f t =
-      ap (λ k. is_eq (row_cmp k (picked own p)) && passing cs tests p y) (keys p y z e f t)
-      ∙ ap (λ r. is_eq r && passing cs tests p y) (cmp_itself row_cmp row_exact (picked own p))
+      ap (λ k. is_eq (row_cmp k (values_at own p)) && passing cs tests p y) (keys p y z e f t)
+      ∙ ap (λ r. is_eq r && passing cs tests p y) (cmp_itself row_cmp row_exact (values_at own p))
       ∙ due p y z e f t
 
   pub sound_plan : IsSound (meets_all cs ps) n w (kept cs own other tests)
@@ -105,7 +105,7 @@ module _ (cs : List Column) (own other : List ℕ) (tests : List Test) (n w : �
 
   module _ (parts : List Test)
       (keys : (p y z : List Value) → length p ≡ n → length y ≡ w
-      → meets_all cs parts ((p ++ y) ++ z) ≡ true → picked other y ≡ picked own p)
+      → meets_all cs parts ((p ++ y) ++ z) ≡ true → values_at other y ≡ values_at own p)
       (due : (p y z : List Value) → length p ≡ n → length y ≡ w
       → meets_all cs parts ((p ++ y) ++ z) ≡ true → meets_all cs tests (p ++ y) ≡ true) where
     pub one_joined : (m : ℕ) (rest : List (List (List Value)))

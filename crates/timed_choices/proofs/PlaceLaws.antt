@@ -28,7 +28,7 @@ use Rattle.std.specs.Borrow.{Bor}
 use Rattle.std.proofs.lemmas.List.{map-append}
 use Rattle.cond_expr.specs.declared.expr.Cond.{Cond}
 use Rattle.cond_expr.specs.Seen.{test}
-use Rattle.timed_choices.specs.Keeping.{value_at, picked, meets, meets_all, borrowed_tests}
+use Rattle.timed_choices.specs.Keeping.{value_at, values_at, meets, meets_all, borrowed_tests}
 use Rattle.timed_choices.specs.Placing.{place, is_below, all_below}
 use Rattle.cond_expr.specs.Parts.{parts, all_parts as all_parts}
 use Rattle.cond_expr.proofs.ReferenceLaws.{Each, test_within_each}
@@ -241,9 +241,9 @@ module _ (cs : List Column) (row : List Value) where
       ∙ one_more_met (borrowed_tests ts) (test b.now) h k
 
 pub more_keys : (own other owns others : List ℕ) (a b : ℕ) (p y : List Value) → owns ≡ own ++ a ∷ []
-    → others ≡ other ++ b ∷ [] → picked other y ≡ picked own p → value_at y b ≡ value_at p a
-    → picked others y ≡ picked owns p
+    → others ≡ other ++ b ∷ [] → values_at other y ≡ values_at own p → value_at y b ≡ value_at p a
+    → values_at others y ≡ values_at owns p
 more_keys own other owns others a b p y e f h k =
-    ap (λ is. picked is y) f ∙ map-append (value_at y) other (b ∷ [])
-    ∙ ap (λ vs. vs ++ value_at y b ∷ []) h ∙ ap (λ v. picked own p ++ v ∷ []) k
-    ∙ sym (ap (λ is. picked is p) e ∙ map-append (value_at p) own (a ∷ []))
+    ap (λ is. values_at is y) f ∙ map-append (value_at y) other (b ∷ [])
+    ∙ ap (λ vs. vs ++ value_at y b ∷ []) h ∙ ap (λ v. values_at own p ++ v ∷ []) k
+    ∙ sym (ap (λ is. values_at is p) e ∙ map-append (value_at p) own (a ∷ []))

@@ -24,8 +24,8 @@ abbrev pub value_at : List Value → ℕ → Value
 value_at values i = get_or values i (Int (pos 0))
 
 -- the values at some places
-abbrev pub picked : List ℕ → List Value → List Value
-picked places values = map (value_at values) places
+abbrev pub values_at : List ℕ → List Value → List Value
+values_at places values = map (value_at values) places
 
 -- whether the value at a place is a text that lies elsewhere
 abbrev pub lies_at : List Val → ℕ → Bool
@@ -48,7 +48,7 @@ AreOwnParts columns conds own = (rest : List Column) (row more : List Value)
 
 -- the row agrees with a choice: it has at these places what the choice has at those
 abbrev pub agrees : List ℕ → List ℕ → List Value → List Value → Bool
-agrees own other p y = is_eq (row_cmp (picked other y) (picked own p))
+agrees own other p y = is_eq (row_cmp (values_at other y) (values_at own p))
 
 -- the two together pass the tests
 abbrev pub passing : List Column → List Test → List Value → List Value → Bool

@@ -52,7 +52,7 @@ use Rattle.version_groups.specs.Representation.{RepresentsTable, RepresentsEntry
 use Rattle.version_groups.specs.Representation.{Represents}
 use Rattle.version_groups.specs.Room.{IsSame}
 use Rattle.version_groups.specs.Steps.{a_command, step_of, changed, evolved, AreChanges, IsStep}
-use Rattle.version_groups.specs.Steps.{PreparedCommand, Prepares}
+use Rattle.version_groups.specs.Steps.{PlainPreparedCommand, Prepares}
 use Rattle.version_groups.proofs.CarriedOut.{as_many}
 use Rattle.version_groups.proofs.Covered.{still_of_lifelines}
 use Rattle.version_groups.proofs.GroupPlaces.{lines_kept}
@@ -221,7 +221,7 @@ module _ (kept : Kept) (past : Past) (stamp : ℕ) (changes : List PlainChange)
   pub changes_ready : BodyHolds (changing changes) → (new : Kept) → IsSame kept new
       → (prepared : List (Option PreparedChange))
       → AreReady stamp changes (newest_group new) prepared
-      → (next : PreparedCommand) → next.stamp ≡ stamp → step_of next.step ≡ changed prepared
+      → (next : PlainPreparedCommand) → next.stamp ≡ stamp → step_of next.step ≡ changed prepared
       → next.gained ≡ all_gained stamp changes (newest_group kept)
       → next.lost ≡ all_lost stamp changes (newest_group kept)
       → Prepares new past (a_command stamp (changing changes)) next
@@ -295,7 +295,7 @@ module _ (kept : Kept) (past : Past) (stamp : ℕ) (op : Operator) (inverse : Li
       → length begun ≤ new.beginnings → IsEvolved kept.stored (newest_places kept)
       (length kept.versions + 1) (newest_tables past) (newest_database past) stamp op inverse
       (version_of version) begun places
-      → (next : PreparedCommand) → next.stamp ≡ stamp
+      → (next : PlainPreparedCommand) → next.stamp ≡ stamp
       → step_of next.step ≡ evolved (version_of version) begun places
       → next.gained ≡ 0 → next.lost ≡ 0 → Prepares new past (a_command stamp (evolving op inverse))
       next

@@ -19,8 +19,8 @@ use Rattle.version_tables.specs.Changing.{AreMade}
 use Rattle.version_tables.specs.Places.{at_places, AreWithin}
 use Rattle.version_groups.specs.Groups.{Kept, versions_in, newest_places, group_of, newest_group}
 use Rattle.version_groups.specs.Groups.{table_in}
-use Rattle.version_groups.specs.declared.prepared_groups.Step.{Step}
-use Rattle.version_groups.specs.declared.prepared_groups.Step.TheVariants.{Changed, Evolved}
+use Rattle.version_groups.specs.declared.prepared_command.Step.{Step}
+use Rattle.version_groups.specs.declared.prepared_command.Step.TheVariants.{Changed, Evolved}
 use Rattle.version_groups.specs.Covering.{line_of, AreOfLifelines}
 use Rattle.version_groups.specs.Lifelines.{line_begun, made_tables}
 use Rattle.version_groups.specs.Representation.{IsInForce}

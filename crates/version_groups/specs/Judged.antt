@@ -40,5 +40,5 @@ pub record IsAcceptedAs (past : Past) (command : PlainCommand) (Found : Type 0) 
   pub constants : BodyHolds command.body
   pub found : Found
 
-abbrev pub IsAccepted : Past → Judged → Type 0
-IsAccepted past judged = IsAcceptedAs past (judged_command judged) (IsFound past judged)
+abbrev pub IsCommandAccepted : Past → Judged → Type 0
+IsCommandAccepted past judged = IsAcceptedAs past (judged_command judged) (IsFound past judged)

@@ -24,8 +24,8 @@ use Rattle.version_tables.specs.Beginning.{BeginsWith, BeginInOrder, ArePlaced}
 use Rattle.version_tables.specs.Evolving.{BeginsEntry}
 use Rattle.version_tables.specs.Becoming.{Leads}
 use Rattle.version_tables.specs.Places.{at_places, AreWithin}
-use Rattle.version_groups.specs.declared.prepared_groups.Step.{Step}
-use Rattle.version_groups.specs.declared.prepared_groups.Step.TheVariants.{Changed, Evolved}
+use Rattle.version_groups.specs.declared.prepared_command.Step.{Step}
+use Rattle.version_groups.specs.declared.prepared_command.Step.TheVariants.{Changed, Evolved}
 use Rattle.version_groups.specs.Groups.{Kept, newest_places, group_of}
 
 -- a change of each table of the newest version, or none; or the next version, the tables that begin
@@ -43,7 +43,7 @@ makes_version (Changed prepared) = false
 makes_version (Evolved version begun places) = true
 
 -- from when on it is seen, how many rows are gained and lost, and what is to be done
-pub record PreparedCommand : Type 0 where
+pub record PlainPreparedCommand : Type 0 where
   pub stamp : ℕ
   pub gained : ℕ
   pub lost : ℕ
@@ -87,8 +87,8 @@ IsStep kept past stamp (evolving op inverse) (evolved version begun places) =
 
 -- the command is accepted after the past, its constants are valid values, and what it does was made
 -- ready from these groups, which have the room for it
-pub record IsReady (kept : Kept) (past : Past) (command : PlainCommand)
-    (prepared : PreparedCommand) : Type 0 where
+pub record IsPreparedCommand (kept : Kept) (past : Past) (command : PlainCommand)
+    (prepared : PlainPreparedCommand) : Type 0 where
   pub accepted : command_fault past command ≡ None
   pub valid : command.stamp < forever
   pub constants : BodyHolds command.body
@@ -110,8 +110,8 @@ a_command stamp body = record { stamp = stamp; body = body }
 
 -- what `prepare` makes of a command that is accepted after the past
 pub record Prepares (kept : Kept) (past : Past) (command : PlainCommand)
-    (prepared : PreparedCommand) : Type 0 where
-  pub ready : IsReady kept past command prepared
+    (prepared : PlainPreparedCommand) : Type 0 where
+  pub ready : IsPreparedCommand kept past command prepared
   pub stamp : prepared.stamp ≡ command.stamp
   pub gained : prepared.gained ≡ rows_gained past command.body
   pub lost : prepared.lost ≡ rows_lost past command.body

@@ -1,5 +1,5 @@
 use crate::judged::Judged;
-use crate::prepared_groups::{PreparedGroups, Step};
+use crate::prepared_command::{PreparedCommand, Step};
 use crate::size::SizeLine;
 use history_store::{PreparedTable, StoredTable};
 use prima_base::{Name, NoMemory};
@@ -129,8 +129,9 @@ impl Groups {
     ghost use Rattle.version_groups.specs.Representation.{Represents};
     ghost use Rattle.version_groups.specs.Sizes.{IsLineOf};
     ghost use Rattle.version_groups.specs.Room.{IsSame};
-    ghost use Rattle.version_groups.specs.Steps.{IsReady, IsStep, Prepares, a_command, step_of};
-    ghost use Rattle.version_groups.specs.Judged.{judged_command, IsAccepted};
+    ghost use Rattle.version_groups.specs.Steps.{IsPreparedCommand, IsStep, Prepares, a_command};
+    ghost use Rattle.version_groups.specs.Steps.{step_of};
+    ghost use Rattle.version_groups.specs.Judged.{judged_command, IsCommandAccepted};
     ghost use Rattle.version_groups.specs.declared.judged.Judged.TheVariants as found;
 
     /// Groups in which nothing was accepted: version 0 alone. It takes no memory.
@@ -303,7 +304,7 @@ impl Groups {
     /// Makes a command ready, and all the room that installing it needs. The command was judged,
     /// and is accepted after the past that is shown, which stays as it is; judging found of each
     /// change where its table stands, and of an operator the schema that is after it.
-    /// `PreparedGroups` has its stamp; for changes it has the counts of the rows that are gained
+    /// `PreparedCommand` has its stamp; for changes it has the counts of the rows that are gained
     /// and lost, summed over the tables, and for an operator none. The one error is `NoMemory`,
     /// where memory runs out.
     ///
@@ -313,12 +314,12 @@ impl Groups {
     /// gained; where more than 64 rows are lost or gained, a copy of the index of its current rows
     /// too. Other tables are not looked at. An operator costs a copy of its inputs, and of the rows
     /// that it makes; other tables go on.
-    pub fn prepare<'a>(&mut self, judged: Judged<'a>) -> Result<PreparedGroups<'a>, NoMemory>
-        requires { (past : Past) × Represents self.old past × IsAccepted past judged }
+    pub fn prepare<'a>(&mut self, judged: Judged<'a>) -> Result<PreparedCommand<'a>, NoMemory>
+        requires { (past : Past) × Represents self.old past × IsCommandAccepted past judged }
         ensures same { IsSame self.old self.new }
         ensures represents { (past : Past) → Represents self.old past → Represents self.new past }
         ensures prepared { (past : Past) → Represents self.old past
-            → IsAccepted past judged.entry → IfOk result (λ prepared.
+            → IsCommandAccepted past judged.entry → IfOk result (λ prepared.
             Prepares self.new past (judged_command judged.entry) prepared) }
     {
         match judged {
@@ -336,11 +337,11 @@ impl Groups {
     /// the one that is then the newest has at the moments at which its version is in force what it
     /// had. Changes are made of the stored tables of the newest version, and an operator ends
     /// lifelines and begins others: each other stored table is the very same. It takes no memory.
-    pub fn install(&mut self, prepared: PreparedGroups<'_>)
+    pub fn install(&mut self, prepared: PreparedCommand<'_>)
         requires { (past : Past) × (command : PlainCommand) × Represents self.old past
-            × IsReady self.old past command prepared }
+            × IsPreparedCommand self.old past command prepared }
         ensures represents { (past : Past) → (command : PlainCommand) → Represents self.old past
-            → IsReady self.old past command prepared.entry
+            → IsPreparedCommand self.old past command prepared.entry
             → Represents self.new (past_with past command) }
         ensures earlier { HasEarlier self.old self.new }
         ensures step { HasStep self.old self.new prepared.entry.step }
@@ -402,7 +403,7 @@ impl Groups {
         stamp: u64,
         changes: &'a [Change],
         places: &[usize],
-    ) -> Result<PreparedGroups<'a>, NoMemory>
+    ) -> Result<PreparedCommand<'a>, NoMemory>
         requires valid { stamp < forever }
         requires constants { BodyHolds (changing (changes_of changes.now)) }
         requires accepted { (past : Past) × Represents self.old past
@@ -429,7 +430,7 @@ impl Groups {
             lost,
             prepared,
         } = made;
-        Ok(PreparedGroups {
+        Ok(PreparedCommand {
             stamp,
             gained,
             lost,
@@ -438,12 +439,12 @@ impl Groups {
     }
 
     // Makes the next version ready.
-    fn prepare_version<'a>(&mut self, version: Version) -> Result<PreparedGroups<'a>, NoMemory>
+    fn prepare_version<'a>(&mut self, version: Version) -> Result<PreparedCommand<'a>, NoMemory>
         requires { (past : Past) × Represents self.old past
-            × IsAccepted past (found.Evolve version) }
+            × IsCommandAccepted past (found.Evolve version) }
         ensures same { IsSame self.old self.new }
         ensures prepared { (past : Past) → Represents self.old past
-            → IsAccepted past (found.Evolve version) → IfOk result (λ prepared.
+            → IsCommandAccepted past (found.Evolve version) → IfOk result (λ prepared.
             Prepares self.new past (judged_command (found.Evolve version)) prepared) }
     {
         let number = self.newest() + 1;
@@ -457,7 +458,7 @@ impl Groups {
             &version,
         )?;
         self.reserve_version(tables.begun.len())?;
-        Ok(PreparedGroups {
+        Ok(PreparedCommand {
             stamp: version.stamp,
             gained: 0,
             lost: 0,

@@ -10,14 +10,14 @@
 mod groups;
 mod judged;
 mod lifeline_laws;
-mod prepared_groups;
+mod prepared_command;
 mod restoration;
 mod size;
 
 pub use groups::Groups;
 pub use judged::Judged;
 pub use lifeline_laws::{lifelines_are_few, lifelines_are_longest_runs};
-pub use prepared_groups::PreparedGroups;
+pub use prepared_command::PreparedCommand;
 pub use restoration::restored_groups_represent;
 pub use size::{SizeLine, sizes_are_of_lifelines};
 pub use version_tables::MadeTable;

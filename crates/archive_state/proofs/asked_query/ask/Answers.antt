@@ -9,17 +9,17 @@ use Rattle.query_meaning.specs.Atoms.{with_atoms}
 use Rattle.query_types.specs.Queries.{PlainQuery, query_of}
 use Rattle.version_groups.specs.Groups.{versions_in}
 use Rattle.piece_meaning.specs.Books.{book_of}
-use Rattle.query_exec.specs.Accepted.{IsAccepted}
+use Rattle.query_exec.specs.Accepted.{IsQueryAccepted}
 use Rattle.query_exec.specs.Borrowed.{AreBorrowedBy}
 use Rattle.query_exec.specs.QueryPieces.{ArePieces}
-use Rattle.archive_state.specs.Asking.{IfAccepted, IsReady, query_asked}
+use Rattle.archive_state.specs.Asking.{IfAccepted, IsQueryReady, query_asked}
 use Rattle.archive_state.proofs.asked_query.ask.Goals as goal
 
 pub answer-requires-clause-answerable : goal.answer-requires-clause-answerable
 answer-requires-clause-answerable g c =
     let past = c.requires.represents.0 in
     let represents = c.requires.represents.1 in
-    let h : IsReady past (query_of c.args.query.now) c.in_ok-atoms.atoms =
+    let h : IsQueryReady past (query_of c.args.query.now) c.in_ok-atoms.atoms =
     c.in_ok-atoms.ensures past represents in
     record {
       past = past;
@@ -32,7 +32,7 @@ answer-requires-clause-answerable g c =
 pub returns-in_err-rows-clause-cost : goal.returns-in_err-rows-clause-cost
 returns-in_err-rows-clause-cost g c = λ past represents pieces are.
     let query = query_of c.args.query.now in
-    let h : IsReady past query c.in_ok-atoms.atoms = c.in_ok-atoms.ensures past represents in
+    let h : IsQueryReady past query c.in_ok-atoms.atoms = c.in_ok-atoms.ensures past represents in
     c.answer.ensures.cost pieces
     (subst (λ (q : PlainQuery). ArePieces
     (book_of g.R.Rule.handles g.R.Rule.answers c.args.book.now.rules.items)
@@ -48,7 +48,7 @@ returns-in_err-rows-clause-cost g c = λ past represents pieces are.
 pub returns-clause-asked : goal.returns-clause-asked
 returns-clause-asked g c past represents =
     let query = query_of c.args.query.now in
-    let h : IsReady past query c.in_ok-atoms.atoms = c.in_ok-atoms.ensures past represents in
+    let h : IsQueryReady past query c.in_ok-atoms.atoms = c.in_ok-atoms.ensures past represents in
     record {
       accepted = h.accepted;
       rows = c.keep.ensures.rows ∙ ap (λ (k : List Keep).
@@ -61,7 +61,7 @@ returns-clause-asked g c past represents =
 pub returns-clause-cost : goal.returns-clause-cost
 returns-clause-cost g c = λ past represents pieces are.
     let query = query_of c.args.query.now in
-    let h : IsReady past query c.in_ok-atoms.atoms = c.in_ok-atoms.ensures past represents in
+    let h : IsQueryReady past query c.in_ok-atoms.atoms = c.in_ok-atoms.ensures past represents in
     c.answer.ensures.cost pieces
     (subst (λ (q : PlainQuery). ArePieces
     (book_of g.R.Rule.handles g.R.Rule.answers c.args.book.now.rules.items)
@@ -77,7 +77,7 @@ returns-clause-cost g c = λ past represents pieces are.
 pub returns-clause-borrowed : goal.returns-clause-borrowed
 returns-clause-borrowed g c = λ past represents pieces are by_branch spared.
     let query = query_of c.args.query.now in
-    let h : IsReady past query c.in_ok-atoms.atoms = c.in_ok-atoms.ensures past represents in
+    let h : IsQueryReady past query c.in_ok-atoms.atoms = c.in_ok-atoms.ensures past represents in
     let all : AreBorrowedBy past (query_asked past query) by_branch c.in_ok-rows.rows.items =
     subst (λ (q : PlainQuery). AreBorrowedBy past q by_branch c.in_ok-rows.rows.items) h.atoms
     (c.in_ok-rows.ensures.borrowed past represents pieces
@@ -97,7 +97,7 @@ returns-clause-borrowed g c = λ past represents pieces are by_branch spared.
 pub returns-clause-least : goal.returns-clause-least
 returns-clause-least g c = λ past represents pieces are e m.
     let query = query_of c.args.query.now in
-    let h : IsReady past query c.in_ok-atoms.atoms = c.in_ok-atoms.ensures past represents in
+    let h : IsQueryReady past query c.in_ok-atoms.atoms = c.in_ok-atoms.ensures past represents in
     c.in_ok-rows.ensures.least pieces
     (subst (λ (q : PlainQuery). ArePieces
     (book_of g.R.Rule.handles g.R.Rule.answers c.args.book.now.rules.items)

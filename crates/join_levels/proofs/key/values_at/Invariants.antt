@@ -1,10 +1,10 @@
 use Rattle.std.proofs.Common.{◌≡◌, map, take}
 use Rattle.prima_base.specs.Order.{shown, is_borrowed}
-use Rattle.timed_choices.specs.Keeping.{picked, lies_at}
+use Rattle.timed_choices.specs.Keeping.{values_at, lies_at}
 use Rattle.join_levels.proofs.key.values_at.Given as goal
 
 abbrev pub invariant-loop-place : goal.invariant-loop-place
 invariant-loop-place l = record {
-  values : map shown l.picked.items ≡ picked (take l.place-index l.places) (map shown l.values);
+  values : map shown l.picked.items ≡ values_at (take l.place-index l.places) (map shown l.values);
   same : map is_borrowed l.picked.items ≡ map (lies_at l.values) (take l.place-index l.places);
 }

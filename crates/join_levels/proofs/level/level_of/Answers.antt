@@ -8,7 +8,7 @@ use Rattle.prima_base.specs.declared.value.Value.{Value}
 use Rattle.prima_base.specs.Order.{row_cmp}
 use Rattle.prima_base.specs.Timed.{entry_of, entries_of}
 use Rattle.timed_choices.specs.Choosing.{paired, pairs}
-use Rattle.timed_choices.specs.Keeping.{picked, agrees, passing, kept, in_group, borrowed_tests}
+use Rattle.timed_choices.specs.Keeping.{values_at, agrees, passing, kept, in_group, borrowed_tests}
 use Rattle.timed_choices.specs.Keeping.{AllValid}
 use Rattle.timed_choices.specs.BorrowedOutputs.{RowBorrows, RowsBorrow}
 use Rattle.timed_choices.proofs.Groups.{shown_kept}
@@ -23,25 +23,25 @@ use Rattle.join_levels.proofs.level.level_of.Goals.{In_ok-groups}
 in_one : (c : In_ok-groups) (key : List Value)
     → in_group (get row_cmp c.in_ok-groups.groups key)
     ≡ filter (λ (t : TimedRow). is_eq (row_cmp
-    (picked c.in_ok-keys.keys.other.items (entry_of t).item) key)) c.args.source.rows.items
+    (values_at c.in_ok-keys.keys.other.items (entry_of t).item) key)) c.args.source.rows.items
 in_one c key = c.in_ok-groups.ensures key ∙ ap
-    (λ other. filter (λ (t : TimedRow). is_eq (row_cmp (picked other (entry_of t).item) key))
+    (λ other. filter (λ (t : TimedRow). is_eq (row_cmp (values_at other (entry_of t).item) key))
     c.args.source.rows.items) c.deref.ensures.value
 
 shown_in_one : (c : In_ok-groups) (key : List Value)
     → entries_of (in_group (get row_cmp c.in_ok-groups.groups key))
     ≡ filter (λ (e : Entry (List Value)). is_eq
-    (row_cmp (picked c.in_ok-keys.keys.other.items e.item) key))
+    (row_cmp (values_at c.in_ok-keys.keys.other.items e.item) key))
     (entries_of c.args.source.rows.items)
 shown_in_one c key = ap entries_of (in_one c key)
     ∙ shown_kept (λ (e : Entry (List Value)).
-    is_eq (row_cmp (picked c.in_ok-keys.keys.other.items e.item) key)) c.args.source.rows.items
+    is_eq (row_cmp (values_at c.in_ok-keys.keys.other.items e.item) key)) c.args.source.rows.items
 
 abbrev made_here : In_ok-groups → List (Entry (List Value)) → List (Entry (List Value))
 made_here c ps = flat_map (λ (p : Entry (List Value)).
     flat_map (paired (passing c.args.columns.now (borrowed_tests c.in_ok-tests.tests.items)) p)
     (entries_of (in_group (get row_cmp c.in_ok-groups.groups
-    (picked c.in_ok-keys.keys.own.items p.item))))) ps
+    (values_at c.in_ok-keys.keys.own.items p.item))))) ps
 
 made : (c : In_ok-groups) (ps : List (Entry (List Value)))
     → made_here c ps ≡ pairs (kept c.args.columns.now c.in_ok-keys.keys.own.items
@@ -51,14 +51,14 @@ made c ps =
     all_pairs (agrees c.in_ok-keys.keys.own.items c.in_ok-keys.keys.other.items)
     (passing c.args.columns.now (borrowed_tests c.in_ok-tests.tests.items))
     (λ p. entries_of (in_group (get row_cmp c.in_ok-groups.groups
-    (picked c.in_ok-keys.keys.own.items p.item)))) ps (entries_of c.args.source.rows.items)
-    (λ p. shown_in_one c (picked c.in_ok-keys.keys.own.items p.item))
+    (values_at c.in_ok-keys.keys.own.items p.item)))) ps (entries_of c.args.source.rows.items)
+    (λ p. shown_in_one c (values_at c.in_ok-keys.keys.own.items p.item))
 
 pub returns-clause-valid : goal.returns-clause-valid
 returns-clause-valid c = λ key.
     subst AllValid (sym (shown_in_one (goal.at.returns-clause-valid c).In_ok-groups key))
     (some_valid (λ (e : Entry (List Value)). is_eq
-    (row_cmp (picked c.in_ok-keys.keys.other.items e.item) key))
+    (row_cmp (values_at c.in_ok-keys.keys.other.items e.item) key))
     (entries_of c.args.source.rows.items)
     (fit_valid c.args.source.width (entries_of c.args.source.rows.items) c.args.source.fit))
 
@@ -66,7 +66,7 @@ pub returns-clause-borrowed : goal.returns-clause-borrowed
 returns-clause-borrowed c = λ which own l key.
     subst (RowsBorrow which own) (sym (in_one (goal.at.returns-clause-borrowed c).In_ok-groups key))
     (each_kept (RowBorrows which own) (λ (t : TimedRow). is_eq (row_cmp
-    (picked c.in_ok-keys.keys.other.items (entry_of t).item) key)) c.args.source.rows.items l)
+    (values_at c.in_ok-keys.keys.other.items (entry_of t).item) key)) c.args.source.rows.items l)
 
 pub returns-clause-wide : goal.returns-clause-wide
 returns-clause-wide c = λ ps f.

@@ -1,6 +1,6 @@
 use Rattle.std.proofs.Common.{◌≡◌, ◌++◌, true, List, length, take}
 use Rattle.prima_base.specs.declared.value.Value.{Value}
-use Rattle.timed_choices.specs.Keeping.{meets_all, picked, borrowed_tests}
+use Rattle.timed_choices.specs.Keeping.{meets_all, values_at, borrowed_tests}
 use Rattle.join_levels.specs.Places.{own_keys, other_keys}
 use Rattle.join_levels.proofs.plan.keys_of.Given as goal
 
@@ -12,5 +12,5 @@ invariant-loop-part l = record {
       l.width;
   same : (p y z : List Value) → length p ≡ l.taken → length y ≡ l.width
       → meets_all l.columns (borrowed_tests l.parts) ((p ++ y) ++ z) ≡ true
-      → picked l.other.items y ≡ picked l.own.items p;
+      → values_at l.other.items y ≡ values_at l.own.items p;
 }

@@ -11,7 +11,7 @@ use Rattle.prima_base.specs.Order.{row_cmp, shown}
 use Rattle.prima_base.specs.Timed.{entry_of, entries_of}
 use Rattle.timed_choices.specs.BorrowedOutputs.{RowsBorrow}
 use Rattle.timed_choices.specs.Choosing.{paired}
-use Rattle.timed_choices.specs.Keeping.{picked, passing, in_group, borrowed_tests, AllValid}
+use Rattle.timed_choices.specs.Keeping.{values_at, passing, in_group, borrowed_tests, AllValid}
 use Rattle.join_levels.proofs.step.put_choice.Goals as goal
 
 pub put_runs-requires-clause-rows : goal.put_runs-requires-clause-rows
@@ -23,12 +23,12 @@ put_runs-requires-clause-rows c =
 
 pub returns-in-Some-clause-rows : goal.returns-in-Some-clause-rows
 returns-in-Some-clause-rows c =
-    let key = picked c.args.own.now (map shown c.args.choice.now.values.items) in
+    let key = values_at c.args.own.now (map shown c.args.choice.now.values.items) in
     let here : c.in-Some.group.now ≡ in_group (get row_cmp c.args.groups.now key) =
     ap in_group (sym (sym c.get.ensures.value ∙ ap option_copied c.in-Some.is))
     ∙ ap (λ (k : List Value). in_group (get row_cmp c.args.groups.now k))
     (c.of-key.ensures ∙ c.in_ok-values.ensures.values
-    ∙ ap (λ (vs : List Val). picked c.args.own.now (map shown vs)) c.deref.ensures.value) in
+    ∙ ap (λ (vs : List Val). values_at c.args.own.now (map shown vs)) c.deref.ensures.value) in
     on_ok_weaker c.put_runs.result
     (λ q. q
     ∙ ap (λ (rows : List TimedRow). entries_of c.args.into.now.items
@@ -39,11 +39,11 @@ returns-in-Some-clause-rows c =
 pub returns-clause-rows : goal.returns-clause-rows
 returns-clause-rows c =
     let here : [] ≡ in_group (get row_cmp c.args.groups.now
-    (picked c.args.own.now (map shown c.args.choice.now.values.items))) =
+    (values_at c.args.own.now (map shown c.args.choice.now.values.items))) =
     ap in_group (sym (sym c.get.ensures.value ∙ ap option_copied c.in-None.is))
     ∙ ap (λ (k : List Value). in_group (get row_cmp c.args.groups.now k))
     (c.of-key.ensures ∙ c.in_ok-values.ensures.values
-    ∙ ap (λ (vs : List Val). picked c.args.own.now (map shown vs)) c.deref.ensures.value) in
+    ∙ ap (λ (vs : List Val). values_at c.args.own.now (map shown vs)) c.deref.ensures.value) in
     sym (append-nil (entries_of c.args.into.now.items))
     ∙ ap (λ (rows : List TimedRow). entries_of c.args.into.now.items
     ++ flat_map (paired (passing c.args.columns.now (borrowed_tests c.args.tests.now))

@@ -7,7 +7,7 @@ use Rattle.prima_base.specs.declared.timed_row.TimedRow.{TimedRow}
 use Rattle.prima_base.specs.Timed.{rows_at}
 use Rattle.timed_choices.specs.BorrowedOutputs.{RowBorrows, RowsBorrow}
 use Rattle.piece_meaning.specs.Pieces.{all_mean, out_trees}
-use Rattle.piece_ir.specs.Shown.{piece_of, pieces_of}
+use Rattle.piece_ir.specs.Shown.{piece_of, shown_pieces}
 use Rattle.piece_ir.specs.declared.piece.Piece.{Piece}
 use Rattle.query_pieces.proofs.RunPieces.{none_run}
 use Rattle.smo_meaning.specs.Past.{tables_of, database_at}
@@ -40,7 +40,7 @@ loop-piece-preserved g c =
           (c.loop-piece.invariant.rows past represents m inside meant h)
           (c.in_ok-news.ensures.stored m inside
           ∙ piece_meant c.args.groups.now past represents c.args.version
-          (pieces_of c.args.pieces.now) m
+          (shown_pieces c.args.pieces.now) m
           meant h (piece_of c.piece-item.result)
           (in_map piece_of c.piece-item.result c.args.pieces.now
           (among_taken c.args.pieces.now c.loop-piece.piece-index c.piece-item.result below
@@ -93,6 +93,6 @@ pub returns-clause-rows : goal.returns-clause-rows
 returns-clause-rows g c = λ past represents m inside meant h.
     c.loop-piece.invariant.rows past represents m inside meant h
     ∙ ap (λ (ps : List Piece). all_mean (tables_of past h.version) (database_at past m)
-    (pieces_of ps)) (take_all c.loop-piece.piece-index c.args.pieces.now
+    (shown_pieces ps)) (take_all c.loop-piece.piece-index c.args.pieces.now
     c.loop-piece-test.false)
     ∙ h.means

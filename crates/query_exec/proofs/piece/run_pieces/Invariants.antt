@@ -5,7 +5,7 @@ use Rattle.smo_meaning.specs.OneRow.{Relation}
 use Rattle.smo_meaning.specs.Past.{Past, tables_of, database_at}
 use Rattle.version_groups.specs.Representation.{Represents}
 use Rattle.piece_meaning.specs.Pieces.{all_mean}
-use Rattle.piece_ir.specs.Shown.{pieces_of}
+use Rattle.piece_ir.specs.Shown.{shown_pieces}
 use Rattle.cond_expr.specs.declared.expr.Column.{Column}
 use Rattle.timed_choices.specs.BorrowedOutputs.{BorrowedValues, RowsBorrow}
 use Rattle.query_exec.specs.Borrowed.{AllPlainIn}
@@ -16,14 +16,14 @@ use Rattle.query_exec.proofs.piece.run_pieces.Given as goal
 abbrev pub invariant-loop-piece : goal.invariant-loop-piece
 invariant-loop-piece g l = record {
   rows : (past : Past) → Represents l.groups past → (m : ℕ) → covers l.fn.period m ≡ true
-      → (meant : Relation) → (h : IsMeant l.groups past l.version (pieces_of l.pieces) m meant)
+      → (meant : Relation) → (h : IsMeant l.groups past l.version (shown_pieces l.pieces) m meant)
       → rows_at l.rows.items m ≡ all_mean (tables_of past h.version) (database_at past m)
-      (pieces_of (take l.piece-index l.pieces));
+      (shown_pieces (take l.piece-index l.pieces));
   inside : (m : ℕ) → covers l.fn.period m ≡ false → rows_at l.rows.items m ≡ [];
   borrowed : (which : BorrowedValues) → (columns : List Column)
-      → AllPlainIn l.groups l.version l.fn.period which columns (pieces_of l.pieces)
+      → AllPlainIn l.groups l.version l.fn.period which columns (shown_pieces l.pieces)
       → RowsBorrow which columns l.rows.items;
-  count : l.steps + pieces_read l.groups l.version (pieces_of (drop l.piece-index l.pieces))
-      ≡ l.initial.steps + pieces_read l.groups l.version (pieces_of l.pieces);
+  count : l.steps + pieces_read l.groups l.version (shown_pieces (drop l.piece-index l.pieces))
+      ≡ l.initial.steps + pieces_read l.groups l.version (shown_pieces l.pieces);
   rises : l.initial.steps ≤ l.steps;
 }

@@ -1,6 +1,6 @@
 use Rattle.std.proofs.Common.{List, subst}
 use Rattle.std.proofs.lemmas.List.{take_all}
-use Rattle.piece_ir.specs.Shown.{pieces_of}
+use Rattle.piece_ir.specs.Shown.{shown_pieces}
 use Rattle.piece_ir.specs.declared.piece.Piece.{Piece}
 use Rattle.query_exec.specs.Runs.{ShareAll}
 use Rattle.query_exec.proofs.RunLaws.{all_more}
@@ -16,5 +16,5 @@ loop-piece-preserved c =
 pub returns : goal.returns
 returns c = λ t.
     subst (λ (pieces : List Piece). ShareAll c.args.groups.now c.args.version c.args.other
-    (pieces_of pieces)) (take_all c.loop-piece.piece-index c.args.pieces.now
+    (shown_pieces pieces)) (take_all c.loop-piece.piece-index c.args.pieces.now
     c.loop-piece-test.false) c.loop-piece.invariant

@@ -10,7 +10,7 @@ use Rattle.smo_meaning.specs.Past.{Past, no_tables, tables_from, tables_of}
 use Rattle.version_groups.specs.Groups.{versions_in}
 use Rattle.version_groups.specs.Representation.{Represents}
 use Rattle.piece_meaning.specs.Typed.{AllTyped}
-use Rattle.piece_ir.specs.Shown.{pieces_of}
+use Rattle.piece_ir.specs.Shown.{shown_pieces}
 use Rattle.piece_ir.specs.declared.piece.Piece.{Piece}
 use Rattle.query_pieces.specs.Gathering.{IsGathered}
 use Rattle.query_pieces.proofs.Gatherings.{nothing_gathered}
@@ -55,7 +55,7 @@ read_run-requires g c =
       past,
       represents,
       within_there c.args.groups.now past represents first.part ready.0,
-      subst (λ (ps : List Piece). AllTyped (tables_of past first.part.1) (pieces_of ps))
+      subst (λ (ps : List Piece). AllTyped (tables_of past first.part.1) (shown_pieces ps))
           (sym c.deref.ensures.value) ready.1,
     )
 
@@ -67,13 +67,13 @@ returns-in_err-read_run-clause-cost g c =
     let below : i < length plan = c.runs-test.true in
     let is : first ≡ get_or plan i first = c.index-plan-at.is in
     let n : ℕ = c.run_of-period.result.1 in
-    let here : pieces_read c.args.groups.now first.part.1 (pieces_of c.deref.result.now)
+    let here : pieces_read c.args.groups.now first.part.1 (shown_pieces c.deref.result.now)
     ≡ part_read c.args.groups.now first =
-    ap (λ (ps : List Piece). pieces_read c.args.groups.now first.part.1 (pieces_of ps))
+    ap (λ (ps : List Piece). pieces_read c.args.groups.now first.part.1 (shown_pieces ps))
     c.deref.ensures.value in
     run_within plan i n first below is c.args.groups.now c.args.steps.now c.runs.steps
     c.read_run.new.steps (pieces_read c.args.groups.now first.part.1
-    (pieces_of c.deref.result.now)) c.runs.invariant.cost c.read_run.ensures.cost here
+    (shown_pieces c.deref.result.now)) c.runs.invariant.cost c.read_run.ensures.cost here
 
 pub runs-preserved : goal.runs-preserved
 runs-preserved g c =
@@ -93,17 +93,19 @@ runs-preserved g c =
     let run : IsRun kept first (take n (drop (i + 1) plan)) period =
     subst (λ (rest : List PartPieces). IsRun kept first (take n rest) period) whole
     c.run_of-period.ensures.run in
-    let here : pieces_read kept first.part.1 (pieces_of c.deref.result.now) ≡ part_read kept first =
-    ap (λ (ps : List Piece). pieces_read kept first.part.1 (pieces_of ps))
+    let here : pieces_read kept first.part.1 (shown_pieces c.deref.result.now)
+    ≡ part_read kept first =
+    ap (λ (ps : List Piece). pieces_read kept first.part.1 (shown_pieces ps))
     c.deref.ensures.value in
     let own : (past : Past) → Represents kept past → (x : PartPieces) → In x plan
     → IsOwn (versions_in kept) x.part × AllTyped (tables_of past x.part.1)
-    (pieces_of x.pieces.items) =
+    (shown_pieces x.pieces.items) =
     λ past represents x m.
     let h = c.requires.ready.2 x m in (
       h.0,
       subst (λ (vs : List PlainVersion). AllTyped (tables_from no_tables vs x.part.1)
-          (pieces_of x.pieces.items)) (same_versions kept c.requires.ready.0 past c.requires.ready.1
+          (shown_pieces x.pieces.items)) (same_versions kept c.requires.ready.0 past
+          c.requires.ready.1
           represents) h.1,
     ) in
     record {
@@ -113,7 +115,8 @@ runs-preserved g c =
           (entries_of c.read_run.new.rows.items) run
           (c.in_ok-read_run.ensures.rows past represents relation
           (λ m inside.
-          subst (λ (ps : List Piece). IsMeant kept past first.part.1 (pieces_of ps) m (relation m))
+          subst (λ (ps : List Piece). IsMeant kept past first.part.1 (shown_pieces ps) m
+          (relation m))
           (sym c.deref.ensures.value)
           (run_meant kept first (take n (drop (i + 1) plan)) period run past represents relation
           (λ x k. own past represents x (among_plan plan i n first below is x k))
@@ -121,16 +124,17 @@ runs-preserved g c =
           (planned_spans (take i plan)) (c.runs.invariant.rows past represents relation means));
       borrowed = λ which columns h.
           c.in_ok-read_run.ensures.borrowed which columns (subst
-          (λ (ps : List Piece). AllPlainIn kept first.part.1 period which columns (pieces_of ps))
+          (λ (ps : List Piece). AllPlainIn kept first.part.1 period which columns (shown_pieces ps))
           (sym c.deref.ensures.value)
           (run_plain kept first (take n (drop (i + 1) plan)) period run which columns
           (λ x k. h x (among_plan plan i n first below is x k))))
           (c.runs.invariant.borrowed which columns h);
       cost = run_cost plan i n first below is kept c.args.steps.now c.runs.steps
-          c.read_run.new.steps (pieces_read kept first.part.1 (pieces_of c.deref.result.now))
+          c.read_run.new.steps (pieces_read kept first.part.1 (shown_pieces c.deref.result.now))
           c.runs.invariant.cost c.read_run.ensures.cost here;
       least = run_least plan i n first below is kept c.args.steps.now c.runs.steps
-          c.read_run.new.steps (pieces_read kept first.part.1 (pieces_of c.deref.result.now)) period
+          c.read_run.new.steps (pieces_read kept first.part.1 (shown_pieces c.deref.result.now))
+          period
           run c.runs.invariant.least c.runs.invariant.rises
           c.in_ok-read_run.ensures.counted here;
       rises = from_first c.args.steps.now c.runs.steps c.read_run.new.steps c.runs.invariant.rises

@@ -6,7 +6,7 @@ use Rattle.smo_meaning.specs.OneRow.{Relation}
 use Rattle.smo_meaning.specs.Past.{Past, tables_of, database_at}
 use Rattle.version_groups.specs.Representation.{Represents}
 use Rattle.piece_meaning.specs.Pieces.{all_mean}
-use Rattle.piece_ir.specs.Shown.{pieces_of}
+use Rattle.piece_ir.specs.Shown.{shown_pieces}
 use Rattle.query_pieces.specs.Gathering.{IsGathered}
 use Rattle.query_exec.specs.declared.part_piece.PartPieces.{PartPieces}
 use Rattle.cond_expr.specs.declared.expr.Column.{Column}
@@ -22,12 +22,12 @@ invariant-runs g l = record {
   within : l.at ≤ length l.plan;
   rows : (past : Past) → Represents l.groups past → (relation : ℕ → Relation)
       → ((x : PartPieces) → In x l.plan → (m : ℕ) → covers x.part.0 m ≡ true
-      → all_mean (tables_of past x.part.1) (database_at past m) (pieces_of x.pieces.items)
+      → all_mean (tables_of past x.part.1) (database_at past m) (shown_pieces x.pieces.items)
       ≡ relation m)
       → IsGathered relation (planned_spans (take l.at l.plan)) (entries_of l.rows.items);
   borrowed : (which : BorrowedValues) → (columns : List Column)
       → ((x : PartPieces) → In x l.plan
-      → AllPlainIn l.groups x.part.1 x.part.0 which columns (pieces_of x.pieces.items))
+      → AllPlainIn l.groups x.part.1 x.part.0 which columns (shown_pieces x.pieces.items))
       → RowsBorrow which columns l.rows.items;
   cost : l.steps ≤ l.initial.steps + total (part_read l.groups) (take l.at l.plan);
   least : (x : PartPieces) → In x (take l.at l.plan)

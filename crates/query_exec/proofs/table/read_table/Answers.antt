@@ -7,7 +7,7 @@ use Rattle.version_groups.specs.Groups.{versions_in}
 use Rattle.piece_meaning.specs.Books.{book_of}
 use Rattle.piece_meaning.specs.Pieces.{all_mean}
 use Rattle.piece_meaning.specs.Typed.{AllTyped}
-use Rattle.piece_ir.specs.Shown.{pieces_of}
+use Rattle.piece_ir.specs.Shown.{shown_pieces}
 use Rattle.query_pieces.specs.Gathering.{IsGathered}
 use Rattle.query_exec.specs.Asked.{read_asked}
 use Rattle.query_exec.specs.declared.part_piece.PartPieces.{PartPieces}
@@ -36,7 +36,7 @@ read_parts-requires g c =
         represents,
         subst (λ (xs : List PartPieces). (x : PartPieces) → In x xs
             → IsOwn (versions_in c.args.groups.now) x.part
-            × AllTyped (tables_of past x.part.1) (pieces_of x.pieces.items))
+            × AllTyped (tables_of past x.part.1) (shown_pieces x.pieces.items))
             (sym c.deref.ensures.value)
             (plan_ready c.args.groups.now past represents
             (book_of g.R.Rule.handles g.R.Rule.answers c.args.book.now.rules.items) c.known.ensures
@@ -61,7 +61,7 @@ returns-clause-rows g c = λ past represents.
     (c.in_ok-rows.ensures.rows past represents relation
     (subst (λ (xs : List PartPieces). (x : PartPieces) → In x xs → (m : ℕ)
     → covers x.part.0 m ≡ true → all_mean (tables_of past x.part.1) (database_at past m)
-    (pieces_of x.pieces.items) ≡ relation m) (sym c.deref.ensures.value)
+    (shown_pieces x.pieces.items) ≡ relation m) (sym c.deref.ensures.value)
     (plan_means c.args.groups.now past represents
     (book_of g.R.Rule.handles g.R.Rule.answers c.args.book.now.rules.items)
     c.known.ensures c.args.route.now c.requires.route c.args.table.now
@@ -95,7 +95,7 @@ returns-clause-borrowed g c = λ branch atom which columns h.
     c.coalesce_in_place.new.rows.items c.coalesce_in_place.ensures.values
     (c.in_ok-rows.ensures.borrowed which columns
     (subst (λ (xs : List PartPieces). (x : PartPieces) → In x xs
-    → AllPlainIn c.args.groups.now x.part.1 x.part.0 which columns (pieces_of x.pieces.items))
+    → AllPlainIn c.args.groups.now x.part.1 x.part.0 which columns (shown_pieces x.pieces.items))
     (sym c.deref.ensures.value)
     (plan_plain c.args.groups.now (versions_in c.args.groups.now)
     (book_of g.R.Rule.handles g.R.Rule.answers c.args.book.now.rules.items)

@@ -7,7 +7,7 @@ use Rattle.smo_meaning.specs.Past.{no_tables, tables_from}
 use Rattle.version_groups.specs.Groups.{versions_in}
 use Rattle.piece_meaning.specs.Books.{book_of}
 use Rattle.piece_meaning.specs.Typed.{AllTyped}
-use Rattle.piece_ir.specs.Shown.{pieces_of}
+use Rattle.piece_ir.specs.Shown.{shown_pieces}
 use Rattle.piece_ir.specs.declared.piece.Piece.{Piece}
 use Rattle.rewrite_chains.specs.Beginnings.{asking, first_piece}
 use Rattle.rewrite_chains.specs.UnfoldedPieces.{StandFor}
@@ -30,7 +30,7 @@ loop-part-init g c = record {
   stand = stand_first (book_of g.R.Rule.handles g.R.Rule.answers c.args.book.now.rules.items)
       (versions_of c.versions-versions.result.now) c.in_ok-start.start.version
       c.args.asked c.args.table.now (read_asked c.args.question.now)
-      (pieces_of c.in_ok-start.start.pieces.items) c.in_ok-start.ensures.version
+      (shown_pieces c.in_ok-start.start.pieces.items) c.in_ok-start.ensures.version
       (c.in_ok-start.ensures.pieces ∙ ap (λ (ns : List (List ℕ)).
       first_piece c.args.table.now (asking (read_asked c.args.question.now).test ns) ∷ [])
       c.deref.ensures.value);
@@ -74,7 +74,7 @@ to-requires-clause-pieces g c =
     c.args.book.now.rules.items)
     (versions_of c.versions-versions.result.now) same c.args.asked c.args.table.now
     (read_asked c.args.question.now) parts c.requires.along c.loop-part.walk.version
-    (pieces_of c.loop-part.walk.pieces.items) p (among_taken parts i p below is) next.0
+    (shown_pieces c.loop-part.walk.pieces.items) p (among_taken parts i p below is) next.0
     c.loop-part.invariant.stand
 
 pub part_pieces-requires-clause-there : goal.part_pieces-requires-clause-there
@@ -101,7 +101,7 @@ part_pieces-requires-clause-typed g c =
     ap (λ (vs : List Version). map version_of vs) c.versions-versions.ensures in
     let stand : StandFor (book_of g.R.Rule.handles g.R.Rule.answers c.args.book.now.rules.items)
     (versions_of c.versions-versions.result.now) p.1 c.args.asked c.args.table.now
-    (read_asked c.args.question.now) (pieces_of c.in_ok-walk.walk.pieces.items) =
+    (read_asked c.args.question.now) (shown_pieces c.in_ok-walk.walk.pieces.items) =
     c.in_ok-walk.ensures.pieces c.args.asked c.args.table.now (read_asked c.args.question.now)
     next.0
     (λ on. kept_here c.args.groups.now (book_of g.R.Rule.handles g.R.Rule.answers
@@ -110,12 +110,12 @@ part_pieces-requires-clause-typed g c =
     (read_asked c.args.question.now) parts c.requires.along p (among_taken parts i p below is))
     c.loop-part.invariant.stand in
     subst (λ (ps : List Piece). AllTyped (tables_from no_tables (versions_in c.args.groups.now) p.1)
-    (pieces_of ps)) (sym c.deref-in-loop-part.ensures.value)
+    (shown_pieces ps)) (sym c.deref-in-loop-part.ensures.value)
     (here_typed c.args.groups.now (book_of g.R.Rule.handles g.R.Rule.answers
     c.args.book.now.rules.items)
     (versions_of c.versions-versions.result.now) same c.args.asked c.args.table.now
     (read_asked c.args.question.now) parts c.requires.along c.known.ensures p.1
-    (pieces_of c.in_ok-walk.walk.pieces.items) stand)
+    (shown_pieces c.in_ok-walk.walk.pieces.items) stand)
 
 pub loop-part-preserved : goal.loop-part-preserved
 loop-part-preserved g c =
@@ -130,7 +130,7 @@ loop-part-preserved g c =
     ap (λ (vs : List Version). map version_of vs) c.versions-versions.ensures in
     let stand : StandFor (book_of g.R.Rule.handles g.R.Rule.answers c.args.book.now.rules.items)
     (versions_of c.versions-versions.result.now) p.1 c.args.asked c.args.table.now
-    (read_asked c.args.question.now) (pieces_of c.in_ok-walk.walk.pieces.items) =
+    (read_asked c.args.question.now) (shown_pieces c.in_ok-walk.walk.pieces.items) =
     c.in_ok-walk.ensures.pieces c.args.asked c.args.table.now (read_asked c.args.question.now)
     next.0
     (λ on. kept_here c.args.groups.now (book_of g.R.Rule.handles g.R.Rule.answers
@@ -148,7 +148,7 @@ loop-part-preserved g c =
       stand = subst (λ (v : ℕ). StandFor (book_of g.R.Rule.handles g.R.Rule.answers
           c.args.book.now.rules.items)
           (versions_of c.versions-versions.result.now) v c.args.asked c.args.table.now
-          (read_asked c.args.question.now) (pieces_of c.in_ok-walk.walk.pieces.items))
+          (read_asked c.args.question.now) (shown_pieces c.in_ok-walk.walk.pieces.items))
           (sym c.in_ok-walk.ensures.version) stand;
       planned = subst (λ (ps : List Part). ArePlanned
           (book_of g.R.Rule.handles g.R.Rule.answers c.args.book.now.rules.items)
@@ -160,14 +160,14 @@ loop-part-preserved g c =
           c.in_ok-push.ensures.items c.loop-part.invariant.planned
           (one_planned (book_of g.R.Rule.handles g.R.Rule.answers c.args.book.now.rules.items)
           (versions_in c.args.groups.now) c.args.asked
-          c.args.table.now r p x (pieces_of c.deref-in-loop-part.result.now)
+          c.args.table.now r p x (shown_pieces c.deref-in-loop-part.result.now)
           c.in_ok-part_pieces.ensures.part
-          (ap pieces_of c.deref-in-loop-part.ensures.value
+          (ap shown_pieces c.deref-in-loop-part.ensures.value
           ∙ (stand_here c.args.groups.now
           (book_of g.R.Rule.handles g.R.Rule.answers c.args.book.now.rules.items)
           (versions_of c.versions-versions.result.now) same
           c.args.asked c.args.table.now r parts c.requires.along p.1
-          (pieces_of c.in_ok-walk.walk.pieces.items) stand).unfolded)
+          (shown_pieces c.in_ok-walk.walk.pieces.items) stand).unfolded)
           c.in_ok-part_pieces.ensures.living c.in_ok-part_pieces.ensures.told));
     }
 

@@ -1,6 +1,6 @@
 use Rattle.std.proofs.Common.{◌∙◌, ap}
 use Rattle.std.proofs.lemmas.Result.{IfOk-weaker}
-use Rattle.piece_ir.specs.Shown.{pieces_of}
+use Rattle.piece_ir.specs.Shown.{shown_pieces}
 use Rattle.rewrite.proofs.CodeSteps.{first_accepted, rest_typed, all_are}
 use Rattle.rewrite.proofs.step.+through_each.Goals as goal
 
@@ -14,10 +14,10 @@ through-requires-clause-typed g t c =
     let accepted = first_accepted c.args.tables.now c.args.ops.now c.op-item.result
     c.in-len1-up.len_at_least c.op-item.is c.requires.accepted in
     rest_typed _ c.known.ensures c.args.tables.now c.in_ok-next-in-len1-up.next c.args.ops.now
-    c.op-item.result (pieces_of c.args.pieces.items) (pieces_of c.deref.result.now)
+    c.op-item.result (shown_pieces c.args.pieces.items) (shown_pieces c.deref.result.now)
     c.requires.valid c.in-len1-up.len_at_least c.op-item.is c.requires.accepted c.requires.typed
     (c.in_ok-next-in-len1-up.ensures.after accepted)
-    (ap pieces_of c.deref.ensures.value ∙ c.in_ok-taken-in-len1-up.ensures)
+    (ap shown_pieces c.deref.ensures.value ∙ c.in_ok-taken-in-len1-up.ensures)
 
 pub returns-in_ok-taken-in-len1-up : goal.returns-in_ok-taken-in-len1-up
 returns-in_ok-taken-in-len1-up g t c =
@@ -25,7 +25,7 @@ returns-in_ok-taken-in-len1-up g t c =
     c.in-len1-up.len_at_least c.op-item.is c.requires.accepted in
     IfOk-weaker c.through.result _ _ (λ news h.
     all_are _ c.args.tables.now c.in_ok-next-in-len1-up.next c.args.ops.now c.op-item.result
-    (pieces_of c.args.pieces.items) (pieces_of c.deref.result.now) (pieces_of news.items)
+    (shown_pieces c.args.pieces.items) (shown_pieces c.deref.result.now) (shown_pieces news.items)
     c.in-len1-up.len_at_least c.op-item.is (c.in_ok-next-in-len1-up.ensures.after accepted)
-    (ap pieces_of c.deref.ensures.value ∙ c.in_ok-taken-in-len1-up.ensures) h)
+    (ap shown_pieces c.deref.ensures.value ∙ c.in_ok-taken-in-len1-up.ensures) h)
     c.through.ensures

@@ -4,7 +4,7 @@ use Rattle.smo_types.specs.Operators.{operator_of}
 use Rattle.piece_meaning.specs.Views.{Views}
 use Rattle.piece_meaning.specs.Unfolding.{unfoldings}
 use Rattle.piece_ir.specs.declared.view.TableViews.{TableViews}
-use Rattle.piece_ir.specs.Shown.{piece_of, pieces_of, all_views_of}
+use Rattle.piece_ir.specs.Shown.{piece_of, shown_pieces, all_views_of}
 use Rattle.piece_prune.specs.DeadPieces.{lives}
 use Rattle.rule_views.specs.OperatorViews.{operator_views}
 use Rattle.rewrite_rules.specs.LivingUnfoldings.{living_by_views}
@@ -13,19 +13,19 @@ use Rattle.rewrite_rules.proofs.unfolded_piece.unfolded.Goals as goal
 
 pub returns : goal.returns
 returns c =
-    let all : pieces_of c.in_ok-news.news.items
+    let all : shown_pieces c.in_ok-news.news.items
     ≡ unfoldings (operator_views c.args.before.now (operator_of c.args.op.now))
     (piece_of c.args.piece.now) =
     c.in_ok-news.ensures
     ∙ ap (λ (made : List TableViews). unfoldings (all_views_of made) (piece_of c.args.piece.now))
     c.deref.ensures.value
     ∙ ap (λ (views : Views). unfoldings views (piece_of c.args.piece.now)) c.in_ok-made.ensures in
-    let is : pieces_of c.living.result.items ≡ living_by_views operator_views
+    let is : shown_pieces c.living.result.items ≡ living_by_views operator_views
     (operator_of c.args.op.now) c.args.before.now (piece_of c.args.piece.now) =
     c.living.ensures ∙ ap (filter lives) all in
     record {
       is = is;
       keeps = kept c.args.before.now (operator_of c.args.op.now) (piece_of c.args.piece.now)
-          (pieces_of c.living.result.items) c.requires.valid c.requires.accepted c.requires.typed
+          (shown_pieces c.living.result.items) c.requires.valid c.requires.accepted c.requires.typed
           is;
     }

@@ -1,7 +1,7 @@
 use Rattle.std.proofs.Common.{length, ap, sym, subst, refl, ◌∙◌, ⊎_elim, [], ◌∷◌, Some, None, Err}
 use Rattle.image_spelling.specs.Spelling.{image_bytes}
 use Rattle.archive_core.specs.Fields.{standing_of, below, place_of}
-use Rattle.archive_core.specs.Checkpointing.{checkpoint_fault, image_of, checkpoint_of}
+use Rattle.archive_core.specs.Checkpointing.{checkpoint_fault, image_of_archive, checkpoint_of}
 use Rattle.statement_response.specs.Due.{image_due}
 use Rattle.statement_response.specs.Replies.{checkpoint_reply, put_image}
 use Rattle.archive_state.specs.ArchiveContents.{RepresentsPast}
@@ -20,7 +20,7 @@ returns-in-Ok-clause-replies g c = λ limit now represents.
     let a = c.args.archive.now in
     let b = c.checkpoint.new.self in
     let is = c.in-Ok.ensures.image now.past represents.past in
-    let image = image_of (standing_of a) in
+    let image = image_of_archive (standing_of a) in
     let fits = rw c.in-Ok.is at (c.checkpoint.ensures.checkpoints now.past represents.past) in
     subst (λ r. Responds limit (checkpoint_reply limit now) r a b (g.K.Sink.written c.args.sink.now)
     (g.K.Sink.written c.put_stored.new.sink)) (sym c.or_write_fault.ensures)

@@ -17,14 +17,14 @@ returns-in-Ok-clause-says g c = λ now represents.
     let query = query_of c.args.query.now in
     let h = c.in-Ok.ensures past represents in
     subst (λ r. Says (query_reply query now) r (g.K.Sink.written c.args.sink.now)
-    (g.K.Sink.written c.put_answer.new.sink)) (sym c.or_write_fault.ensures)
+    (g.K.Sink.written c.put_query_answer.new.sink)) (sym c.or_write_fault.ensures)
     (answered_says _ _ (fault_of_query past query) now
     (listing_text (tells_periods query.when) (answer past query))
     (listing_text c.in-Ok.listing.periods (entries_of c.in-Ok.listing.rows.items))
-    c.put_answer.result h.accepted
+    c.put_query_answer.result h.accepted
     (ap (listing_text c.in-Ok.listing.periods) h.rows
     ∙ ap (λ told. listing_text told (answer past query)) h.periods)
-    c.put_answer.ensures.ok c.put_answer.ensures.all c.put_answer.ensures.part)
+    c.put_query_answer.ensures.ok c.put_query_answer.ensures.all c.put_query_answer.ensures.part)
 
 pub returns-in-Err-Refused-clause-says : goal.returns-in-Err-Refused-clause-says
 returns-in-Err-Refused-clause-says g c = λ now represents.
@@ -40,8 +40,9 @@ returns-in-Err-NoMemory-clause-says g c = λ now represents. refl
 
 pub returns-in-Ok-clause-counts : goal.returns-in-Ok-clause-counts
 returns-in-Ok-clause-counts g c = subst (λ r.
-    SaidCounted r (g.K.Sink.faults c.args.sink.now) (g.K.Sink.faults c.put_answer.new.sink))
-    (sym c.or_write_fault.ensures) (said_counted c.put_answer.result _ _ c.put_answer.ensures.cause)
+    SaidCounted r (g.K.Sink.faults c.args.sink.now) (g.K.Sink.faults c.put_query_answer.new.sink))
+    (sym c.or_write_fault.ensures) (said_counted c.put_query_answer.result _ _
+    c.put_query_answer.ensures.cause)
 
 pub returns-in-Err-Refused-clause-counts : goal.returns-in-Err-Refused-clause-counts
 returns-in-Err-Refused-clause-counts g c = subst

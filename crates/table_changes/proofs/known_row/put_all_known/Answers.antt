@@ -14,7 +14,7 @@ use Rattle.cond_expr.specs.Seen.{test}
 use Rattle.history_store.specs.Cuts.{is_before}
 use Rattle.smo_meaning.specs.OneRow.{Row, meets}
 use Rattle.table_changes.specs.Overlay.{Known}
-use Rattle.table_changes.proofs.OverlayLaws.{as_ascends, picked}
+use Rattle.table_changes.proofs.OverlayLaws.{as_ascends, picked_ascends}
 use Rattle.table_changes.proofs.OverlayWalks.{picked_from, made_more, stopped}
 use Rattle.table_changes.proofs.known_row.put_all_known.Goals as goal
 
@@ -63,7 +63,8 @@ returns-then-not-has_before c =
     c.range-row-items.ensures.between tt in
     let rises : Ascends row_cmp (keys_of all) =
     subst (λ (es : Known). Ascends row_cmp (keys_of es)) (sym part)
-    (picked (λ (x : Row × Bool). range_contains row_cmp (Included first) Unbounded x.0) known
+    (picked_ascends (λ (x : Row × Bool). range_contains row_cmp (Included first) Unbounded x.0)
+    known
     (as_ascends (keys_of known) c.range-row-items.ensures.ordered)) in
     c.loop-row.invariant
     ∙ ap (λ (es : Known). old ++ map f (keys_of es))

@@ -6,7 +6,7 @@ use Rattle.smo_meaning.specs.ValidValues.{BodyHolds}
 use Rattle.smo_types.specs.Changes.{changes_of}
 use Rattle.smo_meaning.specs.Past.{newest_tables}
 use Rattle.smo_ops.specs.TablePlaces.{StandAt}
-use Rattle.version_groups.specs.Judged.{judged_command, IsFound, IsAccepted}
+use Rattle.version_groups.specs.Judged.{judged_command, IsFound, IsCommandAccepted}
 use Rattle.version_groups.specs.Steps.{Prepares}
 use Rattle.version_groups.specs.declared.judged.Judged.{Judged}
 use Rattle.version_groups.proofs.PreparedCommand.{represents_same}
@@ -48,7 +48,7 @@ returns-in-Changes-clause-prepared c = λ past represents accepted.
 
 pub prepare_version-requires : goal.prepare_version-requires
 prepare_version-requires c =
-    (c.requires.0, c.requires.1, subst (IsAccepted c.requires.0) c.in-Evolve.is c.requires.2)
+    (c.requires.0, c.requires.1, subst (IsCommandAccepted c.requires.0) c.in-Evolve.is c.requires.2)
 
 pub returns-in-Evolve-clause-represents : goal.returns-in-Evolve-clause-represents
 returns-in-Evolve-clause-represents c = λ past represents.
@@ -61,4 +61,4 @@ returns-in-Evolve-clause-prepared c = λ past represents accepted.
     (λ next. Prepares c.prepare_version.new.self past (judged_command j) next))
     (sym c.in-Evolve.is)
     (c.prepare_version.ensures.prepared past represents
-    (subst (IsAccepted past) c.in-Evolve.is accepted))
+    (subst (IsCommandAccepted past) c.in-Evolve.is accepted))

@@ -15,21 +15,21 @@ pub(crate) enum Step<'a> {
 /// A command that was made ready: it is installed into the groups that prepared it. Texts that it
 /// inserts are borrowed by the command until then.
 #[derive(Drop)]
-pub struct PreparedGroups<'a> {
+pub struct PreparedCommand<'a> {
     pub(crate) stamp: u64,
     pub(crate) gained: u64,
     pub(crate) lost: u64,
     pub(crate) step: Step<'a>,
 }
 
-impl<'a> Model for PreparedGroups<'a> {
+impl<'a> Model for PreparedCommand<'a> {
     ghost use Rattle.std.specs.Prelude.{[]};
-    ghost use Rattle.version_groups.specs.Steps.{PreparedCommand};
-    ghost use Rattle.version_groups.specs.contracts.prepared_groups.Step as step_row;
+    ghost use Rattle.version_groups.specs.Steps.{PlainPreparedCommand};
+    ghost use Rattle.version_groups.specs.contracts.prepared_command.Step as step_row;
     ghost use Rattle.std.specs.Coded.{codes};
     ghost use mir.Syntax;
 
-    ghost Value = { PreparedCommand };
+    ghost Value = { PlainPreparedCommand };
 
     ghost coded = { Prim.hlevel (
       codes,
@@ -45,7 +45,7 @@ impl<'a> Model for PreparedGroups<'a> {
     } };
 }
 
-impl PreparedGroups<'_> {
+impl PreparedCommand<'_> {
     ghost use Rattle.std.specs.Prelude.{◌≡◌};
     ghost use Rattle.version_groups.specs.Steps.{makes_version};
 

@@ -3,7 +3,7 @@ use Rattle.prima_base.specs.Timed.{entries_of}
 use Rattle.cond_expr.specs.Seen.{tree, test}
 use Rattle.timed_choices.specs.BorrowedOutputs.{BorrowedValues, RowsBorrow, AllStayBorrowed}
 use Rattle.timed_choices.specs.Answering.{answers}
-use Rattle.join_levels.proofs.answer.put_answers.Given as goal
+use Rattle.join_levels.proofs.answer.put_choice_answers.Given as goal
 
 abbrev pub invariant-loop-choice : goal.invariant-loop-choice
 invariant-loop-choice l = record {

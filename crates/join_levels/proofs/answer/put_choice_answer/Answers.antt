@@ -3,10 +3,10 @@ use Rattle.cond_expr.specs.Seen.{tree}
 use Rattle.timed_choices.specs.BorrowedOutputs.{StaysBorrowed}
 use Rattle.timed_choices.proofs.BorrowedLaws.{each_more}
 use Rattle.timed_choices.proofs.Tests.{are_valid}
-use Rattle.join_levels.proofs.answer.put_answer.Goals as goal
+use Rattle.join_levels.proofs.answer.put_choice_answer.Goals as goal
 
-pub is_met-requires : goal.is_met-requires
-is_met-requires c = are_valid c.args.values.now c.requires
+pub values_meet-requires : goal.values_meet-requires
+values_meet-requires c = are_valid c.args.values.now c.requires
 
 pub output_row-requires : goal.output_row-requires
 output_row-requires c = are_valid c.args.values.now c.requires

@@ -11,10 +11,10 @@ use Rattle.timed_choices.specs.Keeping.{IsValidRow}
 use Rattle.timed_choices.proofs.BorrowedLaws.{each_at}
 use Rattle.timed_choices.proofs.OneMore.{flat_more}
 use Rattle.timed_choices.proofs.Tests.{valid_row}
-use Rattle.join_levels.proofs.answer.put_answers.Goals as goal
+use Rattle.join_levels.proofs.answer.put_choice_answers.Goals as goal
 
-pub put_answer-requires : goal.put_answer-requires
-put_answer-requires c =
+pub put_choice_answer-requires : goal.put_choice_answer-requires
+put_choice_answer-requires c =
     subst (λ (vs : List Val). IsValidRow (map shown vs)) (sym c.deref.ensures.value)
     (valid_row c.args.choices.now c.loop-choice.choice-index c.choice-item.result
     c.requires c.loop-choice-test.true c.choice-item.is)
@@ -29,11 +29,11 @@ loop-choice-preserved c =
     record {
       rows = flat_more told entry_of c.args.choices.now c.loop-choice.choice-index
           c.choice-item.result (entries_of c.args.rows.now.items)
-          (entries_of c.loop-choice.rows.items) (entries_of c.put_answer.new.rows.items)
+          (entries_of c.loop-choice.rows.items) (entries_of c.put_choice_answer.new.rows.items)
           c.loop-choice-test.true c.choice-item.is c.loop-choice.invariant.rows
-          (c.in_ok-put_answer.ensures.rows
+          (c.in_ok-put_choice_answer.ensures.rows
           ∙ ap (λ (es : List (Entry (List Value))). entries_of c.loop-choice.rows.items ++ es) is);
-      borrowed = λ which g h. c.in_ok-put_answer.ensures.borrowed which
+      borrowed = λ which g h. c.in_ok-put_choice_answer.ensures.borrowed which
           (c.loop-choice.invariant.borrowed which g h)
           (subst (RowBorrows which c.args.columns.now) (sym c.deref.ensures.value)
           (each_at (RowBorrows which c.args.columns.now) c.args.choices.now
