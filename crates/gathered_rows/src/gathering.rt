@@ -79,7 +79,8 @@ pub fn gather<'a, L: Ledger>(
     let mut keys = table.scan_keys();
     let mut cursors = all_entries(alloc, table, columns)?;
     let mut values = Vec::with_capacity(alloc, columns.len())?;
-    let mut rows = TimedRows::with_capacity(alloc, keys.left(), keys.left())?;
+    let cells = keys.left().saturating_mul(columns.len());
+    let mut rows = TimedRows::with_capacity(alloc, keys.left(), cells)?;
     'keys: while let Some(key) = keys.next_key(steps) {
         put_key(&mut rows, &mut values, &mut cursors, &key, slice, steps)?;
     }
