@@ -18,15 +18,16 @@ invariant_of-result g c = record {
       c.deref-2.result.now c.in_ok-rows.rows.items c.columns.result.now c.in_ok-read.read.items
       c.deref-3.result.now c.in_ok-columns.columns.items c.deref.ensures.value
       c.in_ok-rows.ensures.gathered c.deref-2.ensures.value c.columns.ensures
-      c.in_ok-read.ensures c.deref-3.ensures.value c.in_ok-columns.ensures c.gather.ensures.valid c.requires.known
-      c.requires.ascending;
+      c.in_ok-read.ensures c.deref-3.ensures.value c.in_ok-columns.ensures c.gather.ensures.valid
+      c.requires.known c.requires.ascending;
 }
 
 pub returns-clause-atom : goal.returns-clause-atom
 returns-clause-atom g c = record {
   stored = c.gather.ensures.valid;
   number = refl;
-  columns = made_columns c.args.table.now c.args.slice c.args.number c.args.names.items c.deref.result.now
+  columns = made_columns c.args.table.now c.args.slice c.args.number c.args.names.items
+      c.deref.result.now
       c.deref-2.result.now c.in_ok-rows.rows.items c.columns.result.now c.in_ok-read.read.items
       c.deref-3.result.now c.in_ok-columns.columns.items c.deref.ensures.value
       c.in_ok-rows.ensures.gathered c.deref-2.ensures.value c.columns.ensures

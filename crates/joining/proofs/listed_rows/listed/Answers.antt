@@ -5,6 +5,7 @@ use Rattle.prima_base.specs.Timed.{entries_of}
 use Rattle.timed_choices.specs.BorrowedOutputs.{RowBorrows}
 use Rattle.timed_choices.proofs.BorrowedLaws.{each_more, each_at}
 use Rattle.timed_rows.proofs.Moves.{no_row}
+use Rattle.timed_rows.proofs.ReadRows.{stands_there}
 use Rattle.joining.proofs.RowPlaces.{copied_entry, listed_more, copies_borrow}
 use Rattle.joining.proofs.listed_rows.listed.Goals as goal
 
@@ -25,7 +26,8 @@ loop-i-preserved c =
           (copies_borrow which columns c.values.result.now c.in_ok-copy_vals.field-0.items
           c.in_ok-copy_vals.ensures.values c.in_ok-copy_vals.ensures.same
           (subst (RowBorrows which columns) (sym (c.values.ensures.values no_row))
-          (each_at (RowBorrows which columns) rows i (get_or rows i no_row) here refl l)));
+          (each_at (RowBorrows which columns) rows i (get_or rows i no_row) here
+          (stands_there rows i) l)));
     }
 
 pub returns-clause-entries : goal.returns-clause-entries

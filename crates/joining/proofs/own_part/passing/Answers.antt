@@ -42,7 +42,8 @@ rows-preserved c =
             valid = rw w.rows-is
                 (rest_valid xs ys c.rows.next row c.rows.invariant.valid here same);
             stands = rw (w.rows-is, w.kept-is) (sym (kept_one met xs ys c.rows.kept c.rows.next
-                no_row c.rows.invariant.kept here (told ∙ w.if-branch.true) w.swap.ensures) ∙ c.rows.invariant.stands);
+                no_row c.rows.invariant.kept here (told ∙ w.if-branch.true) w.swap.ensures)
+                ∙ c.rows.invariant.stands);
           }
       | else-branch w ↦ record {
         kept = rw w.kept-is (omega (arith, c.rows.invariant.kept));

@@ -12,7 +12,7 @@ use Rattle.timed_choices.specs.BorrowedOutputs.{RowBorrows, AllStayBorrowed}
 use Rattle.timed_choices.proofs.BorrowedLaws.{each_at}
 use Rattle.timed_choices.proofs.Tests.{valid_row}
 use Rattle.timed_rows.proofs.Moves.{no_row}
-use Rattle.timed_rows.proofs.ReadRows.{read_entry}
+use Rattle.timed_rows.proofs.ReadRows.{read_entry, stands_there}
 use Rattle.joining.specs.InSlice.{in_slice, all_in_slice}
 use Rattle.joining.proofs.RowPlaces.{rows_more, valid_at}
 use Rattle.joining.proofs.SingleAtoms.{row_more}
@@ -45,7 +45,7 @@ loop-i-preserved c =
       borrowed = λ which h. c.in_ok-put_in_slice.ensures.borrowed which
           (c.loop-i.invariant.borrowed which h)
           (subst (RowBorrows which cs) (sym (c.values.ensures.values no_row))
-          (each_at (RowBorrows which cs) xs i row here refl h));
+          (each_at (RowBorrows which cs) xs i row here (stands_there xs i) h));
     }
 
 pub loop-i-init : goal.loop-i-init
