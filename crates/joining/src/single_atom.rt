@@ -103,7 +103,8 @@ fn made_rows<'a>(
         ≡ answers columns.now (map tree outs.now) (test cond.now)
         (all_in_slice slice (entries_of rows.now.items))) }
 {
-    let mut made = TimedRows::with_capacity(alloc, rows.len(), rows.len())?;
+    let cells = rows.len().saturating_mul(outs.len());
+    let mut made = TimedRows::with_capacity(alloc, rows.len(), cells)?;
     let mut row = Vec::new(alloc);
     for i in 0..rows.len() {
         put_in_slice(
