@@ -1,4 +1,4 @@
-use prima_base::{ColType, Name, Value, same_name};
+use prima_base::{ColType, Name, Value};
 
 /// Whose column a reference names. `Free` and `Alias` stand only in a query as written; what is
 /// typed and evaluated names each column by its atom, counted from 0.
@@ -31,7 +31,7 @@ impl ColRef {
         ensures { result ≡ names self.now.whose self.now.name column.now }
     {
         match self.whose {
-            Whose::Atom(atom) => column.atom == atom && same_name(&self.name, &column.name),
+            Whose::Atom(atom) => column.atom == atom && self.name == column.name,
             Whose::Free | Whose::Alias(_) => false,
         }
     }

@@ -8,7 +8,7 @@ use crate::bound::{ColumnBound, bound_of};
 use crate::part::{PartTest, some_part};
 use crate::trial::{Tried, beginning, compare, least};
 use cond_expr::{Cond, decide};
-use prima_base::{ColType, Name, same_name};
+use prima_base::{ColType, Name};
 
 /// A column of an atom.
 #[derive(Clone, Copy)]
@@ -20,7 +20,7 @@ pub(crate) struct ColumnOf<'a> {
 fn is_on(bound: &ColumnBound<'_>, column: &ColumnOf<'_>) -> bool
     ensures { result ≡ is_on column.now.atom column.now.name.now (Some (bound_shown bound.now)) }
 {
-    bound.atom == column.atom && same_name(bound.name, column.name)
+    bound.atom == column.atom && bound.name == column.name
 }
 
 /// Passes the parts that do not let the column have a value.

@@ -16,7 +16,7 @@ use crate::entry::columns;
 use crate::key::keys;
 use command_codec::{ReadStop, Reader, name};
 use history_store::Cell;
-use prima_base::{Name, Period, same_name};
+use prima_base::{Name, Period};
 use shown_rows::order_of;
 use std::alloc::Global;
 
@@ -62,7 +62,7 @@ pub fn last_number(last: Option<u32>) -> u32
 fn is_line(due: &DueLine<'_>, first: u64, last: u64, table: &Name) -> bool
     ensures { result ≡ is_line (line_seen due.now) ((first, last), table.now) }
 {
-    first == due.first as u64 && last == last_number(due.last) as u64 && same_name(table, due.table)
+    first == due.first as u64 && last == last_number(due.last) as u64 && table == due.table
 }
 
 // The versions and the table of the lifeline that is due.

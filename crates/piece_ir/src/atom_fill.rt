@@ -11,7 +11,7 @@ ghost use Rattle.piece_ir.specs.Placing.{places_from};
 
 use crate::View;
 use cond_expr::{ColRef, Expr, Fill, Whose, fill_expr};
-use prima_base::{Name, NoMemory, same_name};
+use prima_base::{Name, NoMemory};
 use std::alloc::Global;
 
 /// A column of an atom. The one error is `NoMemory`, where memory runs out.
@@ -81,7 +81,7 @@ impl Fill for PutColumn<'_> {
     fn put(&self, alloc: Global, reference: &ColRef) -> Result<Expr, NoMemory> {
         match &reference.whose {
             Whose::Atom(atom) => {
-                if *atom == self.atom && same_name(&reference.name, self.column) {
+                if *atom == self.atom && &reference.name == self.column {
                     return fill_expr(&ToAtom { atom: self.atom }, alloc, self.expr);
                 }
                 column_of(*atom, &reference.name)
@@ -96,7 +96,7 @@ fn output(alloc: Global, outs: &[(Name, Expr)], by: usize, name: &Name) -> Resul
     ensures { IfOk result (λ e. tree e ≡ fill (moved_on by) (out_of (sets_of outs.now) name.now)) }
 {
     for out in outs {
-        if same_name(&out.0, name) {
+        if &out.0 == name {
             return fill_expr(&MovedOn { by }, alloc, &out.1);
         }
     }

@@ -8,7 +8,7 @@ ghost use Rattle.piece_ir.specs.Shown.{borrowed_views};
 
 use crate::unfolded::unfold;
 use crate::{Piece, TableViews, View};
-use prima_base::{Name, NoMemory, same_name};
+use prima_base::{Name, NoMemory};
 use std::alloc::Global;
 
 // Of each atom the whole table.
@@ -28,7 +28,7 @@ fn views_of<'v>(views: &'v [TableViews], table: &Name, own: &'v [View]) -> &'v [
     ensures { map view_of result.now ≡ views_of_table (all_views_of views.now) table.now }
 {
     for named in views {
-        if same_name(&named.table, table) {
+        if &named.table == table {
             return &named.views;
         }
     }

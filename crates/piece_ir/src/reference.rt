@@ -10,13 +10,13 @@ ghost use Rattle.smo_types.specs.Changes.{sets_of};
 ghost use Rattle.piece_meaning.specs.Pieces.{out_trees};
 
 use cond_expr::{ColRef, Cond, Expr, Whose};
-use prima_base::{Name, same_name};
+use prima_base::Name;
 
 fn is_to_column(reference: &ColRef, atom: u32, column: &Name) -> bool
     ensures { result ≡ is_column atom column.now reference.now }
 {
     match reference.whose {
-        Whose::Atom(other) => atom == other && same_name(&reference.name, column),
+        Whose::Atom(other) => atom == other && &reference.name == column,
         Whose::Free | Whose::Alias(_) => false,
     }
 }

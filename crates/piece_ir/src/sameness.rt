@@ -9,14 +9,14 @@ ghost use Rattle.piece_ir.specs.Sameness.{same_names, same_outs, same_piece, sam
 
 use crate::Piece;
 use cond_expr::{ColRef, Cond, Expr, Whose, same_way};
-use prima_base::{Name, same_name};
+use prima_base::Name;
 
 fn same_whose(a: &Whose, b: &Whose) -> bool
     ensures { result ≡ same_whose a.now b.now }
 {
     match (a, b) {
         (Whose::Free, Whose::Free) => true,
-        (Whose::Alias(name), Whose::Alias(other)) => same_name(name, other),
+        (Whose::Alias(name), Whose::Alias(other)) => name == other,
         (Whose::Atom(atom), Whose::Atom(other)) => *atom == *other,
         _ => false,
     }
@@ -29,7 +29,7 @@ fn same_expr(a: &Expr, b: &Expr) -> bool
 {
     match (a, b) {
         (Expr::Col(one), Expr::Col(other)) => {
-            same_whose(&one.whose, &other.whose) && same_name(&one.name, &other.name)
+            same_whose(&one.whose, &other.whose) && one.name == other.name
         }
         (Expr::Const(one), Expr::Const(other)) => one.lend() == other.lend(),
         (Expr::Length(one), Expr::Length(other)) => same_expr(one, other),
@@ -103,7 +103,7 @@ fn same_names(a: &[Name], b: &[Name]) -> bool
         [] => b.is_empty(),
         [one, rest @ ..] => match b {
             [] => false,
-            [other, others @ ..] => same_name(one, other) && same_names(rest, others),
+            [other, others @ ..] => one == other && same_names(rest, others),
         },
     }
 }
@@ -115,7 +115,7 @@ fn same_outs(a: &[(Name, Expr)], b: &[(Name, Expr)]) -> bool
         [] => b.is_empty(),
         [one, rest @ ..] => match b {
             [] => false,
-            [other, others @ ..] => same_name(&one.0, &other.0)
+            [other, others @ ..] => one.0 == other.0
                 && same_expr(&one.1, &other.1)
                 && same_outs(rest, others),
         },

@@ -66,6 +66,15 @@ row_eq_per = partial_equiv_from_equiv row_eq_equiv
 pub row_po : IsPartialOrder (eq_by_cmp row_cmp) (λ x y. Some (row_cmp x y))
 row_po = partial_order_from_total row_total
 
+pub name_eq_equiv : IsEquivalence same
+name_eq_equiv = eq_by_cmp_equiv nat_list_cmp_total
+
+pub name_eq_per : IsPartialEquivalence same
+name_eq_per = partial_equiv_from_equiv name_eq_equiv
+
+pub name_po : IsPartialOrder same (λ x y. Some (bytes_cmp x y))
+name_po = partial_order_from_total nat_list_cmp_total
+
 -- a total order in which only equal members tie tells apart what differs
 pub exact_from : {X : Type 0} {cmp : X → X → Ordering} → IsTotalOrder cmp → IsAntisymmetric cmp
     → IsExact cmp

@@ -24,7 +24,7 @@ pub use counter::Steps;
 pub use failure::{Failed, NoMemory};
 pub use fault::CallFault;
 pub use keep::Keep;
-pub use name::{Name, NameFault, is_name_byte, same_name};
+pub use name::{Name, NameFault, is_name_byte};
 pub use period::{FOREVER, Period, meet};
 pub use refusal::{OpKind, OpRefusal, Refusal, What};
 pub use reserved::push_all_reserved;

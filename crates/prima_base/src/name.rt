@@ -1,10 +1,8 @@
-ghost use Rattle.std.specs.Prelude.{◌≡◌, ◌≤◌, ◌<◌, ◌↔◌, Some, None, length, nat_eq, refl, IfOk};
+ghost use Rattle.std.specs.Prelude.{◌≡◌, ◌≤◌, ◌<◌, ◌↔◌, Some, None, length, refl, IfOk};
 ghost use Rattle.std.specs.Prelude.{IfSome, IsErrOf, IsOkUnless, OnOk};
-ghost use Rattle.std.specs.Ordering.{nat_cmp};
-ghost use Rattle.std.specs.Cmp.Lexicographic.{pointwise, slice_cmp, nat_list_eq_equiv};
-ghost use Rattle.std.specs.Cmp.Lexicographic.{nat_list_cmp_total, texts_ties, texts_po};
-ghost use Rattle.std.specs.Cmp.{partial_equiv_from_equiv};
-ghost use Rattle.prima_base.specs.Order.{same};
+ghost use Rattle.std.specs.Cmp.Lexicographic.{nat_list_cmp_total};
+ghost use Rattle.prima_base.specs.Order.{bytes_cmp, same};
+ghost use Rattle.prima_base.specs.OrderLaws.{name_eq_equiv, name_eq_per, name_po};
 ghost use Rattle.prima_base.specs.Bytes.{first_bad, is_name_byte, IsName};
 
 use crate::NoMemory;
@@ -143,31 +141,24 @@ impl Name {
     }
 }
 
-/// Whether two names are one. It takes no memory.
-pub fn same_name(a: &Name, b: &Name) -> bool
-    ensures { result ≡ same a.now b.now }
-{
-    a == b
-}
-
 impl PartialEq for Name {
-    ghost eq = { pointwise nat_eq };
+    ghost eq = { same };
 
-    ghost laws = { partial_equiv_from_equiv nat_list_eq_equiv };
+    ghost laws = { name_eq_per };
 
     fn eq(&self, other: &Name) -> bool {
-        self.bytes.as_slice() == other.bytes.as_slice()
+        self.cmp(other) == Ordering::Equal
     }
 }
 
 impl Eq for Name {
-    ghost laws = { nat_list_eq_equiv };
+    ghost laws = { name_eq_equiv };
 }
 
 impl PartialOrd for Name {
-    ghost partial_cmp = { λ x y. Some (slice_cmp nat_cmp x y) };
+    ghost partial_cmp = { λ x y. Some (bytes_cmp x y) };
 
-    ghost laws = { texts_po };
+    ghost laws = { name_po };
 
     fn partial_cmp(&self, other: &Name) -> Option<Ordering> {
         Some(self.cmp(other))
@@ -175,13 +166,13 @@ impl PartialOrd for Name {
 }
 
 impl Ord for Name {
-    ghost cmp = { slice_cmp nat_cmp };
+    ghost cmp = { bytes_cmp };
 
     ghost total = { nat_list_cmp_total };
 
     ghost matches_partial_cmp = { λ x y. refl };
 
-    ghost matches_eq = { texts_ties };
+    ghost matches_eq = { λ x y. refl };
 
     fn cmp(&self, other: &Name) -> Ordering {
         self.bytes.as_slice().cmp(other.bytes.as_slice())

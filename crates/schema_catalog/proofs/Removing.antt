@@ -1,15 +1,15 @@
 -- A list of tables without the one of a name.
 use Rattle.std.proofs.Common.{◌≡◌, ◌<◌, ◌+◌, ℕ, Bool, true, false, List, [], ◌∷◌, ◌++◌, length}
 use Rattle.std.proofs.Common.{take, get_or, refl, sym, ap, ◌∙◌}
-use Rattle.std.specs.Prelude.{T, cond, not, nat_eq, if◌then◌else◌, Option, None}
+use Rattle.std.specs.Prelude.{T, cond, not, if◌then◌else◌, Option, None}
 use Rattle.std.specs.Ordering.{eq_by_cmp}
 use Rattle.std.specs.FinMap.{is_sorted, find, remove, from_sorted, get-from_sorted, get-remove}
 use Rattle.std.specs.FinMap.{same_map, slice_cmp-IsAntisymmetric, nat_cmp-IsAntisymmetric}
 use Rattle.std.specs.FinMap.Entries.{where_key, find-where_key, is_sorted-where_key}
-use Rattle.std.specs.Cmp.Lexicographic.{pointwise, texts_ties, nat_list_cmp_total}
+use Rattle.std.specs.Cmp.Lexicographic.{nat_list_cmp_total}
 use Rattle.std.proofs.lemmas.Cmp.{eq_by_cmp_equiv}
 use Rattle.std.proofs.lemmas.List.{take_more}
-use Rattle.prima_base.specs.Order.{bytes_cmp}
+use Rattle.prima_base.specs.Order.{bytes_cmp, same}
 use Rattle.prima_base.specs.OrderLaws.{bytes_exact}
 use Rattle.prima_base.specs.Columns.{Column}
 use Rattle.schema_catalog.specs.Tables.{Tables}
@@ -65,17 +65,17 @@ nothing_more [] = refl
 nothing_more (x ∷ xs) = ap (λ l. x ∷ l) (nothing_more xs)
 
 pub left_out : (items : List NamedColumns) (t : NamedColumns) (n : List ℕ) (r : Bool)
-    → r ≡ pointwise nat_eq n t.0 → r ≡ true
+    → r ≡ same n t.0 → r ≡ true
     → items ≡ items ++ (if eq_by_cmp bytes_cmp n t.0 then [] else t ∷ [])
 left_out items t n r e h =
     sym (nothing_more items) ∙ ap (λ (b : Bool). items ++ (if b then [] else t ∷ []))
-    (sym h ∙ e ∙ texts_ties n t.0)
+    (sym h ∙ e)
 
 pub put_after : (items : List NamedColumns) (t : NamedColumns) (n : List ℕ) (r : Bool)
-    → r ≡ pointwise nat_eq n t.0 → r ≡ false
+    → r ≡ same n t.0 → r ≡ false
     → items ++ t ∷ [] ≡ items ++ (if eq_by_cmp bytes_cmp n t.0 then [] else t ∷ [])
 put_after items t n r e h = ap (λ (b : Bool). items ++ (if b then [] else t ∷ []))
-    (sym h ∙ e ∙ texts_ties n t.0)
+    (sym h ∙ e)
 
 pub kept_unless : (n : List ℕ) (items xs : List NamedColumns) (i : ℕ) (x : NamedColumns)
     → i < length xs → x ≡ get_or xs i x

@@ -9,7 +9,7 @@ ghost use Rattle.smo_maps.specs.Picking.{source_of};
 use crate::name::names_of;
 use crate::projection::image;
 use crate::source::{Source, source_of};
-use prima_base::{ColType, Name, NoMemory, Row, same_name};
+use prima_base::{ColType, Name, NoMemory, Row};
 use std::alloc::Global;
 use table_columns::columns_renamed;
 
@@ -17,7 +17,7 @@ use table_columns::columns_renamed;
 fn old_name<'a>(name: &'a Name, column: &'a Name, into: &Name) -> &'a Name
     ensures { result.now ≡ (if same into.now name.now then column.now else name.now) }
 {
-    if same_name(into, name) { column } else { name }
+    if into == name { column } else { name }
 }
 
 // Where the values stand of rows with one column under another name.

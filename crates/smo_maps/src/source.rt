@@ -4,7 +4,7 @@
 ghost use Rattle.std.specs.Prelude.{◌≡◌, IfOk, map};
 ghost use Rattle.smo_maps.specs.Picking.{place_of, source_of, value_at, picked_value, picked_row};
 
-use prima_base::{ColType, Name, NoMemory, Row, Value, same_name};
+use prima_base::{ColType, Name, NoMemory, Row, Value};
 use std::alloc::Global;
 
 /// The places of one name in the columns of two rows. The first row's is taken where there is one.
@@ -19,7 +19,7 @@ fn place_of(columns: &[(Name, ColType)], name: &Name) -> Option<usize>
     ensures { result ≡ place_of columns.now name.now }
 {
     for (i, (column, _)) in columns.iter().enumerate() {
-        if same_name(column, name) {
+        if column == name {
             return Some(i);
         }
     }

@@ -1,20 +1,20 @@
 -- A row that is borrowed as that of atom 0, and the rows that an INSERT and an UPDATE make.
 use Rattle.std.proofs.Common.{◌≡◌, ℕ, ◌+◌, ◌<◌, Bool, true, false, cond, List, [], ◌∷◌, ◌++◌}
-use Rattle.std.proofs.Common.{Option, length, map, take, drop, get_or, nat_eq, refl, sym, ap, ◌∙◌}
+use Rattle.std.proofs.Common.{Option, length, map, take, drop, get_or, refl, sym, ap, ◌∙◌}
 use Rattle.std.proofs.Common.{pos, arith}
 use Rattle.std.specs.Prelude.{◌==◌, zero, suc, if◌then◌else◌, All, IfSome, Some, None}
 use Rattle.std.specs.List.{AllZip, zip}
 use Rattle.std.specs.Option.{option_map, unwrap_or}
 use Rattle.std.proofs.lemmas.List.{take_more}
 use Rattle.std.proofs.lemmas.Slice.Zip.{all_zipped_more}
-use Rattle.std.specs.Cmp.Lexicographic.{nat_list_cmp_total, pointwise, texts_ties}
+use Rattle.std.specs.Cmp.Lexicographic.{nat_list_cmp_total}
 use Rattle.std.proofs.lemmas.Cmp.{eq_by_cmp_equiv}
 use Rattle.std.proofs.lemmas.Bool.Decides.{nat_tests}
 use Rattle.std.specs.Ordering.{is_eq}
 use Rattle.prima_base.specs.declared.value.Value.{Value}
 use Rattle.prima_base.specs.declared.value.Value.TheVariants.{Int}
 use Rattle.prima_base.specs.declared.value.Val.{Val}
-use Rattle.prima_base.specs.Order.{bytes_cmp, shown}
+use Rattle.prima_base.specs.Order.{bytes_cmp, same, shown}
 use Rattle.prima_base.specs.Columns.{Column, AreColumns, IsValid, IsRow}
 use Rattle.schema_catalog.specs.Databases.{cell}
 use Rattle.schema_catalog.proofs.Cells.{cells_again}
@@ -79,36 +79,36 @@ borrowed_cells columns vs row e = (λ i. λ w n. each columns vs w n i) ∙ ap (
 -- what is given from a place on
 module _ (cells : List (List ℕ × Value)) (name : List ℕ) (i : ℕ) (cell : List ℕ × Value)
     (below : i < length cells) (is : cell ≡ get_or cells i cell) where
-  given_at : (b : Bool) → b ≡ pointwise nat_eq cell.0 name
+  given_at : (b : Bool) → b ≡ same cell.0 name
       → given (drop i cells) name ≡ (if b then cell.1 else given (drop (i + 1) cells) name)
   given_at b e = ap (λ l. given l name) (drop_at cells i cell below is)
-      ∙ ap (λ t. cond t cell.1 (given (drop (i + 1) cells) name)) (sym (e ∙ texts_ties cell.0 name))
+      ∙ ap (λ t. cond t cell.1 (given (drop (i + 1) cells) name)) (sym e)
 
-  pub given_here : true ≡ pointwise nat_eq cell.0 name → given (drop i cells) name ≡ cell.1
+  pub given_here : true ≡ same cell.0 name → given (drop i cells) name ≡ cell.1
   given_here e = given_at true e
 
-  pub given_later : false ≡ pointwise nat_eq cell.0 name
+  pub given_later : false ≡ same cell.0 name
       → given (drop i cells) name ≡ given (drop (i + 1) cells) name
   given_later e = given_at false e
 
 -- what is set from a place on
 module _ (columns : List Column) (row : List Value) (sets : List (List ℕ × Expr)) (name : List ℕ)
     (i : ℕ) (s : List ℕ × Expr) (below : i < length sets) (is : s ≡ get_or sets i s) where
-  set_at : (b : Bool) → b ≡ pointwise nat_eq s.0 name
+  set_at : (b : Bool) → b ≡ same s.0 name
       → set_value columns row (sets_of (drop i sets)) name
       ≡ (if b then value (own_cells columns row) (tree s.1)
       else set_value columns row (sets_of (drop (i + 1) sets)) name)
   set_at b e = ap (λ l. set_value columns row (sets_of l) name) (drop_at sets i s below is)
       ∙ ap (λ t. cond t (value (own_cells columns row) (tree s.1))
       (set_value columns row (sets_of (drop (i + 1) sets)) name))
-      (sym (e ∙ texts_ties s.0 name))
+      (sym e)
 
-  pub set_here : true ≡ pointwise nat_eq s.0 name
+  pub set_here : true ≡ same s.0 name
       → set_value columns row (sets_of (drop i sets)) name
       ≡ value (own_cells columns row) (tree s.1)
   set_here e = set_at true e
 
-  pub set_later : false ≡ pointwise nat_eq s.0 name
+  pub set_later : false ≡ same s.0 name
       → set_value columns row (sets_of (drop i sets)) name
       ≡ set_value columns row (sets_of (drop (i + 1) sets)) name
   set_later e = set_at false e

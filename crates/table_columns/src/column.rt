@@ -1,5 +1,5 @@
 use cond_expr::{Column, columns_at};
-use prima_base::{ColType, Name, NoMemory, same_name};
+use prima_base::{ColType, Name, NoMemory};
 use std::alloc::Global;
 use std::marker::Model;
 
@@ -59,7 +59,7 @@ pub fn type_in(columns: &[(Name, ColType)], name: &Name) -> Option<ColType>
     ensures { result ≡ type_in columns.now name.now }
 {
     for (column, kind) in columns {
-        if same_name(column, name) {
+        if column == name {
             return Some(*kind);
         }
     }
@@ -71,7 +71,7 @@ pub fn has_name<T>(pairs: &[(Name, T)], name: &Name) -> bool
     ensures { result ≡ among name.now (pair_names pairs.now) }
 {
     for (other, _) in pairs {
-        if same_name(name, other) {
+        if name == other {
             return true;
         }
     }

@@ -8,7 +8,7 @@ ghost use Rattle.smo_meaning.specs.OneRow.{same};
 ghost use Rattle.smo_meaning.specs.Making.{column_cmp, in_order, without, renamed, with_column};
 ghost use Rattle.table_columns.specs.Placed.{IsGap};
 
-use prima_base::{ColType, Name, NoMemory, copy_columns, same_name};
+use prima_base::{ColType, Name, NoMemory, copy_columns};
 use std::alloc::Global;
 use std::cmp::Ordering;
 use std::collections::BTreeSet;
@@ -85,7 +85,7 @@ fn push_unless(
     ensures { OnOk result (kept.new.items ≡ kept.old.items
         ++ (if same column.now.0 name.now then [] else column.now ∷ [])) }
 {
-    if same_name(&column.0, name) {
+    if &column.0 == name {
         return Ok(());
     }
     kept.push((column.0.copy()?, column.1))?;
@@ -131,7 +131,7 @@ fn renamed_column(
     ensures { IfOk result (λ c. c ≡ (if same column.now.0 old.now then (new.now, column.now.1)
         else column.now)) }
 {
-    if same_name(&column.0, old) {
+    if &column.0 == old {
         return Ok((new.copy()?, column.1));
     }
     Ok((column.0.copy()?, column.1))

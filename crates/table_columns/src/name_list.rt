@@ -4,7 +4,7 @@ ghost use Rattle.std.specs.List.{list_any};
 ghost use Rattle.std.specs.Option.{option_copied};
 ghost use Rattle.smo_meaning.specs.Preconditions.{among, first_again};
 
-use prima_base::{Name, NoMemory, same_name};
+use prima_base::{Name, NoMemory};
 use std::alloc::Global;
 use std::collections::BTreeSet;
 
@@ -12,7 +12,7 @@ use std::collections::BTreeSet;
 pub fn is_either(name: &Name, first: &Name, second: &Name) -> bool
     ensures { result ≡ among name.now (first.now ∷ second.now ∷ []) }
 {
-    same_name(name, first) || same_name(name, second)
+    name == first || name == second
 }
 
 // Whether the name is one of these.
@@ -20,7 +20,7 @@ pub(crate) fn is_among(name: &Name, names: &[Name]) -> bool
     ensures { result ≡ among name.now names.now }
 {
     for other in names {
-        if same_name(name, other) {
+        if name == other {
             return true;
         }
     }

@@ -11,7 +11,7 @@ ghost use Rattle.query_meaning.specs.Checking.{item_tests, holders};
 ghost use Rattle.prima_base.specs.Faults.{IsTested};
 
 use crate::QueryFault;
-use prima_base::{Name, Refusal, same_name};
+use prima_base::{Name, Refusal};
 use schema_catalog::Schema;
 use table_columns::has_name;
 
@@ -27,7 +27,7 @@ fn has_alias(from: &[(Name, Name)], alias: &Name) -> bool
     ensures { result ≡ among alias.now (aliases_of from.now) }
 {
     for (_, other) in from {
-        if same_name(alias, other) {
+        if alias == other {
             return true;
         }
     }
@@ -92,7 +92,7 @@ pub(crate) fn alias_place(from: &[(Name, Name)], alias: &Name) -> usize
     ensures within { result ≤ length from.now }
 {
     for (i, (_, other)) in from.iter().enumerate() {
-        if same_name(other, alias) {
+        if other == alias {
             return i;
         }
     }

@@ -30,7 +30,7 @@ ghost use Rattle.version_tables.specs.Evolving.{IsBegun, Comes, IsEvolved};
 
 use crate::made_table::{MadeTable, find_stored, kept_table};
 use history_store::StoredTable;
-use prima_base::{Name, NoMemory, Row, same_name};
+use prima_base::{Name, NoMemory, Row};
 use schema_catalog::{Schema, Table};
 use smo_maps::{Carried, carry};
 use smo_ops::{Made, Op, Version, made, made_of, next_schema_is_valid};
@@ -89,7 +89,7 @@ fn is_name(named: Option<&Name>, name: &Name) -> bool
     ensures { result ≡ is_name (option_copied named.entry) name.now }
 {
     match named {
-        Some(named) => same_name(named, name),
+        Some(named) => named == name,
         None => false,
     }
 }

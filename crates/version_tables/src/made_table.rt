@@ -4,7 +4,7 @@ ghost use Rattle.version_tables.specs.Stored.{stored_as};
 ghost use Rattle.version_tables.specs.Places.{at_places, IsFound};
 
 use history_store::StoredTable;
-use prima_base::{Name, same_name};
+use prima_base::Name;
 
 /// A table over its lifeline, the versions in which no operator makes or consumes it, and its
 /// history. Its lifeline goes from `first` to `last`: none while it lives.
@@ -28,7 +28,7 @@ pub fn find_table<'a>(
 {
     for place in places {
         if let Some(table) = tables.get(*place) {
-            if same_name(&table.name, name) {
+            if &table.name == name {
                 return Some((*place, table));
             }
         }
