@@ -25,13 +25,13 @@ ghost use Rattle.query_exec.specs.Borrowed.{BorrowedByBranch, AreSpared, AreBorr
 ghost use Rattle.query_exec.specs.Reads.{explained_read, reads_of};
 ghost use Rattle.archive_core.specs.Readiness.{HasGateUnless, gate_once};
 ghost use Rattle.archive_core.specs.declared.fault.CommitFault.TheVariants as fault;
-ghost use Rattle.archive_replay.specs.declared.fault.MountFault.TheVariants as mounting;
+ghost use Rattle.archive_core.specs.declared.fault.MountFault.TheVariants as mounting;
 
-use crate::fault::mount_fault;
+use crate::fault::{fault_of_journal, fault_of_restoring};
 use crate::preparation::{judge_and_seal, seal_checkpoint};
-use crate::{AskFault, CommitFault};
+use crate::{AskFault, CommitFault, MountFault};
 use answer_text::Listing;
-use archive_replay::{MountFault, Opened, restore};
+use archive_replay::{Opened, restore};
 use archive_state::{AcceptedCommand, ArchiveState, Done};
 use disk_model::Disk;
 use journal::{Journal, PutFault, Sealed};
@@ -118,12 +118,12 @@ impl<D: Disk> Archive<D> {
         ensures steps { IfOk result (λ it. steps.new ≤ steps.old + it.1.replayed) }
     {
         match Journal::mount(alloc, disk, limit) {
-            Err((disk, fault)) => Err((disk, mount_fault(fault))),
+            Err((disk, fault)) => Err((disk, fault_of_journal(fault))),
             Ok((journal, recs)) => {
                 // a number of 64 bits, and so is each place before it
                 let _end = journal.place();
                 match restore(alloc, &recs, steps) {
-                    Err(fault) => Err((journal.into_disk(), fault)),
+                    Err(fault) => Err((journal.into_disk(), fault_of_restoring(fault))),
                     Ok((state, opened)) => {
                         let archive = Archive {
                             alloc,

@@ -1,9 +1,10 @@
 ghost use Rattle.std.specs.Prelude.{◌≡◌};
 ghost use Rattle.journal.specs.declared.fault.JournalFault.TheVariants as journal;
 ghost use Rattle.archive_core.specs.declared.fault.CommitFault.TheVariants as commit;
-ghost use Rattle.archive_replay.specs.declared.fault.MountFault.TheVariants as mounting;
+ghost use Rattle.archive_core.specs.declared.fault.MountFault.TheVariants as mounting;
+ghost use Rattle.archive_replay.specs.declared.fault.RestoreFault.TheVariants as restoring;
 
-use archive_replay::MountFault;
+use archive_replay::RestoreFault;
 use journal::JournalFault;
 use prima_base::{NoMemory, Refusal};
 
@@ -29,8 +30,19 @@ impl From<NoMemory> for CommitFault {
     }
 }
 
-// A fault of the journal as one of the archive.
-pub(crate) fn mount_fault(fault: JournalFault) -> MountFault
+/// Why a file was not mounted.
+#[derive(Clone, Copy, PartialEq, Eq)]
+pub enum MountFault {
+    /// The disk failed, and its count of faults rose.
+    Disk,
+    /// The file is no archive's: it is damaged at this place. It was not written.
+    Damaged(u64),
+    /// Memory ran out.
+    NoMemory,
+}
+
+// A fault of the journal as one of the mount.
+pub(crate) fn fault_of_journal(fault: JournalFault) -> MountFault
     ensures damaged { (place : _) → result ≡ mounting.Damaged place
         → fault ≡ journal.Damaged place }
     ensures disk { result ≡ mounting.Disk → fault ≡ journal.Disk }
@@ -40,5 +52,17 @@ pub(crate) fn mount_fault(fault: JournalFault) -> MountFault
         JournalFault::Disk => MountFault::Disk,
         JournalFault::Damaged(place) => MountFault::Damaged(place),
         JournalFault::NoMemory => MountFault::NoMemory,
+    }
+}
+
+// A fault of the restored records as one of the mount. No disk fails there.
+pub(crate) fn fault_of_restoring(fault: RestoreFault) -> MountFault
+    ensures damaged { (place : _) → result ≡ mounting.Damaged place
+        → fault ≡ restoring.Damaged place }
+    ensures disk { result ≡ mounting.Disk → ⊥ }
+{
+    match fault {
+        RestoreFault::Damaged(place) => MountFault::Damaged(place),
+        RestoreFault::NoMemory => MountFault::NoMemory,
     }
 }

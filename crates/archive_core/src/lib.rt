@@ -13,7 +13,7 @@ mod preparation;
 
 pub use answer_text::Listing;
 pub use archive::Archive;
-pub use archive_replay::{MountFault, Opened};
+pub use archive_replay::Opened;
 pub use archive_state::{AskFault, Done};
-pub use fault::CommitFault;
+pub use fault::{CommitFault, MountFault};
 pub use piece_texts::Explained;

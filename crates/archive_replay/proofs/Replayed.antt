@@ -13,8 +13,8 @@ use Rattle.smo_meaning.specs.Past.{Past, past_with}
 use Rattle.smo_meaning.specs.History.{AllAccepted, past_after}
 use Rattle.journal.specs.declared.rec.Rec.{Rec}
 use Rattle.archive_state.specs.ArchiveContents.{ArchiveContent, RepresentsPast}
-use Rattle.archive_replay.specs.declared.fault.MountFault.{MountFault}
-use Rattle.archive_replay.specs.declared.fault.MountFault.TheVariants.{Damaged}
+use Rattle.archive_replay.specs.declared.fault.RestoreFault.{RestoreFault}
+use Rattle.archive_replay.specs.declared.fault.RestoreFault.TheVariants.{Damaged}
 use Rattle.archive_replay.specs.Replaying.{Replays, IsStoppedAt, IsReplayed}
 
 accepted_push : (past : Past) (commands : List PlainCommand) (c : PlainCommand)
@@ -87,11 +87,11 @@ pairs commands recs same =
     ∙ ap (λ (l : List (ℕ × Body)). length l) (firsts-zip commands recs (sym same))
 
 -- what replaying one command answered, where it told damage
-pub told_damage : (past : Past) (c : PlainCommand) (at place : ℕ) (e : MountFault)
+pub told_damage : (past : Past) (c : PlainCommand) (at place : ℕ) (e : RestoreFault)
     (new : ArchiveContent) → Replays past c at (Err e) new → e ≡ Damaged place
     → (place ≡ at) × ((r : Refusal) × (command_fault past c ≡ Some r))
 told_damage past c at place e new replays is =
-    subst (λ (f : MountFault). Replays past c at (Err f) new) is replays
+    subst (λ (f : RestoreFault). Replays past c at (Err f) new) is replays
 
 pub all_replayed : (past : Past) (commands : List (ℕ × Body)) (k : ℕ) (archive : ArchiveContent)
     → length commands ≤ k → IsReplayed past (take k (map command_of commands)) archive

@@ -8,17 +8,16 @@ use Rattle.smo_meaning.specs.Past.{Past, past_with}
 use Rattle.smo_meaning.specs.History.{AllAccepted, past_after}
 use Rattle.journal.specs.declared.rec.Rec.{Rec}
 use Rattle.archive_state.specs.ArchiveContents.{ArchiveContent, RepresentsPast}
-use Rattle.archive_replay.specs.declared.fault.MountFault.{MountFault}
-use Rattle.archive_replay.specs.declared.fault.MountFault.TheVariants.{Disk, Damaged, NoMemory}
+use Rattle.archive_replay.specs.declared.fault.RestoreFault.{RestoreFault}
+use Rattle.archive_replay.specs.declared.fault.RestoreFault.TheVariants.{Damaged, NoMemory}
 
 -- an accepted command leads to the next past; another damages the file at its gate
-abbrev pub Replays : Past → PlainCommand → ℕ → Result (Unit {0}) MountFault → ArchiveContent
+abbrev pub Replays : Past → PlainCommand → ℕ → Result (Unit {0}) RestoreFault → ArchiveContent
     → Type 0
 Replays past command at (Ok done) new = (command_fault past command ≡ None)
     × RepresentsPast new (past_with past command)
 Replays past command at (Err (Damaged place)) new = (place ≡ at)
     × ((r : Refusal) × (command_fault past command ≡ Some r))
-Replays past command at (Err Disk) new = ⊥
 Replays past command at (Err NoMemory) new = ⊤
 
 -- one of the commands is not accepted after the past and those before it, and this is its gate's

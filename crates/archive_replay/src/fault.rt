@@ -1,40 +1,38 @@
 ghost use Rattle.std.specs.Prelude.{◌≡◌};
-ghost use Rattle.archive_replay.specs.declared.fault.MountFault.TheVariants as mounting;
+ghost use Rattle.archive_replay.specs.declared.fault.RestoreFault.TheVariants as restoring;
 
 use prima_base::NoMemory;
 use std::alloc::{AllocError, AllocFailed};
 
-/// Why a file was not mounted.
+/// Why no archive is made of the records of a file.
 #[derive(Clone, Copy, PartialEq, Eq)]
-pub enum MountFault {
-    /// The disk failed, and its count of faults rose.
-    Disk,
-    /// The file is no archive's: it is damaged at this place. It was not written.
+pub enum RestoreFault {
+    /// They are no archive's: the file is damaged at this place.
     Damaged(u64),
     /// Memory ran out.
     NoMemory,
 }
 
-impl From<NoMemory> for MountFault {
-    ghost from_gives = { λ _ e. e ≡ mounting.NoMemory };
+impl From<NoMemory> for RestoreFault {
+    ghost from_gives = { λ _ e. e ≡ restoring.NoMemory };
 
-    fn from(_error: NoMemory) -> MountFault {
-        MountFault::NoMemory
+    fn from(_error: NoMemory) -> RestoreFault {
+        RestoreFault::NoMemory
     }
 }
 
-impl From<AllocError> for MountFault {
-    ghost from_gives = { λ _ e. e ≡ mounting.NoMemory };
+impl From<AllocError> for RestoreFault {
+    ghost from_gives = { λ _ e. e ≡ restoring.NoMemory };
 
-    fn from(_: AllocError) -> MountFault {
-        MountFault::NoMemory
+    fn from(_: AllocError) -> RestoreFault {
+        RestoreFault::NoMemory
     }
 }
 
-impl<T: Drop> From<AllocFailed<T>> for MountFault {
-    ghost from_gives = { λ _ e. e ≡ mounting.NoMemory };
+impl<T: Drop> From<AllocFailed<T>> for RestoreFault {
+    ghost from_gives = { λ _ e. e ≡ restoring.NoMemory };
 
-    fn from(_: AllocFailed<T>) -> MountFault {
-        MountFault::NoMemory
+    fn from(_: AllocFailed<T>) -> RestoreFault {
+        RestoreFault::NoMemory
     }
 }

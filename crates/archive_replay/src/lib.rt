@@ -7,6 +7,6 @@ mod opened;
 mod record_reader;
 mod replay;
 
-pub use fault::MountFault;
+pub use fault::RestoreFault;
 pub use opened::Opened;
 pub use replay::restore;

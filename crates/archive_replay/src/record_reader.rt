@@ -14,9 +14,9 @@ ghost use Rattle.journal.specs.declared.rec.Rec.{Rec as ARecord};
 ghost use Rattle.version_groups.specs.Representation.{Represents};
 ghost use Rattle.archive_file.specs.Opening.{HasNoSpellingAt};
 ghost use Rattle.archive_replay.specs.Reading.{IsRefusedIn, IsRead, AreKept};
-ghost use Rattle.archive_replay.specs.declared.fault.MountFault.TheVariants as mounting;
+ghost use Rattle.archive_replay.specs.declared.fault.RestoreFault.TheVariants as restoring;
 
-use crate::MountFault;
+use crate::RestoreFault;
 use archive_state::ArchiveState;
 use command_checker::{CheckFault, check};
 use command_codec::{CodecFault, decode};
@@ -46,64 +46,60 @@ fn place_in(at: u64, within: u64) -> u64
 }
 
 // The command of a record.
-fn read_command(alloc: Global, rec: &Rec) -> Result<Command, MountFault>
+fn read_command(alloc: Global, rec: &Rec) -> Result<Command, RestoreFault>
     ensures command { IfOk result (λ c. Spells (command_of c) rec.now.payload.items) }
-    ensures damaged { (place : _) → result ≡ Err (mounting.Damaged place) → rec.now.kind ≡ 1
+    ensures damaged { (place : _) → result ≡ Err (restoring.Damaged place) → rec.now.kind ≡ 1
         → IsRefusedIn rec.now.at (record_of rec.now) place }
-    ensures disk { result ≡ Err mounting.Disk → ⊥ }
 {
     match decode(alloc, &rec.payload) {
         Ok(command) => Ok(command),
-        Err(CodecFault::BadAt(within)) => Err(MountFault::Damaged(place_in(rec.at, within))),
-        Err(CodecFault::Rest(within)) => Err(MountFault::Damaged(place_in(rec.at, within))),
-        Err(CodecFault::NoMemory) => Err(MountFault::NoMemory),
+        Err(CodecFault::BadAt(within)) => Err(RestoreFault::Damaged(place_in(rec.at, within))),
+        Err(CodecFault::Rest(within)) => Err(RestoreFault::Damaged(place_in(rec.at, within))),
+        Err(CodecFault::NoMemory) => Err(RestoreFault::NoMemory),
     }
 }
 
 // That the payload of a record spells a command. None is made.
-fn judge_command(rec: &Rec) -> Result<(), MountFault>
+fn judge_command(rec: &Rec) -> Result<(), RestoreFault>
     ensures command { OnOk result ((c : PlainCommand) × Spells c rec.now.payload.items) }
-    ensures damaged { (place : _) → result ≡ Err (mounting.Damaged place) → rec.now.kind ≡ 1
+    ensures damaged { (place : _) → result ≡ Err (restoring.Damaged place) → rec.now.kind ≡ 1
         → IsRefusedIn rec.now.at (record_of rec.now) place }
-    ensures disk { result ≡ Err mounting.Disk → ⊥ }
 {
     match check(&rec.payload) {
         Ok(()) => Ok(()),
-        Err(CheckFault::BadAt(within)) => Err(MountFault::Damaged(place_in(rec.at, within))),
-        Err(CheckFault::Rest(within)) => Err(MountFault::Damaged(place_in(rec.at, within))),
+        Err(CheckFault::BadAt(within)) => Err(RestoreFault::Damaged(place_in(rec.at, within))),
+        Err(CheckFault::Rest(within)) => Err(RestoreFault::Damaged(place_in(rec.at, within))),
     }
 }
 
 // What the image of a checkpoint's record stands for.
-fn read_checkpoint(alloc: Global, rec: &Rec) -> Result<(Groups, Option<u64>), MountFault>
+fn read_checkpoint(alloc: Global, rec: &Rec) -> Result<(Groups, Option<u64>), RestoreFault>
     requires { rec.now.kind ≡ 2 }
     ensures image { IfOk result (λ it. (i : Image) × IsImage i
         × (rec.now.payload.items ≡ image_bytes i) × (it.1 ≡ i.last)
         × ((n : ℕ) → Represents it.0 (image_past n i))) }
-    ensures damaged { (place : _) → result ≡ Err (mounting.Damaged place)
+    ensures damaged { (place : _) → result ≡ Err (restoring.Damaged place)
         → IsRefusedIn rec.now.at (record_of rec.now) place }
-    ensures disk { result ≡ Err mounting.Disk → ⊥ }
 {
     an_image_is_what_is_read();
     match read_image(alloc, &rec.payload) {
         Ok(it) => Ok(it),
-        Err(ImageFault::BadAt(within)) => Err(MountFault::Damaged(place_in(rec.at, within))),
-        Err(ImageFault::NoMemory) => Err(MountFault::NoMemory),
+        Err(ImageFault::BadAt(within)) => Err(RestoreFault::Damaged(place_in(rec.at, within))),
+        Err(ImageFault::NoMemory) => Err(RestoreFault::NoMemory),
     }
 }
 
 impl ReadRecords {
     // One record more. A command that stands before the last image is judged and counted, and not
     // made.
-    fn read(&mut self, alloc: Global, rec: &Rec, is_after: bool) -> Result<(), MountFault>
+    fn read(&mut self, alloc: Global, rec: &Rec, is_after: bool) -> Result<(), RestoreFault>
         requires { self.old.count < 2 ^ 64 - 1 }
         ensures read { OnOk result (IsRead rec.now is_after self.old self.new) }
         ensures few { OnOk result (length self.new.commands.items ≤ length
             self.old.commands.items + 1) }
         ensures count { OnOk result (self.new.count ≤ self.old.count + 1) }
-        ensures damaged { (place : _) → result ≡ Err (mounting.Damaged place) → IsKnown rec.now.kind
+        ensures damaged { (place : _) → result ≡ Err (restoring.Damaged place) → IsKnown rec.now.kind
             → IsRefusedIn rec.now.at (record_of rec.now) place }
-        ensures disk { result ≡ Err mounting.Disk → ⊥ }
     {
         if rec.kind == CHECKPOINT {
             let (groups, last) = read_checkpoint(alloc, rec)?;
@@ -139,13 +135,12 @@ fn before_last_image(recs: &[Rec]) -> usize
 
 /// What the records stand for, all of them before any command is carried out. Only the commands
 /// after the last image are made; those before it are judged by their bytes alone.
-pub(crate) fn read_all(alloc: Global, recs: &[Rec]) -> Result<ReadRecords, MountFault>
+pub(crate) fn read_all(alloc: Global, recs: &[Rec]) -> Result<ReadRecords, RestoreFault>
     requires { AreInPlace recs.now }
     ensures kept { IfOk result (λ kept. AreKept (records_in recs.now) kept) }
     ensures few { IfOk result (λ kept. length kept.commands.items ≤ length recs.now) }
-    ensures damaged { (place : _) → result ≡ Err (mounting.Damaged place)
+    ensures damaged { (place : _) → result ≡ Err (restoring.Damaged place)
         → HasNoSpellingAt (records_in recs.now) place }
-    ensures disk { result ≡ Err mounting.Disk → ⊥ }
 {
     let before = before_last_image(recs);
     let mut kept = ReadRecords {

@@ -9,10 +9,10 @@ ghost use Rattle.archive_file.specs.LogRecords.{LogRecord, records_of, replayed_
 ghost use Rattle.archive_file.specs.Opening.{HasFaultAt};
 ghost use Rattle.archive_replay.specs.Replaying.{Replays, IsStoppedAt, IsReplayed};
 ghost use Rattle.archive_replay.specs.Restoring.{IsRestored};
-ghost use Rattle.archive_replay.specs.declared.fault.MountFault.TheVariants as mounting;
+ghost use Rattle.archive_replay.specs.declared.fault.RestoreFault.TheVariants as restoring;
 
 use crate::record_reader::read_all;
-use crate::{MountFault, Opened};
+use crate::{Opened, RestoreFault};
 use archive_state::{ArchiveState, CommandFault};
 use journal::Rec;
 use prima_base::Steps;
@@ -21,15 +21,15 @@ use std::alloc::Global;
 use std::sync::ledger::Ledger;
 
 // Carries out a command of the record whose gate is at `at`, if it is accepted.
-fn replay_command(state: &mut ArchiveState, command: Command, at: u64) -> Result<(), MountFault>
+fn replay_command(state: &mut ArchiveState, command: Command, at: u64) -> Result<(), RestoreFault>
     ensures replays { (past : Past) → RepresentsPast state.old past
         → Replays past (command_of command) at result state.new }
     ensures represents { RepresentsSome state.old × RepresentsSome state.new }
 {
     match state.commit(command) {
         Ok(_done) => Ok(()),
-        Err(CommandFault::Refused(_refusal)) => Err(MountFault::Damaged(at)),
-        Err(CommandFault::NoMemory) => Err(MountFault::NoMemory),
+        Err(CommandFault::Refused(_refusal)) => Err(RestoreFault::Damaged(at)),
+        Err(CommandFault::NoMemory) => Err(RestoreFault::NoMemory),
     }
 }
 
@@ -39,14 +39,13 @@ fn replay<L: Ledger>(
     recs: &[Rec],
     commands: Vec<Command>,
     steps: &mut Steps<L>,
-) -> Result<(), MountFault>
+) -> Result<(), RestoreFault>
     requires { length commands.items ≡ length recs.now }
     ensures represents { (past : Past) → RepresentsPast state.old past
         → OnOk result (IsReplayed past (map command_of commands.items) state.new) }
     ensures stopped { (past : Past) → RepresentsPast state.old past → (place : _)
-        → result ≡ Err (mounting.Damaged place)
+        → result ≡ Err (restoring.Damaged place)
         → IsStoppedAt past (map command_of commands.items) recs.now place }
-    ensures disk { result ≡ Err mounting.Disk → ⊥ }
     ensures cost { steps.new ≤ steps.old + length commands.items }
 {
     for (command, rec) in commands.into_iter().zip(recs) {
@@ -63,13 +62,12 @@ pub fn restore<L: Ledger>(
     alloc: Global,
     recs: &[Rec],
     steps: &mut Steps<L>,
-) -> Result<(ArchiveState, Opened), MountFault>
+) -> Result<(ArchiveState, Opened), RestoreFault>
     requires { AreInPlace recs.now }
     ensures restored { IfOk result (λ it. IsRestored (records_in recs.now) it.0 it.1) }
     ensures represents { IfOk result (λ it. RepresentsSome it.0) }
-    ensures damaged { (place : _) → result ≡ Err (mounting.Damaged place)
+    ensures damaged { (place : _) → result ≡ Err (restoring.Damaged place)
         → HasFaultAt (records_in recs.now) place }
-    ensures disk { result ≡ Err mounting.Disk → ⊥ }
     ensures cost { steps.new ≤ steps.old + length recs.now }
     ensures cost_open { (log : List LogRecord) → records_in recs.now ≡ records_of log
         → steps.new ≤ steps.old + replayed_of log }

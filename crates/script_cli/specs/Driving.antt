@@ -16,8 +16,8 @@ use Rattle.archive_file.specs.Opening.{Opens, Damages}
 use Rattle.archive_state.specs.ArchiveContents.{RepresentsSome}
 use Rattle.archive_core.specs.declared.archive.Archive.{Archive}
 use Rattle.archive_replay.specs.declared.opened.Opened.{Opened}
-use Rattle.archive_replay.specs.declared.fault.MountFault.{MountFault}
-use Rattle.archive_replay.specs.declared.fault.MountFault.TheVariants as mounting
+use Rattle.archive_core.specs.declared.fault.MountFault.{MountFault}
+use Rattle.archive_core.specs.declared.fault.MountFault.TheVariants as mounting
 use Rattle.archive_core.specs.Fields.{standing_of, below, place_of, limit_of}
 use Rattle.archive_core.specs.Holding.{HoldsAt}
 use Rattle.archive_core.specs.Mounting.{IsMounted}

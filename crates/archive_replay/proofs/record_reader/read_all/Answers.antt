@@ -4,7 +4,7 @@ use Rattle.std.proofs.lemmas.Result.{err_from_is_err_and}
 use Rattle.journal.specs.Records.{IsKnown}
 use Rattle.journal.specs.Reading.{record_of}
 use Rattle.archive_replay.specs.Reading.{IsRefusedIn, IsRead}
-use Rattle.archive_replay.specs.declared.fault.MountFault.TheVariants.{Damaged}
+use Rattle.archive_replay.specs.declared.fault.RestoreFault.TheVariants.{Damaged}
 use Rattle.archive_replay.proofs.ReadRecords.{none_read, one_more_read, all_read, not_read}
 use Rattle.archive_replay.proofs.record_reader.read_all.Goals as goal
 

@@ -10,7 +10,7 @@ use Rattle.std.proofs.lemmas.Result.{err_from_is_err_and}
 use Rattle.journal.specs.declared.rec.Rec.{Rec}
 use Rattle.smo_types.specs.Commands.{command_of}
 use Rattle.smo_meaning.specs.History.{past_after}
-use Rattle.archive_replay.specs.declared.fault.MountFault.TheVariants.{Damaged}
+use Rattle.archive_replay.specs.declared.fault.RestoreFault.TheVariants.{Damaged}
 use Rattle.archive_replay.specs.Replaying.{IsReplayed}
 use Rattle.archive_replay.proofs.Replayed.{one_more_replayed, stopped, told_damage, all_replayed}
 use Rattle.archive_replay.proofs.Replayed.{pair_at, pairs}

@@ -6,7 +6,7 @@ use Rattle.std.proofs.lemmas.Result.{err_from_is_err_and}
 use Rattle.smo_types.specs.Commands.{command_of}
 use Rattle.journal.specs.Reading.{records_in}
 use Rattle.archive_file.specs.LogRecords.{past_recorded}
-use Rattle.archive_replay.specs.declared.fault.MountFault.TheVariants.{Damaged}
+use Rattle.archive_replay.specs.declared.fault.RestoreFault.TheVariants.{Damaged}
 use Rattle.archive_replay.specs.Replaying.{IsStoppedAt}
 use Rattle.archive_replay.proofs.Restored.{restored, stopped_fault}
 use Rattle.archive_replay.proofs.SameRecords.{kept_replayed}

@@ -14,14 +14,15 @@ pub returns-in-Err-clause-damaged : goal.returns-in-Err-clause-damaged
 returns-in-Err-clause-damaged g c place is =
     tell_frames (g.D.Disk.meaning c.args.disk).seen (λ file. IsDamagedAt file place)
     (λ file. Damages file place) (λ file h. inl h)
-    (c.in-Err.ensures.damaged place (c.mount_fault.ensures.damaged place is))
+    (c.in-Err.ensures.damaged place (c.fault_of_journal.ensures.damaged place is))
 
 pub returns-in-Err-restore-clause-damaged : goal.returns-in-Err-restore-clause-damaged
 returns-in-Err-restore-clause-damaged g c place is =
     tell_damaged (g.D.Disk.meaning c.args.disk).seen c.in-Ok.recs.items c.in-Ok.journal.at place
     c.in-Ok.ensures.opened
     (subst (λ l. HasFaultAt (records_in l) place) c.deref.ensures.value
-    (c.in-Err-restore.ensures.damaged place (cc (is))))
+    (c.in-Err-restore.ensures.damaged place
+    (cc (c.fault_of_restoring.ensures.damaged place is))))
 
 pub returns-in-Err-restore-clause-untouched : goal.returns-in-Err-restore-clause-untouched
 returns-in-Err-restore-clause-untouched g c place is =
@@ -30,7 +31,8 @@ returns-in-Err-restore-clause-untouched g c place is =
     (g.D.Disk.meaning c.in-Ok.journal.disk).seen c.in-Ok.recs.items c.in-Ok.journal.at place
     c.in-Ok.ensures.opened c.in-Ok.ensures.file
     (subst (λ l. HasFaultAt (records_in l) place) c.deref.ensures.value
-    (c.in-Err-restore.ensures.damaged place (cc (is))))
+    (c.in-Err-restore.ensures.damaged place
+    (cc (c.fault_of_restoring.ensures.damaged place is))))
 
 pub returns-in-Err-restore-clause-cost : goal.returns-in-Err-restore-clause-cost
 returns-in-Err-restore-clause-cost g c =
