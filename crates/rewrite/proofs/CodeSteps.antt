@@ -86,6 +86,33 @@ pub first_accepted : (tables : Tables) (ops : List Op) (op : Op) → 1 ≤ lengt
 first_accepted tables [] op l e a = absurd (omega arith)
 first_accepted tables (x ∷ xs) op l e a = ap (λ (o : Op). op_fault tables (operator_of o)) e ∙ a.0
 
+-- the operators after the first lead on from the tables after it
+module _ (tables next : Tables) (op : Op) where
+  pub rest_accepted : (ops : List Op) → 1 ≤ length ops → op ≡ get_or ops 0 op
+      → AllOperatorsAccepted tables (operators_of ops) → next ≡ schema_after tables (operator_of op)
+      → AllOperatorsAccepted next (operators_of (take (length ops - 1) (drop 1 ops)))
+  rest_accepted [] l e a n = absurd (omega arith)
+  rest_accepted (x ∷ xs) l e a n =
+      let rest : take (length (x ∷ xs) - 1) (drop 1 (x ∷ xs)) ≡ xs =
+      take_all (length (x ∷ xs) - 1) xs (omega arith) in
+      let now : next ≡ schema_after tables (operator_of x) = n
+      ∙ ap (λ (o : Op). schema_after tables (operator_of o)) e in
+      subst (λ (ys : List Op). AllOperatorsAccepted next (operators_of ys)) (sym rest)
+      (subst (λ (t : Tables). AllOperatorsAccepted t (operators_of xs)) (sym now) a.1)
+
+  pub rest_led : (ops : List Op) (ps : List PlainPiece) → 1 ≤ length ops → op ≡ get_or ops 0 op
+      → AllTyped (schema_after_each tables (operators_of ops)) ps
+      → next ≡ schema_after tables (operator_of op)
+      → AllTyped (schema_after_each next (operators_of (take (length ops - 1) (drop 1 ops)))) ps
+  rest_led [] ps l e y n = absurd (omega arith)
+  rest_led (x ∷ xs) ps l e y n =
+      let rest : take (length (x ∷ xs) - 1) (drop 1 (x ∷ xs)) ≡ xs =
+      take_all (length (x ∷ xs) - 1) xs (omega arith) in
+      let now : next ≡ schema_after tables (operator_of x) = n
+      ∙ ap (λ (o : Op). schema_after tables (operator_of o)) e in
+      subst (λ (ys : List Op). AllTyped (schema_after_each next (operators_of ys)) ps) (sym rest)
+      (subst (λ (t : Tables). AllTyped (schema_after_each t (operators_of xs)) ps) (sym now) y)
+
 pub rest_typed : (book : Book) → IsValidBook book
     → (tables next : Tables) (ops : List Op) (op : Op) (ps news : List PlainPiece) → IsValid tables
     → 1 ≤ length ops → op ≡ get_or ops 0 op
