@@ -120,8 +120,6 @@ impl<D: Disk> Archive<D> {
         match Journal::mount(alloc, disk, limit) {
             Err((disk, fault)) => Err((disk, fault_of_journal(fault))),
             Ok((journal, recs)) => {
-                // a number of 64 bits, and so is each place before it
-                let _end = journal.place();
                 match restore(alloc, &recs, steps) {
                     Err(fault) => Err((journal.into_disk(), fault_of_restoring(fault))),
                     Ok((state, opened)) => {

@@ -1,8 +1,8 @@
 -- Records that were read, and the commands after the last image carried out or refused.
 use Rattle.std.proofs.Common.{◌≡◌, inr, ℕ, ◌+◌, ◌-◌, ◌<◌, List, [], ◌∷◌, ◌++◌}
 use Rattle.std.proofs.Common.{length, get_or, take, drop, map, refl, sym, subst, ap, ◌∙◌, arith}
-use Rattle.std.proofs.Common.{length-append, append_assoc}
-use Rattle.std.proofs.lemmas.List.{length-map, map-append, get_or-drop}
+use Rattle.std.proofs.Common.{◌≤◌, length-append, length-drop, append_assoc}
+use Rattle.std.proofs.lemmas.List.{length-map, map-append, get_or-drop, take_all}
 use Rattle.smo_types.specs.Commands.{PlainCommand, command_of}
 use Rattle.smo_meaning.specs.Accepts.{command_fault}
 use Rattle.journal.specs.Records.{Record, before_gate}
@@ -40,6 +40,22 @@ restored records kept archive opened is replayed count after = record {
         (sym (replayed_are is.prefix is.ends (commands_kept kept)));
   };
 }
+
+-- the records of the last commands, so many
+module _ (recs : List Rec) (count len : ℕ) (same : len ≡ count) where
+  abbrev cut : List Rec
+  cut = take (length recs - (length recs - len)) (drop (length recs - len) recs)
+
+  pub last_are : cut ≡ drop (length recs - count) recs
+  last_are = take_all (length recs - (length recs - len)) (drop (length recs - len) recs)
+      (omega (arith, length-drop (length recs - len) recs))
+      ∙ ap (λ (n : ℕ). drop (length recs - n) recs) same
+
+  pub last_count : count ≤ length recs → count ≡ length cut
+  last_count few =
+      let all : count ≡ length (drop (length recs - count) recs) =
+      omega (arith, few, length-drop (length recs - count) recs) in
+      all ∙ sym (ap (λ (l : List Rec). length l) last_are)
 
 -- ---- a command refused
 
