@@ -68,13 +68,6 @@ impl<D: Disk> Journal<D> {
         Ok(())
     }
 
-    /// The place of the closed gate after the records. It takes no memory.
-    pub fn place(&self) -> u64
-        ensures { result ≡ place_of self.now }
-    {
-        self.at
-    }
-
     /// The disk as it stands. It takes no memory.
     pub fn into_disk(self) -> D
         ensures { result ≡ disk_of self }
