@@ -98,8 +98,8 @@ impl ReadRecords {
         ensures few { OnOk result (length self.new.commands.items ≤ length
             self.old.commands.items + 1) }
         ensures count { OnOk result (self.new.count ≤ self.old.count + 1) }
-        ensures damaged { (place : _) → result ≡ Err (restoring.Damaged place) → IsKnown rec.now.kind
-            → IsRefusedIn rec.now.at (record_of rec.now) place }
+        ensures damaged { (place : _) → result ≡ Err (restoring.Damaged place)
+            → IsKnown rec.now.kind → IsRefusedIn rec.now.at (record_of rec.now) place }
     {
         if rec.kind == CHECKPOINT {
             let (groups, last) = read_checkpoint(alloc, rec)?;

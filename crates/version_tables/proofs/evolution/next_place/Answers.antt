@@ -30,7 +30,8 @@ begin_after-requires-in-None-clause-relation c =
     (c.requires.others first) in
     let made = made_rows c.args.names c.args.rows.now in
     let own = second_made made c.args.stamp group name first second in
-    subst (IsRelation c.args.table.now.1) (own ∙ sym c.deref-in-None.ensures.value) c.requires.relation
+    subst (IsRelation c.args.table.now.1) (own ∙ sym c.deref-in-None.ensures.value)
+    c.requires.relation
 
 pub returns-in-Some-clause-next : goal.returns-in-Some-clause-next
 returns-in-Some-clause-next c =
@@ -79,8 +80,9 @@ returns-in-None-clause-next c =
     (c.requires.others first) in
     let made = made_rows c.args.names c.args.rows.now in
     let own = second_made made c.args.stamp group name first second in
-    subst (λ (rows : Relation). IfOk c.begin_after-in-None.result (λ p. IsNextTable c.args.tables.now
-    c.args.begun.now.items c.begin_after-in-None.new.begun.items p name
+    subst (λ (rows : Relation). IfOk c.begin_after-in-None.result
+    (λ p. IsNextTable c.args.tables.now c.args.begun.now.items
+    c.begin_after-in-None.new.begun.items p name
     (Begins c.args.table.now.1 c.args.stamp rows))) (c.deref-in-None.ensures.value ∙ sym own)
     c.begin_after-in-None.ensures.next
 
@@ -101,8 +103,8 @@ returns-in-None-clause-comes c =
     let made = made_rows c.args.names c.args.rows.now in
     let own = second_made made c.args.stamp group name first second in
     let P : Bool → Relation → Type 0 = λ is_made rows. IfOk c.begin_after-in-None.result
-    (λ p. Comes is_made c.args.tables.now c.args.begun.now.items c.begin_after-in-None.new.begun.items
-    c.args.places.now p name
+    (λ p. Comes is_made c.args.tables.now c.args.begun.now.items
+    c.begin_after-in-None.new.begun.items c.args.places.now p name
     (BeginsWith c.args.version c.args.stamp (λ name. rows) c.args.table.now)) in
     let rows = next_rows made c.args.stamp group name in
     subst (λ b. P b rows) (sym (ap (λ b. b || is_name made.second name) first ∙ second))
