@@ -1,7 +1,7 @@
 -- An archive in memory that is as it was, but for room.
 use Rattle.std.proofs.Common.{◌≡◌, refl, sym, subst}
 use Rattle.smo_meaning.specs.Past.{Past}
-use Rattle.version_groups.proofs.PreparedCommand.{is_same}
+use Rattle.version_groups.proofs.CommandsReady.{is_same}
 use Rattle.archive_state.specs.ArchiveContents.{ArchiveContent, RepresentsPast}
 use Rattle.archive_core.specs.Committing.{IsUnchanged}
 

@@ -17,4 +17,4 @@ pub mod RestoredGroups
 pub mod RestoredPasts
 pub mod LifelinesNamed
 pub mod VersionsKept
-pub mod PreparedCommand
+pub mod CommandsReady

@@ -9,7 +9,7 @@ use Rattle.smo_ops.specs.TablePlaces.{StandAt}
 use Rattle.version_groups.specs.Judged.{judged_command, IsFound, IsCommandAccepted}
 use Rattle.version_groups.specs.Steps.{Prepares}
 use Rattle.version_groups.specs.declared.judged.Judged.{Judged}
-use Rattle.version_groups.proofs.PreparedCommand.{represents_same}
+use Rattle.version_groups.proofs.CommandsReady.{represents_same}
 use Rattle.version_groups.proofs.groups.Groups.prepare.Goals as goal
 
 pub prepare_changes-requires-clause-valid : goal.prepare_changes-requires-clause-valid

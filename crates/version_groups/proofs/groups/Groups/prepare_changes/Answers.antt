@@ -16,8 +16,8 @@ use Rattle.version_groups.specs.GroupFields.{groups_view}
 use Rattle.version_groups.specs.Room.{IsSame}
 use Rattle.version_groups.proofs.GroupPlaces.{newest_is, view_same, are_groups, names_kept}
 use Rattle.version_groups.proofs.GroupPlaces.{lines_kept}
-use Rattle.version_groups.proofs.PreparedCommand.{schema_is, of_newest_schema, changeable_now}
-use Rattle.version_groups.proofs.PreparedCommand.{changes_ready}
+use Rattle.version_groups.proofs.CommandsReady.{schema_is, of_newest_schema, changeable_now}
+use Rattle.version_groups.proofs.CommandsReady.{changes_ready}
 use Rattle.version_groups.proofs.groups.Groups.prepare_changes.Goals as goal
 
 pub prepare_tables-requires-clause-there : goal.prepare_tables-requires-clause-there

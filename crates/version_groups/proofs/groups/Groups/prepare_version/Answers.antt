@@ -14,8 +14,8 @@ use Rattle.version_tables.specs.Places.{at_places, AreWithin}
 use Rattle.version_groups.specs.Groups.{Kept, newest_places, newest_group}
 use Rattle.version_groups.proofs.CarriedOut.{as_many}
 use Rattle.version_groups.proofs.GroupPlaces.{newest_places_are, newest_is}
-use Rattle.version_groups.proofs.PreparedCommand.{schema_is, op_accepted, few_versions, stored_now}
-use Rattle.version_groups.proofs.PreparedCommand.{operator_ready, is_same}
+use Rattle.version_groups.proofs.CommandsReady.{schema_is, op_accepted, few_versions, stored_now}
+use Rattle.version_groups.proofs.CommandsReady.{operator_ready, is_same}
 use Rattle.version_groups.proofs.groups.Groups.prepare_version.Goals as goal
 
 pub overflow_add-number : goal.overflow_add-number
