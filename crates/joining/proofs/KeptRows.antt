@@ -32,6 +32,10 @@ module _ {X : Type 0} (p : X → Bool) where
       ∙ drop-set-lt (n + 1) (set xs k x) n y (omega arith)
       ∙ drop-set-lt (n + 1) xs k x (omega (arith, kn))
 
+  -- and there are as many
+  pub as_many : (xs ys : List X) (k n : ℕ) → n < length xs → ys ≡ swap xs k n → n + 1 ≤ length ys
+  as_many xs ys k n nl is = rw (ap length is ∙ length-swap xs k n) (omega arith)
+
   pub kept_one : (xs ys : List X) (k n : ℕ) (d : X) → k ≤ n → n < length xs
       → p (get_or xs n d) ≡ true → ys ≡ swap xs k n
       → left k n xs ≡ left (k + 1) (n + 1) ys

@@ -1,6 +1,5 @@
-use Rattle.std.proofs.Common.{◌<◌, length, map, sym, refl, ap, ◌∙◌, subst, arith, get_or}
+use Rattle.std.proofs.Common.{◌<◌, length, sym, ap, ◌∙◌, subst, arith, get_or}
 use Rattle.std.proofs.lemmas.List.{take_all}
-use Rattle.prima_base.specs.Order.{shown}
 use Rattle.prima_base.specs.Timed.{entries_of}
 use Rattle.timed_choices.specs.BorrowedOutputs.{RowBorrows}
 use Rattle.timed_choices.proofs.BorrowedLaws.{each_more, each_at}

@@ -8,7 +8,7 @@ use Rattle.prima_base.specs.Timed.{entry_of}
 use Rattle.timed_choices.specs.Keeping.{meets_all, borrowed_tests}
 use Rattle.timed_choices.proofs.Tests.{are_valid}
 use Rattle.timed_rows.proofs.Moves.{no_row}
-use Rattle.joining.proofs.KeptRows.{rest_valid, rest_same, kept_one, dropped_one}
+use Rattle.joining.proofs.KeptRows.{rest_valid, rest_same, as_many, kept_one, dropped_one}
 use Rattle.joining.proofs.RowPlaces.{read_valid}
 use Rattle.joining.proofs.own_part.passing.Goals as goal
 use Rattle.joining.proofs.own_part.passing.Goals.{then-branch, else-branch}
@@ -38,7 +38,8 @@ rows-preserved c =
           w.swap.ensures in
           record {
             kept = rw w.kept-is (omega (arith, c.rows.invariant.kept));
-            next = rw w.rows-is (grind (arith, common_steps));
+            next = rw w.rows-is
+                (as_many met xs ys c.rows.kept c.rows.next here w.swap.ensures);
             valid = rw w.rows-is
                 (rest_valid xs ys c.rows.next row c.rows.invariant.valid here same);
             stands = rw (w.rows-is, w.kept-is) (sym (kept_one met xs ys c.rows.kept c.rows.next

@@ -1,16 +1,14 @@
-use Rattle.std.proofs.Common.{◌≡◌, ◌<◌, ◌++◌, List, map, length, take, get_or, refl, sym, ap, ◌∙◌}
+use Rattle.std.proofs.Common.{◌≡◌, ◌<◌, ◌++◌, List, map, length, take, get_or, sym, ap, ◌∙◌}
 use Rattle.std.proofs.Common.{subst, arith}
 use Rattle.std.proofs.lemmas.List.{take_all}
 use Rattle.relations.specs.Timed.{Entry}
 use Rattle.prima_base.specs.declared.timed_row.TimedRow.{TimedRow}
 use Rattle.prima_base.specs.declared.value.Value.{Value}
-use Rattle.prima_base.specs.Timed.{entry_of, entries_of}
+use Rattle.prima_base.specs.Timed.{entries_of}
 use Rattle.cond_expr.specs.Seen.{tree, test}
 use Rattle.timed_choices.specs.Answering.{answers}
-use Rattle.timed_choices.specs.Keeping.{AllValid}
 use Rattle.timed_choices.specs.BorrowedOutputs.{RowBorrows, AllStayBorrowed}
 use Rattle.timed_choices.proofs.BorrowedLaws.{each_at}
-use Rattle.timed_choices.proofs.Tests.{valid_row}
 use Rattle.timed_rows.proofs.Moves.{no_row}
 use Rattle.timed_rows.proofs.ReadRows.{read_entry, stands_there}
 use Rattle.joining.specs.InSlice.{in_slice, all_in_slice}
