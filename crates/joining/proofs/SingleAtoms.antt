@@ -1,8 +1,8 @@
 -- What is answered over one atom alone.
-use Rattle.std.proofs.Common.{◌≡◌, ◌<◌, ◌+◌, ℕ, zero, suc, Bool, true, false, cond, List, [], ◌∷◌}
-use Rattle.std.proofs.Common.{◌++◌, append_assoc, map, take, length, get_or, refl, sym, ap, ◌∙◌}
+use Rattle.std.proofs.Common.{◌≡◌, ◌<◌, ◌+◌, ℕ, Bool, true, false, cond, List, [], ◌∷◌}
+use Rattle.std.proofs.Common.{◌++◌, map, take, length, get_or, refl, sym, ap, ◌∙◌}
 use Rattle.std.proofs.Common.{subst, arith}
-use Rattle.std.specs.List.{flat_map, filter}
+use Rattle.std.specs.List.{filter}
 use Rattle.std.proofs.lemmas.List.{append-nil, map-append, take_more}
 use Rattle.std.proofs.lemmas.List.Concat.{flat_map-append}
 use Rattle.relations.specs.Sets.{In, set_of}
@@ -23,7 +23,7 @@ use Rattle.cond_expr.specs.Values.{value}
 use Rattle.cond_expr.specs.Seen.{tree}
 use Rattle.cond_expr.specs.Rows.{cells}
 use Rattle.timed_choices.specs.Answering.{one_row, outputs, answer, answers}
-use Rattle.timed_choices.specs.Choosing.{extended_where, pairs}
+use Rattle.timed_choices.specs.Choosing.{extended_where}
 use Rattle.timed_choices.specs.Keeping.{meets, value_at}
 use Rattle.timed_choices.proofs.HeldPairs.{held_pairs}
 use Rattle.timed_choices.proofs.JoinLaws.{start_held}
