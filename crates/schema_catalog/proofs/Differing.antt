@@ -14,8 +14,8 @@ use Rattle.std.proofs.lemmas.Cmp.{tied_itself}
 use Rattle.std.proofs.lemmas.List.{drop_all}
 use Rattle.prima_base.specs.declared.value.ColType.{ColType}
 use Rattle.prima_base.specs.declared.value.ColType.TheVariants.{Int, Text}
-use Rattle.prima_base.specs.Order.{bytes_cmp}
-use Rattle.prima_base.specs.OrderLaws.{bytes_exact}
+use Rattle.prima_base.specs.Order.{bytes_cmp, same}
+use Rattle.prima_base.specs.OrderLaws.{bytes_exact, same_is}
 use Rattle.prima_base.specs.Columns.{Column}
 use Rattle.schema_catalog.specs.Tables.{Tables}
 use Rattle.schema_catalog.specs.Places.{NamedColumns, AreTablesOf}
@@ -193,6 +193,12 @@ module _ (ts os : List NamedColumns) (i : ℕ) (st : T (is_sorted bytes_cmp (dro
     others_go_on = second (below_all bytes_cmp y.0 (drop (i + 1) os)) _ (at os y so k f)
 
 -- columns are compared one by one
+pub names_decided : (a b : List ℕ) → Decides (same a b) (a ≡ b)
+names_decided a b = (
+  same_is a b,
+  λ e. sym (ap (same a) e) ∙ ap is_eq (tied_itself nat_list_cmp_total a),
+)
+
 pub types_decided : (E : ColType → ColType → Bool) → E Int Int ≡ true → E Int Text ≡ false
     → E Text Int ≡ false → E Text Text ≡ true → (x y : ColType) → Decides (E x y) (x ≡ y)
 types_decided E a b c d Int Int = (λ _. refl, λ _. a)
