@@ -75,25 +75,22 @@ pub(crate) fn read_item<'a, L: Ledger, R: Rule>(
         → IfOk result (λ a. IsRead past route.now place table.now
         (own_read place (borrowed references.now) (test cond.now)) a) }
     ensures borrowed { (branch : ℕ) → (by_branch : BorrowedByBranch)
-        → AllSpare groups.now by_branch (table_pieces
-        (meaning_of book.now.rules.items R.handles R.answers) (versions_in groups.now)
-        route.now.asked table.now (own_read place (borrowed references.now) (test cond.now)) branch
-        (place + 1)
-        route.now.parts.items)
+        → AllSpare groups.now by_branch
+        (table_pieces (meaning_of book.now.rules.items R.handles R.answers) (versions_in groups.now)
+        route.now.asked table.now (own_read place (borrowed references.now) (test cond.now))
+        branch (place + 1) route.now.parts.items)
         → IfOk result (λ a. RowsBorrow (by_branch branch) a.columns.items a.rows.items) }
     ensures cost { (branch : ℕ) → (atom : ℕ) → (alive : List PlainExplained)
         → AreAlive (versions_in groups.now)
         (table_pieces (meaning_of book.now.rules.items R.handles R.answers) (versions_in groups.now)
-        route.now.asked table.now (own_read place (borrowed references.now) (test cond.now)) branch
-        atom
-        route.now.parts.items) alive
+        route.now.asked table.now (own_read place (borrowed references.now) (test cond.now))
+        branch atom route.now.parts.items) alive
         → steps.new ≤ steps.old + reads_of groups.now alive }
     ensures least { (branch : ℕ) → (atom : ℕ) → (e : PlainExplained)
         → IsAlive (versions_in groups.now)
         (table_pieces (meaning_of book.now.rules.items R.handles R.answers) (versions_in groups.now)
-        route.now.asked table.now (own_read place (borrowed references.now) (test cond.now)) branch
-        atom
-        route.now.parts.items) e
+        route.now.asked table.now (own_read place (borrowed references.now) (test cond.now))
+        branch atom route.now.parts.items) e
         → IfOk result (λ _. steps.old + explained_read groups.now e ≤ steps.new) }
     ensures rises { steps.old ≤ steps.new }
 {
