@@ -24,7 +24,7 @@ use Rattle.timed_choices.specs.Keeping.{IsValidRow}
 use Rattle.table_histories.specs.Store.{Cell}
 use Rattle.timed_rows.specs.Rows.{row_of}
 use Rattle.gathered_rows.specs.Entries.{HasRow}
-use Rattle.gathered_rows.specs.Walking.{IsLent, AreLent, IsRowOf, AreAdded, AreLeft, both}
+use Rattle.gathered_rows.specs.Walking.{IsHeldUntil, AreHeldUntil, IsRowOf, AreAdded, AreLeft, both}
 use Rattle.gathered_rows.proofs.Passing.{row_of_left, row_more, row_wide}
 
 valid_row : (values : List Val) → AreValid values → IsValidRow (map shown values)
@@ -42,8 +42,8 @@ borrowed_more [] v h k = (k, tt)
 borrowed_more (w ∷ values) v h k = (h.0, borrowed_more values v h.1 k)
 
 -- no values of no column
-pub lent_none : (id m end : ℕ) → m < end → AreLent [] id m end []
-lent_none id m end l = record {
+pub held_none : (id m end : ℕ) → m < end → AreHeldUntil [] id m end []
+held_none id m end l = record {
   later = l;
   valid = tt;
   borrowed = tt;
@@ -51,11 +51,11 @@ lent_none id m end l = record {
 }
 
 -- one value more
-pub lent_more : (columns : List (List Cell)) (cells : List Cell) (id m end ends until : ℕ)
+pub held_more : (columns : List (List Cell)) (cells : List Cell) (id m end ends until : ℕ)
     (values : List Val) (v : Val) → m < until → until ≤ end → until ≤ ends
-    → AreLent columns id m end values → IsLent cells id m ends v
-    → AreLent (columns ++ cells ∷ []) id m until (values ++ v ∷ [])
-lent_more columns cells id m end ends until values v l a b h k =
+    → AreHeldUntil columns id m end values → IsHeldUntil cells id m ends v
+    → AreHeldUntil (columns ++ cells ∷ []) id m until (values ++ v ∷ [])
+held_more columns cells id m end ends until values v l a b h k =
     record {
       later = l;
       valid = valid_more values v h.valid k.valid;
@@ -67,9 +67,9 @@ lent_more columns cells id m end ends until values v l a b h k =
     }
 
 -- the same of what is left of columns
-pub lent_of_left : (id m : ℕ) (a b : List (List Cell)) (end : ℕ) (values : List Val)
-    → AreLeft id m a b → AreLent b id m end values → AreLent a id m end values
-lent_of_left id m a b end values l h = record {
+pub held_of_left : (id m : ℕ) (a b : List (List Cell)) (end : ℕ) (values : List Val)
+    → AreLeft id m a b → AreHeldUntil b id m end values → AreHeldUntil a id m end values
+held_of_left id m a b end values l h = record {
   later = h.later;
   valid = h.valid;
   borrowed = h.borrowed;
@@ -86,8 +86,8 @@ added_none start columns id entries = record {
 }
 
 -- the entry of a row that is put
-abbrev pub lent_entry : List Val → ℕ → ℕ → Entry (List Value)
-lent_entry values m until = record { item = map shown values; period = span m until }
+abbrev pub held_entry : List Val → ℕ → ℕ → Entry (List Value)
+held_entry values m until = record { item = map shown values; period = span m until }
 
 more_moments : (start m until n : ℕ) → m ≤ until → covers (span start m) n ≡ true
     → covers (span start until) n ≡ true
@@ -106,8 +106,8 @@ more_of start m until columns id e l h = record {
 }
 
 lent_row : (start m until : ℕ) (columns : List (List Cell)) (id : ℕ) (values : List Val)
-    → start ≤ m → AreLent columns id m until values
-    → IsRowOf (span start until) columns id (lent_entry values m until)
+    → start ≤ m → AreHeldUntil columns id m until values
+    → IsRowOf (span start until) columns id (held_entry values m until)
 lent_row start m until columns id values l h = record {
   wide = row_wide id m columns (map shown values)
       (h.held m (omega arith) h.later);
@@ -121,19 +121,19 @@ lent_row start m until columns id values l h = record {
 -- a row more
 pub added_more : (start m until : ℕ) (columns : List (List Cell)) (id : ℕ)
     (before after : List (Entry (List Value))) (values : List Val) → start ≤ m
-    → AreAdded (span start m) columns id before after → AreLent columns id m until values
-    → AreAdded (span start until) columns id before (after ++ lent_entry values m until ∷ [])
+    → AreAdded (span start m) columns id before after → AreHeldUntil columns id m until values
+    → AreAdded (span start until) columns id before (after ++ held_entry values m until ∷ [])
 added_more start m until columns id before after values l h k =
     record {
-      kept = λ e i. in_left e after (lent_entry values m until ∷ []) (h.kept e i);
-      new = λ e i. by_new e (in_append e after (lent_entry values m until ∷ []) i);
+      kept = λ e i. in_left e after (held_entry values m until ∷ []) (h.kept e i);
+      new = λ e i. by_new e (in_append e after (held_entry values m until ∷ []) i);
       each = λ n i. by_moment n i (cases_lt n m);
     }
   where
     later : m ≤ until
     later = let a = k.later in omega arith
 
-    last : IsRowOf (span start until) columns id (lent_entry values m until)
+    last : IsRowOf (span start until) columns id (held_entry values m until)
     last = lent_row start m until columns id values l k
 
     wider : (e : Entry (List Value)) → In e before ⊎ IsRowOf (span start m) columns id e
@@ -141,27 +141,27 @@ added_more start m until columns id before after values l h k =
     wider e (inl i) = inl i
     wider e (inr r) = inr (more_of start m until columns id e later r)
 
-    by_new : (e : Entry (List Value)) → In e after ⊎ In e (lent_entry values m until ∷ [])
+    by_new : (e : Entry (List Value)) → In e after ⊎ In e (held_entry values m until ∷ [])
         → In e before ⊎ IsRowOf (span start until) columns id e
     by_new e (inl i) = wider e (h.new e i)
     by_new e (inr (inl q)) = inr (subst (IsRowOf (span start until) columns id) q last)
     by_new e (inr (inr i)) = absurd i
 
     by_moment : (n : ℕ) → covers (span start until) n ≡ true → (n < m) ⊎ (m ≤ n)
-        → (e : Entry (List Value)) × In e (after ++ lent_entry values m until ∷ [])
+        → (e : Entry (List Value)) × In e (after ++ held_entry values m until ∷ [])
         × IsRowOf (span start until) columns id e × (covers e.period n ≡ true)
     by_moment n i (inl a) =
         let u = (covers_is (span start until) n).0 i in
         let r = h.each n ((covers_is (span start m) n).1 (u.0, a)) in (
           r.0,
-          in_left r.0 after (lent_entry values m until ∷ []) r.1,
+          in_left r.0 after (held_entry values m until ∷ []) r.1,
           more_of start m until columns id r.0 later r.2,
           r.3,
         )
     by_moment n i (inr a) =
         let u = (covers_is (span start until) n).0 i in (
-          lent_entry values m until,
-          in_right (lent_entry values m until) after (lent_entry values m until ∷ []) (inl refl),
+          held_entry values m until,
+          in_right (held_entry values m until) after (held_entry values m until ∷ []) (inl refl),
           last,
           (covers_is (span m until) n).1 (a, u.1),
         )
@@ -169,7 +169,7 @@ added_more start m until columns id before after values l h k =
 -- the entries of rows with one more
 pub entries_more : (rows : List TimedRow) (values : Vec Val Global) (m until : ℕ)
     → entries_of (rows ++ row_of values (span m until) ∷ [])
-    ≡ entries_of rows ++ lent_entry values.items m until ∷ []
+    ≡ entries_of rows ++ held_entry values.items m until ∷ []
 entries_more rows values m until = map-append entry_of rows (row_of values (span m until) ∷ [])
 
 pub all_borrowed_more : (rows : List TimedRow) (row : TimedRow) → AllBorrowed rows

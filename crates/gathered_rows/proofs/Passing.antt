@@ -15,7 +15,7 @@ use Rattle.column_log.specs.Scans.{seen_cell}
 use Rattle.column_log.specs.declared.scan.CellEntry.{CellEntry}
 use Rattle.table_histories.specs.Store.{Cell}
 use Rattle.gathered_rows.specs.Entries.{Has, HasRow, Precedes, PrecedesAll, InTurn, AllInTurn}
-use Rattle.gathered_rows.specs.Walking.{is_past, IsFrom, IsLeft, AreLeft, BeginsOn, IsLent}
+use Rattle.gathered_rows.specs.Walking.{is_past, IsFrom, IsLeft, AreLeft, BeginsOn, IsHeldUntil}
 
 -- what the test means
 pub past_is : (id m : ℕ) (c : Cell) → is_past id m c ≡ true
@@ -256,15 +256,15 @@ no_first id m all left unread None v i f l h =
 no_first id m all left unread (Some e) v i f l h = absurd (cc)
 
 -- its value is the one that the row has
-pub lent_first : (id m : ℕ) (all left unread : List Cell) (head : Option CellEntry)
+pub held_first : (id m : ℕ) (all left unread : List Cell) (head : Option CellEntry)
     (e : CellEntry) (v : Value) (copied : Val) (end : ℕ) → head ≡ Some e
     → MatchOption head (left ≡ []) (λ x. left ≡ seen_cell x ∷ unread) → BeginsOn id m left
     → IsLeft id m all left → IfSome head (λ x. IsValid (shown x.value))
     → IfSome head (λ x. IsBorrowed x.value) → Has all id v m → shown copied ≡ shown e.value
     → (IsBorrowed e.value → IsBorrowed copied) → end ≡ e.period.end
-    → IsLent all id m end copied
-lent_first id m all left unread None e v copied end i f o l valid lent h s b n = absurd (cc)
-lent_first id m all left unread (Some x) e v copied end i f o l valid lent h s b n =
+    → IsHeldUntil all id m end copied
+held_first id m all left unread None e v copied end i f o l valid held_until h s b n = absurd (cc)
+held_first id m all left unread (Some x) e v copied end i f o l valid held_until h s b n =
     let is : x ≡ e = cc in
     let on : IsFrom id (m + 1) x.id x.period.end = subst (BeginsOn id m) f o in
     let r = first_has id m all (seen_cell x) unread v (subst (IsLeft id m all) f l) on h in
@@ -273,7 +273,7 @@ lent_first id m all left unread (Some x) e v copied end i f o l valid lent h s b
     record {
       later = subst (λ w. m < w) last r.0;
       valid = subst IsValid same valid;
-      borrowed = b (subst (λ (w : CellEntry). IsBorrowed w.value) is lent);
+      borrowed = b (subst (λ (w : CellEntry). IsBorrowed w.value) is held_until);
       held = λ k p q.
           subst (λ (w : Value). Has all id w k) same (r.1 k p (subst (λ w. k < w) (sym last) q));
     }

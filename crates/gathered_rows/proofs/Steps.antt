@@ -9,9 +9,10 @@ use Rattle.prima_base.specs.declared.value.Val.{Val}
 use Rattle.table_histories.specs.Store.{Cell}
 use Rattle.gathered_rows.specs.declared.cursor.Cursor.{Cursor}
 use Rattle.gathered_rows.specs.Entries.{Has, HasRow, InTurn, AllInTurn}
-use Rattle.gathered_rows.specs.Walking.{left, all_left, unread, IsLeft, AreLeft, IsLent, AreLent}
+use Rattle.gathered_rows.specs.Walking.{left, all_left, unread, IsLeft, AreLeft}
+use Rattle.gathered_rows.specs.Walking.{IsHeldUntil, AreHeldUntil}
 use Rattle.gathered_rows.proofs.Passing.{left_more, column_value, turn_at}
-use Rattle.gathered_rows.proofs.Adding.{lent_more}
+use Rattle.gathered_rows.proofs.Adding.{held_more}
 
 -- the column at a place that was not gone over is what the cursor there has left
 column_at : (before : List (List Cell)) (cursors : List Cursor) (k : ℕ) (x : Cursor) (d : List Cell)
@@ -71,9 +72,9 @@ module _ (before : List (List Cell)) (cursors : List Cursor) (k : ℕ) (x : Curs
         let s = ap (λ (c : Cursor). length c.unread) is in
         omega (arith, n, s, a, b)
 
-  pub lent_here : (id m end ends until : ℕ) (values news : List Val) (v : Val) → m < until
-      → until ≤ end → until ≤ ends → AreLent (take k before) id m end values
-      → news ≡ values ++ v ∷ [] → IsLent (left x) id m ends v
-      → AreLent (take (k + 1) before) id m until news
-  lent_here id m end ends until values news v l a b h n g = rw (next_before, n)
-      (lent_more (take k before) (left x) id m end ends until values v l a b h g)
+  pub held_here : (id m end ends until : ℕ) (values news : List Val) (v : Val) → m < until
+      → until ≤ end → until ≤ ends → AreHeldUntil (take k before) id m end values
+      → news ≡ values ++ v ∷ [] → IsHeldUntil (left x) id m ends v
+      → AreHeldUntil (take (k + 1) before) id m until news
+  held_here id m end ends until values news v l a b h n g = rw (next_before, n)
+      (held_more (take k before) (left x) id m end ends until values v l a b h g)

@@ -54,15 +54,16 @@ abbrev pub BeginsOn : ℕ → ℕ → List Cell → Type 0
 BeginsOn id m [] = ⊤
 BeginsOn id m (c ∷ cells) = IsFrom id (m + 1) c.id c.period.end
 
--- the row has this value from the moment up to the end; it is one that a table lends
-pub record IsLent (cells : List Cell) (id m end : ℕ) (v : Val) : Type 0 where
+-- the row has this value from the moment up to the end; it is borrowed from the table
+pub record IsHeldUntil (cells : List Cell) (id m end : ℕ) (v : Val) : Type 0 where
   pub later : m < end
   pub valid : IsValid (shown v)
   pub borrowed : IsBorrowed v
   pub held : (n : ℕ) → m ≤ n → n < end → Has cells id (shown v) n
 
--- the row has these values from the moment up to the end; they are such as a table lends
-pub record AreLent (columns : List (List Cell)) (id m end : ℕ) (values : List Val) : Type 0 where
+-- the row has these values from the moment up to the end; they are borrowed from the table
+pub record AreHeldUntil (columns : List (List Cell)) (id m end : ℕ) (values : List Val)
+    : Type 0 where
   pub later : m < end
   pub valid : AreValid values
   pub borrowed : AreBorrowed values

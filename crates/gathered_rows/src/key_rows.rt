@@ -6,7 +6,7 @@ ghost use Rattle.prima_base.specs.declared.value.Value.{Value as OneValue};
 ghost use Rattle.prima_base.specs.Timed.{entries_of};
 ghost use Rattle.timed_choices.specs.BorrowedOutputs.{AllBorrowed};
 ghost use Rattle.gathered_rows.specs.Entries.{HasRow, AllInTurn};
-ghost use Rattle.gathered_rows.specs.Walking.{all_left, unread, AreLeft, AreLent, AreAdded};
+ghost use Rattle.gathered_rows.specs.Walking.{all_left, unread, AreLeft, AreHeldUntil, AreAdded};
 ghost use Rattle.gathered_rows.specs.Walking.{both};
 
 use crate::cursor::Cursor;
@@ -32,7 +32,7 @@ fn put_values<'a, L: Ledger>(
     requires there { (row : List OneValue) × HasRow (all_left cursors.old) id row moment }
     ensures left { OnOk result (AreLeft id moment (all_left cursors.old) (all_left cursors.new)) }
     ensures values { IfOk result (λ until.
-        AreLent (all_left cursors.old) id moment until values.new.items) }
+        AreHeldUntil (all_left cursors.old) id moment until values.new.items) }
     ensures until { IfOk result (λ until. until ≤ end) }
     ensures cost { steps.new + unread cursors.new ≡ steps.old + unread cursors.old }
     ensures rises { steps.old ≤ steps.new }

@@ -6,7 +6,7 @@ ghost use Rattle.prima_base.specs.declared.value.Value.{Value as OneValue};
 ghost use Rattle.prima_base.specs.declared.value.Val.{Val as OneVal};
 ghost use Rattle.history_store.specs.Scans.{seen_cell};
 ghost use Rattle.gathered_rows.specs.Entries.{Has, InTurn};
-ghost use Rattle.gathered_rows.specs.Walking.{left, is_past, IsLeft, BeginsOn, IsLent};
+ghost use Rattle.gathered_rows.specs.Walking.{left, is_past, IsLeft, BeginsOn, IsHeldUntil};
 
 use crate::cursor::Cursor;
 use prima_base::{NoMemory, Steps, Val};
@@ -55,7 +55,7 @@ pub(crate) fn put_value<'a, L: Ledger>(
     ensures left { IsLeft id moment (left cursor.old) (left cursor.new) }
     ensures value { IfOk result (λ end. (v : OneVal)
         × (values.new.items ≡ values.old.items ++ v ∷ [])
-        × IsLent (left cursor.old) id moment end v) }
+        × IsHeldUntil (left cursor.old) id moment end v) }
     ensures cost { steps.new + length cursor.new.unread ≡ steps.old + length cursor.old.unread }
     ensures rises { steps.old ≤ steps.new }
 {

@@ -6,8 +6,8 @@
 #![tactic(auto)]
 
 mod cursor;
-mod gathering;
+mod gathered_table;
 mod key_rows;
 mod left_entries;
 
-pub use gathering::gather;
+pub use gathered_table::gather;

@@ -9,7 +9,7 @@ use Rattle.timed_rows.specs.Rows.{row_of}
 use Rattle.gathered_rows.specs.Walking.{all_left, AreAdded}
 use Rattle.gathered_rows.proofs.Passing.{each_is_left, left_turn, row_left, each_left_of_left}
 use Rattle.gathered_rows.proofs.Passing.{left_later}
-use Rattle.gathered_rows.proofs.Adding.{added_none, added_more, lent_of_left, entries_more}
+use Rattle.gathered_rows.proofs.Adding.{added_none, added_more, held_of_left, entries_more}
 use Rattle.gathered_rows.proofs.Adding.{all_borrowed_more}
 use Rattle.gathered_rows.proofs.key_rows.put_rows.Goals as goal
 
@@ -54,13 +54,13 @@ moments-preserved g c =
     let before = all_left c.args.cursors.now in
     let m = c.moments.moment in
     let until = c.in_ok-until.until in
-    let lent = c.in_ok-until.ensures.values in
-    let l = lent.later in
+    let held_until = c.in_ok-until.ensures.values in
+    let l = held_until.later in
     let f = i.from in
     let e = c.end-in-moments.ensures.end in
     let u = c.in_ok-until.ensures.until in
-    let all = lent_of_left c.args.id m before (all_left c.moments.cursors) until
-    c.put_values.new.values.items i.left lent in
+    let all = held_of_left c.args.id m before (all_left c.moments.cursors) until
+    c.put_values.new.values.items i.left held_until in
     let p : c.between.result ≡ span m until = cc in
     let rows = c.in_ok-push_from.ensures.rows
     ∙ ap (λ (s : Span). c.moments.rows.items ++ row_of c.put_values.new.values s ∷ []) p in
@@ -82,7 +82,7 @@ moments-preserved g c =
           c.put_values.new.values.items f i.rows all);
       borrowed = λ h. subst AllBorrowed (sym rows)
           (all_borrowed_more c.moments.rows.items (row_of c.put_values.new.values (span m until))
-          (i.borrowed h) lent.borrowed);
+          (i.borrowed h) held_until.borrowed);
       count = c.put_values.ensures.cost ∙ i.count;
       rises = omega (arith, i.rises, c.put_values.ensures.rises);
     }

@@ -4,7 +4,7 @@ use Rattle.prima_base.specs.declared.value.Value.{Value}
 use Rattle.gathered_rows.specs.declared.cursor.Cursor.{Cursor}
 use Rattle.gathered_rows.specs.Entries.{Has, InTurn}
 use Rattle.gathered_rows.specs.Walking.{left, all_left}
-use Rattle.gathered_rows.proofs.Steps.{turn_here, value_here, left_here, rest_here, lent_here}
+use Rattle.gathered_rows.proofs.Steps.{turn_here, value_here, left_here, rest_here, held_here}
 use Rattle.gathered_rows.proofs.Steps.{count_here}
 use Rattle.gathered_rows.proofs.key_rows.put_values.Goals as goal
 
@@ -39,7 +39,7 @@ loop-k-preserved g c =
     let long = i.long ∙ sym (length-map c.args.cursors.now left) in
     let below : k < length cursors = omega (arith, i.long) in
     let r = c.in_ok-ends.ensures.value in
-    let a = i.lent.later in
+    let a = i.held_until.later in
     let b = r.2.later in
     let until = c.min-until.result in
     record {
@@ -47,10 +47,11 @@ loop-k-preserved g c =
       done = left_here before cursors k x long below is i.rest y c.args.id c.args.moment i.done
           c.put_value.ensures.left;
       rest = rest_here before cursors k x long below is i.rest y;
-      lent = lent_here before cursors k x long below is i.rest c.args.id c.args.moment
+      held_until = held_here before cursors k x long below is i.rest c.args.id c.args.moment
           c.loop-k.until c.in_ok-ends.ends until c.loop-k.values.items
           c.put_value.new.values.items r.0 (omega (arith, c.min-until.ensures))
-          (omega (arith, c.min-until.ensures)) (omega (arith, c.min-until.ensures)) i.lent r.1 r.2;
+          (omega (arith, c.min-until.ensures)) (omega (arith, c.min-until.ensures)) i.held_until r.1
+          r.2;
       until = omega (arith, c.min-until.ensures, i.until);
       count = count_here before cursors k x long below is i.rest y c.loop-k.steps
           c.put_value.new.steps _ c.put_value.ensures.cost i.count;

@@ -1,5 +1,5 @@
 use Rattle.std.proofs.Common.{◌≡◌, ◌+◌, ◌≤◌, take, drop, length}
-use Rattle.gathered_rows.specs.Walking.{all_left, unread, AreLeft, AreLent}
+use Rattle.gathered_rows.specs.Walking.{all_left, unread, AreLeft, AreHeldUntil}
 use Rattle.gathered_rows.proofs.key_rows.put_values.Given as goal
 
 abbrev pub invariant-loop-k : goal.invariant-loop-k
@@ -8,7 +8,8 @@ invariant-loop-k g l = record {
   done : AreLeft l.id l.moment (take l.k (all_left l.initial.cursors))
       (take l.k (all_left l.cursors));
   rest : drop l.k (all_left l.cursors) ≡ drop l.k (all_left l.initial.cursors);
-  lent : AreLent (take l.k (all_left l.initial.cursors)) l.id l.moment l.until l.values.items;
+  held_until : AreHeldUntil (take l.k (all_left l.initial.cursors)) l.id l.moment l.until
+      l.values.items;
   until : l.until ≤ l.end;
   count : l.steps + unread l.cursors ≡ l.initial.steps + unread l.initial.cursors;
   rises : l.initial.steps ≤ l.steps;

@@ -1,5 +1,5 @@
 use Rattle.gathered_rows.specs.Walking.{left}
-use Rattle.gathered_rows.proofs.Passing.{no_first, lent_first}
+use Rattle.gathered_rows.proofs.Passing.{no_first, held_first}
 use Rattle.gathered_rows.proofs.left_entries.put_value.Goals as goal
 
 pub unreachable-requires : goal.unreachable-requires
@@ -12,7 +12,7 @@ pub returns-clause-value : goal.returns-clause-value
 returns-clause-value g c = (
   c.in_ok-copy.field-0,
   c.in_ok-push.ensures.items,
-  lent_first c.args.id c.args.moment (left c.args.cursor.now) (left c.pass_by.new.cursor)
+  held_first c.args.id c.args.moment (left c.args.cursor.now) (left c.pass_by.new.cursor)
       c.pass_by.new.cursor.unread c.pass_by.new.cursor.head c.in-Some.entry c.requires.there.0
       c.in_ok-copy.field-0 c.end.result c.in-Some.is c.pass_by.ensures.first
       c.pass_by.ensures.on c.pass_by.ensures.left c.pass_by.new.cursor.valid

@@ -12,7 +12,7 @@ use Rattle.gathered_rows.specs.Entries.{AllInTurn, HasRow}
 use Rattle.gathered_rows.specs.Walking.{all_left, unread, both, AreLeft, AreAdded}
 use Rattle.gathered_rows.proofs.KeysInTurn.{IsAt, at_first, turn_at_key, row_at_key, at_next}
 use Rattle.gathered_rows.proofs.KeysInTurn.{all_gathered}
-use Rattle.gathered_rows.proofs.gathering.gather.Goals as goal
+use Rattle.gathered_rows.proofs.gathered_table.gather.Goals as goal
 
 pub keys-init : goal.keys-init
 keys-init g c =

@@ -1,6 +1,6 @@
 use Rattle.std.proofs.Common.{◌≡◌, ◌+◌, length, drop}
 use Rattle.gathered_rows.specs.Walking.{unread}
-use Rattle.gathered_rows.proofs.gathering.read_all.Given as goal
+use Rattle.gathered_rows.proofs.gathered_table.read_all.Given as goal
 
 abbrev pub invariant-loop-k : goal.invariant-loop-k
 invariant-loop-k g l = record {

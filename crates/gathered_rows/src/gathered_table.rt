@@ -58,8 +58,10 @@ fn read_all<L: Ledger>(cursors: &mut [Cursor<'_>], steps: &mut Steps<L>)
 }
 
 /// What each row had in these columns, in turn, at each moment of the slice: rows with the periods
-/// in which they hold, all inside the slice. It reads the keys and the entries of these columns,
-/// once each. Texts stay borrowed by the table. The one error is `NoMemory`, where memory runs out.
+/// in which they hold, all inside the slice. Where they come, and that a row comes once for each
+/// longest run of equal values, is not promised: what is made of them is coalesced. It reads the
+/// keys and the entries of these columns, once each, and begins with room for a row of each key.
+/// Texts stay borrowed from the table. The one error is `NoMemory`, where memory runs out.
 pub fn gather<'a, L: Ledger>(
     alloc: Global,
     table: &'a StoredTable,

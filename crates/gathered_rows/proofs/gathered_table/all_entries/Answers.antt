@@ -7,7 +7,7 @@ use Rattle.gathered_rows.specs.Gathered.{or_none, columns_in}
 use Rattle.gathered_rows.specs.Reading.{count_in}
 use Rattle.gathered_rows.specs.Walking.{left, all_left, unread}
 use Rattle.gathered_rows.proofs.Picking.{column_there, in_at, next_names, entries_more}
-use Rattle.gathered_rows.proofs.gathering.all_entries.Goals as goal
+use Rattle.gathered_rows.proofs.gathered_table.all_entries.Goals as goal
 
 pub unreachable-requires : goal.unreachable-requires
 unreachable-requires c =

@@ -2,7 +2,7 @@ use Rattle.std.proofs.Common.{◌≡◌, take}
 use Rattle.gathered_rows.specs.Reading.{entries_in}
 use Rattle.gathered_rows.specs.Walking.{all_left, unread}
 use Rattle.gathered_rows.specs.Gathered.{columns_in}
-use Rattle.gathered_rows.proofs.gathering.all_entries.Given as goal
+use Rattle.gathered_rows.proofs.gathered_table.all_entries.Given as goal
 
 abbrev pub invariant-loop-name : goal.invariant-loop-name
 invariant-loop-name l = record {

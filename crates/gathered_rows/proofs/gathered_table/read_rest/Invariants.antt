@@ -1,5 +1,5 @@
 use Rattle.std.proofs.Common.{◌≡◌, ◌+◌, length}
-use Rattle.gathered_rows.proofs.gathering.read_rest.Given as goal
+use Rattle.gathered_rows.proofs.gathered_table.read_rest.Given as goal
 
 abbrev pub invariant-rest : goal.invariant-rest
 invariant-rest g l = l.steps + length l.cursor.unread

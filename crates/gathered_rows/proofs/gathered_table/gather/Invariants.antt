@@ -3,7 +3,7 @@ use Rattle.prima_base.specs.Timed.{entries_of}
 use Rattle.timed_choices.specs.BorrowedOutputs.{AllBorrowed}
 use Rattle.gathered_rows.specs.Walking.{all_left, unread}
 use Rattle.gathered_rows.proofs.KeysInTurn.{IsAt}
-use Rattle.gathered_rows.proofs.gathering.gather.Given as goal
+use Rattle.gathered_rows.proofs.gathered_table.gather.Given as goal
 
 abbrev pub invariant-keys : goal.invariant-keys
 invariant-keys g l = record {
