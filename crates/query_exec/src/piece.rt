@@ -24,17 +24,21 @@ use join_exec::run_piece;
 use piece_ir::Piece;
 use prima_base::{NoMemory, Period, Steps};
 use std::alloc::Global;
+use std::mem;
 use std::sync::ledger::Ledger;
 use timed_rows::TimedRows;
 use version_groups::Groups;
 
 /// Puts rows after the others. The first are taken as they are, so that what is read of one table
 /// at one time is copied nowhere on the way.
-pub(crate) fn put_rows<'a>(rows: &mut TimedRows<'a>, news: TimedRows<'a>) -> Result<(), NoMemory>
+pub(crate) fn put_rows<'a>(
+    rows: &mut TimedRows<'a>,
+    mut news: TimedRows<'a>,
+) -> Result<(), NoMemory>
     ensures items { OnOk result (rows.new.items ≡ rows.old.items ++ news.entry.items) }
 {
     if rows.is_empty() {
-        *rows = news;
+        mem::swap(rows, &mut news);
         return Ok(());
     }
     rows.append(news)
