@@ -86,6 +86,23 @@ pub first_accepted : (tables : Tables) (ops : List Op) (op : Op) → 1 ≤ lengt
 first_accepted tables [] op l e a = absurd (omega arith)
 first_accepted tables (x ∷ xs) op l e a = ap (λ (o : Op). op_fault tables (operator_of o)) e ∙ a.0
 
+-- the operators after the first are fewer, and have few nodes where all have
+pub rest_shorter : (ops : List Op) → 1 ≤ length ops
+    → length (take (length ops - 1) (drop 1 ops)) < length ops
+rest_shorter [] l = absurd (omega arith)
+rest_shorter (x ∷ xs) l =
+    let rest : take (length (x ∷ xs) - 1) (drop 1 (x ∷ xs)) ≡ xs =
+    take_all (length (x ∷ xs) - 1) xs (omega arith) in
+    subst (λ (ys : List Op). length ys < length (x ∷ xs)) (sym rest) (omega arith)
+
+pub rest_few : (ops : List Op) → 1 ≤ length ops → HaveFewNodes (operators_of ops)
+    → HaveFewNodes (operators_of (take (length ops - 1) (drop 1 ops)))
+rest_few [] l f = absurd (omega arith)
+rest_few (x ∷ xs) l f =
+    let rest : take (length (x ∷ xs) - 1) (drop 1 (x ∷ xs)) ≡ xs =
+    take_all (length (x ∷ xs) - 1) xs (omega arith) in
+    subst (λ (ys : List Op). HaveFewNodes (operators_of ys)) (sym rest) f.1
+
 -- the operators after the first lead on from the tables after it
 module _ (tables next : Tables) (op : Op) where
   pub rest_accepted : (ops : List Op) → 1 ≤ length ops → op ≡ get_or ops 0 op
