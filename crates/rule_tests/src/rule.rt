@@ -1,7 +1,8 @@
 //! The twelve boxed rules: which boxes make a book, which fault is told of those that do not, and
 //! what each rule answers with ample memory.
-ghost use Rattle.std.specs.Prelude.{IfOk, MatchOption, ⊤};
-ghost use Rattle.smo_meaning.specs.After.{IsValid};
+ghost use Rattle.std.specs.Prelude.{◌≡◌, IfOk, MatchOption, None, ⊤};
+ghost use Rattle.smo_types.specs.Operators.{operator_of};
+ghost use Rattle.smo_meaning.specs.After.{op_fault, schema_after, IsValid};
 ghost use Rattle.piece_meaning.specs.Typed.{IsTyped};
 ghost use Rattle.piece_ir.specs.Shown.{piece_of};
 
@@ -9,23 +10,24 @@ use crate::operator::{next, operator, two_tables};
 use cond_expr::Cond;
 use piece_ir::Piece;
 use prima_base::{Name, NoMemory, OpKind};
-use rewrite_rules::{BookFault, NopRule, Rule, RuleBook, push_every_rule};
+use rewrite_rules::{BookFault, RenameColumnRule, Rule, RuleBook, push_every_rule};
 use schema_catalog::Schema;
 use smo_ops::Op;
 use std::alloc::Global;
-use std::process::Abort;
 use std::test::Fail;
 
-fn is_nop_missing<R: Rule>(alloc: Global, rules: Vec<R>) -> bool {
+// Whether these rules make no book because none of them is of this kind.
+fn is_missing<R: Rule>(alloc: Global, rules: Vec<R>, missing: OpKind) -> bool {
     match RuleBook::new(alloc, rules) {
-        Err(BookFault::Missing(kind)) => kind == OpKind::Nop,
+        Err(BookFault::Missing(kind)) => kind == missing,
         _ => false,
     }
 }
 
-fn is_nop_twice<R: Rule>(alloc: Global, rules: Vec<R>) -> bool {
+// Whether these rules make no book because two of them are of this kind.
+fn is_twice<R: Rule>(alloc: Global, rules: Vec<R>, twice: OpKind) -> bool {
     match RuleBook::new(alloc, rules) {
-        Err(BookFault::Twice(kind)) => kind == OpKind::Nop,
+        Err(BookFault::Twice(kind)) => kind == twice,
         _ => false,
     }
 }
@@ -59,11 +61,44 @@ fn names_of(alloc: Global, pieces: &[Piece]) -> Result<Vec<u8>, NoMemory> {
     Ok(names)
 }
 
-// What the book answers to the operator and the piece on a table after it; none where the operator
-// is refused.
-fn answered<R: Rule>(
+// What a book of these rules answers; none where they make no book.
+fn rewritten<R: Rule>(
     alloc: Global,
-    book: &RuleBook<R>,
+    rules: Vec<R>,
+    before: &Schema,
+    op: &Op,
+    piece: &Piece,
+) -> Result<Option<Vec<Piece>>, NoMemory>
+    requires valid { IsValid before.now }
+    requires accepted { op_fault before.now (operator_of op.now) ≡ None }
+    requires typed { IsTyped (schema_after before.now (operator_of op.now)) (piece_of piece.now) }
+{
+    match RuleBook::new(alloc, rules) {
+        Ok(book) => Ok(Some(book.rewrite(alloc, op, before, piece)?)),
+        Err(_) => Ok(None),
+    }
+}
+
+// What a book of the twelve boxed rules answers.
+fn rewritten_by_all(
+    alloc: Global,
+    before: &Schema,
+    op: &Op,
+    piece: &Piece,
+) -> Result<Option<Vec<Piece>>, NoMemory>
+    requires valid { IsValid before.now }
+    requires accepted { op_fault before.now (operator_of op.now) ≡ None }
+    requires typed { IsTyped (schema_after before.now (operator_of op.now)) (piece_of piece.now) }
+{
+    let mut rules: Vec<Box<dyn Rule>> = Vec::new(alloc);
+    push_every_rule!(alloc, rules);
+    rewritten(alloc, rules, before, op, piece)
+}
+
+// What it answers to the operator and the piece on a table after it; none where the operator is
+// refused.
+fn answered(
+    alloc: Global,
     before: &Schema,
     op: &Op,
     table: &Name,
@@ -76,7 +111,39 @@ fn answered<R: Rule>(
     let Some(piece) = piece_on(alloc, &schema_after, table)? else {
         return Ok(None);
     };
-    Ok(Some(book.rewrite(alloc, op, before, &piece)?))
+    rewritten_by_all(alloc, before, op, &piece)
+}
+
+// The names of the tables of these pieces, where there are any.
+fn names_in(alloc: Global, pieces: Option<Vec<Piece>>) -> Result<Vec<u8>, Fail> {
+    match pieces {
+        Some(pieces) => Ok(names_of(alloc, &pieces)?),
+        None => Err(Fail::new("twelve rules make a book, and each operator is accepted")),
+    }
+}
+
+// The names of the tables of what it answers to the operator, on a table after it.
+fn names_after(alloc: Global, before: &Schema, op: &Op, table: &[u8]) -> Result<Vec<u8>, Fail>
+    requires { IsValid before.now }
+{
+    let table = Name::new(alloc, table)?;
+    let pieces = answered(alloc, before, op, &table)?;
+    names_in(alloc, pieces)
+}
+
+// The same for the operator of this text.
+fn names_answered(
+    alloc: Global,
+    before: &Schema,
+    text: &[u8],
+    table: &[u8],
+) -> Result<Vec<u8>, Fail>
+    requires { IsValid before.now }
+{
+    match operator(alloc, text) {
+        Some(op) => names_after(alloc, before, &op, table),
+        None => Err(Fail::new("each text is an operator")),
+    }
 }
 
 // Of each kind of operator one, a table after it, and the tables of the pieces that stand for it.
@@ -95,39 +162,31 @@ const CASES: [(&[u8], &[u8], &[u8]); 12] = [
     (b"RENAME COLUMN b IN r TO c", b"r", b"r;"),
 ];
 
-// Asks the book of these rules in each case, and hands them back.
-fn asked_in_each<R: Rule>(rt: &impl Abort, alloc: Global, rules: Vec<R>) -> Result<Vec<R>, Fail> {
-    let Ok(book) = RuleBook::new(alloc, rules) else {
-        return Err(Fail::new("twelve rules make a book"));
-    };
+#[test]
+fn each_rule_answers(rt: HostRuntime) -> Result<(), Fail> {
+    let alloc = rt.alloc();
     let Some(before) = two_tables(alloc) else {
         return Err(Fail::new("two tables are made"));
     };
     for (text, table, names) in CASES {
-        let Some(op) = operator(alloc, text) else {
-            return Err(Fail::new("each text is an operator"));
-        };
-        let Some(pieces) = answered(alloc, &book, &before, &op, &Name::new(alloc, table)?)? else {
-            return Err(Fail::new("each operator is accepted"));
-        };
-        assert_eq!(rt; names_of(alloc, &pieces)?.as_slice(), names);
+        let answer = names_answered(alloc, &before, text, table)?;
+        assert_eq!(rt; answer.as_slice(), names);
     }
-    let RuleBook { rules } = book;
-    Ok(rules)
+    Ok(())
 }
 
 #[test]
-fn each_rule_answers(rt: HostRuntime) -> Result<(), Fail> {
+fn a_book_has_each_rule_once(rt: HostRuntime) -> Result<(), Fail> {
     let alloc = rt.alloc();
-    let mut rules: Vec<Box<dyn Rule>> = Vec::new(alloc);
-    push_every_rule!(alloc, rules);
-    let mut others = asked_in_each(&rt, alloc, rules)?;
-    // Without the first of the twelve boxes, which is NOP's.
-    let nop = others.remove(0);
-    assert!(rt; is_nop_missing(alloc, others));
+    let mut others: Vec<Box<dyn Rule>> = Vec::new(alloc);
+    push_every_rule!(alloc, others);
+    let Some(last) = others.pop() else {
+        return Err(Fail::new("there are twelve rules"));
+    };
+    assert!(rt; is_missing(alloc, others, OpKind::RenameColumn));
     let mut twice: Vec<Box<dyn Rule>> = Vec::new(alloc);
-    twice.push(nop)?;
-    twice.push(Box::new(alloc, NopRule)?)?;
-    assert!(rt; is_nop_twice(alloc, twice));
+    twice.push(last)?;
+    twice.push(Box::new(alloc, RenameColumnRule)?)?;
+    assert!(rt; is_twice(alloc, twice, OpKind::RenameColumn));
     Ok(())
 }
