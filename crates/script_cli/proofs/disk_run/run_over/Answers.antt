@@ -83,5 +83,5 @@ returns-in-Ok-clause-disk g c =
     (below c.drive-driven.new.archive).faults c.in-Ok.ensures.opened.unfailed
     c.drive-driven.ensures.disk)
 
-pub drive-driven-requires-clause-takes : goal.drive-driven-requires-clause-takes
-drive-driven-requires-clause-takes g c = c.in-Ok.ensures.opened.takes
+pub drive-driven-requires : goal.drive-driven-requires
+drive-driven-requires g c = record { takes = c.in-Ok.ensures.opened.takes }

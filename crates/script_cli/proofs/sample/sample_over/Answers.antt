@@ -95,5 +95,5 @@ returns-in-Ok-clause-disk g c =
     (below c.sample-status.new.archive).faults c.in-Ok.ensures.opened.unfailed
     c.sample-status.ensures.disk)
 
-pub sample-status-requires-clause-takes : goal.sample-status-requires-clause-takes
-sample-status-requires-clause-takes g c = c.in-Ok.ensures.opened.takes
+pub sample-status-requires : goal.sample-status-requires
+sample-status-requires g c = record { takes = c.in-Ok.ensures.opened.takes }
