@@ -1,12 +1,20 @@
--- What is answered so far, coalesced.
-use Rattle.std.proofs.Common.{◌≡◌, ℕ, Bool, true, false, List, [], refl, ◌∙◌, subst}
+-- What is answered so far, coalesced and packed.
+use Rattle.std.proofs.Common.{◌≡◌, ℕ, Bool, true, false, List, [], ◌∷◌, map, refl, ap, ◌∙◌}
+use Rattle.std.proofs.Common.{subst}
 use Rattle.relations.specs.Spans.{Span, covers}
+use Rattle.relations.specs.Timed.{Entry}
 use Rattle.prima_base.specs.declared.value.Val.{Val}
+use Rattle.prima_base.specs.declared.value.Value.{Value}
 use Rattle.prima_base.specs.declared.timed_row.TimedRow.{TimedRow}
-use Rattle.prima_base.specs.Timed.{rows_at}
-use Rattle.timed_choices.specs.BorrowedOutputs.{EachRow}
+use Rattle.prima_base.specs.Order.{shown, is_borrowed}
+use Rattle.prima_base.specs.Timed.{rows_at, entry_of, entries_of}
+use Rattle.prima_base.proofs.BorrowedVals.{stays_borrowed}
+use Rattle.cond_expr.specs.Trees.{Tree}
+use Rattle.timed_choices.specs.BorrowedOutputs.{EachRow, BorrowedValues, is_borrowed_output}
+use Rattle.timed_choices.specs.BorrowedOutputs.{StaysBorrowed, AllStayBorrowed}
 use Rattle.timed_choices.proofs.BorrowedLaws.{each_member, all_members}
 use Rattle.coalesce.specs.Joining.{HaveValuesOf}
+use Rattle.timed_rows.specs.Rows.{borrowed_of}
 
 -- rows with the values of others are so where these are
 pub each_by_values : (so : List Val → Type 0) (before after : List TimedRow)
@@ -23,3 +31,38 @@ still_none slice before after m same outside none = step (covers slice m) refl
     step : (b : Bool) → covers slice m ≡ b → rows_at after m ≡ []
     step true e = same e ∙ none
     step false e = outside e
+
+-- values that show the same, and lie elsewhere where the others do, stay borrowed where these do
+stays_like : (which : BorrowedValues) (outs : List Tree) (values new : List Val)
+    → map shown new ≡ map shown values → map is_borrowed new ≡ map is_borrowed values
+    → StaysBorrowed which outs values → StaysBorrowed which outs new
+stays_like which [] [] [] e b l = tt
+stays_like which [] [] (w ∷ new) e b l = absurd (cc)
+stays_like which [] (v ∷ values) new e b l = absurd l
+stays_like which (t ∷ outs) [] new e b l = absurd l
+stays_like which (t ∷ outs) (v ∷ values) [] e b l = absurd (cc)
+stays_like which (t ∷ outs) (v ∷ values) (w ∷ new) e b l =
+    let first : shown w ≡ shown v = cc in
+    let lies : is_borrowed w ≡ is_borrowed v = cc in
+    let more : map shown new ≡ map shown values = cc in
+    let all : map is_borrowed new ≡ map is_borrowed values = cc in (
+      λ so. stays_borrowed v w first lies (l.0
+          (subst (λ (x : Value). is_borrowed_output which x t ≡ true) first so)),
+      stays_like which outs values new more all l.1,
+    )
+
+-- so of rows that are the same
+pub same_stay : (which : BorrowedValues) (outs : List Tree) (before after : List TimedRow)
+    → entries_of after ≡ entries_of before → map borrowed_of after ≡ map borrowed_of before
+    → AllStayBorrowed which outs before → AllStayBorrowed which outs after
+same_stay which outs before [] e b l = tt
+same_stay which outs [] (a ∷ after) e b l = absurd (cc)
+same_stay which outs (r ∷ before) (a ∷ after) e b l =
+    let first : entry_of a ≡ entry_of r = cc in
+    let lies : borrowed_of a ≡ borrowed_of r = cc in
+    let more : entries_of after ≡ entries_of before = cc in
+    let all : map borrowed_of after ≡ map borrowed_of before = cc in (
+      stays_like which outs r.values.items a.values.items
+          (ap (λ (e : Entry (List Value)). e.item) first) lies l.0,
+      same_stay which outs before after more all l.1,
+    )

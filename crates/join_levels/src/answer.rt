@@ -25,7 +25,7 @@ use timed_rows::TimedRows;
 const FEW: usize = 65_536;
 
 /// What is answered so far. It is coalesced whenever it has doubled, so that it has not many more
-/// rows than the list of it.
+/// rows, and values, than the list of it.
 #[derive(Drop)]
 pub(crate) struct Answered<'a> {
     pub(crate) rows: TimedRows<'a>,
@@ -132,9 +132,35 @@ fn put_choice_answers<'a>(
     Ok(())
 }
 
+// Coalesces the rows, and keeps no values beside theirs.
+fn coalesce_and_pack(
+    alloc: Global,
+    rows: &mut TimedRows<'_>,
+    slice: Period,
+) -> Result<(), NoMemory>
+    ensures borrowed { (which : BorrowedValues) → (outs : List Tree)
+        → AllStayBorrowed which outs rows.old.items
+        → AllStayBorrowed which outs rows.new.items }
+    ensures same { (m : ℕ) → covers slice m ≡ true
+        → rows_at rows.new.items m ≡ rows_at rows.old.items m }
+    ensures inside { (m : ℕ) → rows_at rows.old.items m ≡ [] → rows_at rows.new.items m ≡ [] }
+{
+    let before = rows.len();
+    coalesce_in_place(rows, slice);
+    if rows.len() < before {
+        rows.pack(alloc)?;
+    }
+    Ok(())
+}
+
 // Coalesces the rows, where they are as many as the limit. Answered is at how many they are
 // coalesced next.
-fn settled(rows: &mut TimedRows<'_>, slice: Period, limit: usize) -> usize
+fn settled(
+    alloc: Global,
+    rows: &mut TimedRows<'_>,
+    slice: Period,
+    limit: usize,
+) -> Result<usize, NoMemory>
     ensures borrowed { (which : BorrowedValues) → (outs : List Tree)
         → AllStayBorrowed which outs rows.old.items
         → AllStayBorrowed which outs rows.new.items }
@@ -143,10 +169,10 @@ fn settled(rows: &mut TimedRows<'_>, slice: Period, limit: usize) -> usize
     ensures inside { (m : ℕ) → rows_at rows.old.items m ≡ [] → rows_at rows.new.items m ≡ [] }
 {
     if rows.len() < limit {
-        return limit;
+        return Ok(limit);
     }
-    coalesce_in_place(rows, slice);
-    rows.len().saturating_mul(2).max(FEW)
+    coalesce_and_pack(alloc, rows, slice)?;
+    Ok(rows.len().saturating_mul(2).max(FEW))
 }
 
 /// Takes what the choices that meet the condition answer into what is answered, at each moment of
@@ -182,6 +208,6 @@ pub(crate) fn answer_made<'a>(
         columns,
         choices,
     )?;
-    answered.limit = settled(&mut answered.rows, slice, answered.limit);
+    answered.limit = settled(alloc, &mut answered.rows, slice, answered.limit)?;
     Ok(())
 }

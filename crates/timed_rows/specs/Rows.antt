@@ -1,10 +1,11 @@
 -- Rows with periods, as a list.
-use Rattle.std.specs.Prelude.{ℕ, ◌<◌, ◌^◌, List, take, drop, length, refl}
+use Rattle.std.specs.Prelude.{ℕ, ◌<◌, ◌^◌, Bool, List, take, drop, length, map, refl}
 use Rattle.std.specs.declared.vec.Vec.{Vec}
 use Rattle.std.specs.declared.alloc.Global.{Global}
 use Rattle.relations.specs.Spans.{Span}
 use Rattle.prima_base.specs.declared.value.Val.{Val}
 use Rattle.prima_base.specs.declared.timed_row.TimedRow.{TimedRow}
+use Rattle.prima_base.specs.Order.{is_borrowed}
 use Rattle.timed_rows.specs.RoomLaws.{no_more, short, short_part}
 use denote.RawPtr.{null_ptr}
 
@@ -38,3 +39,7 @@ part_of values start len period = record {
 -- the row in another period
 abbrev pub in_period : TimedRow → Span → TimedRow
 in_period row period = record row { period = period }
+
+-- which of the row's values are borrowed
+abbrev pub borrowed_of : TimedRow → List Bool
+borrowed_of row = map is_borrowed row.values.items

@@ -1,12 +1,14 @@
 use crate::order::sort_places;
+use crate::packed::packed;
 use crate::place::{RowPlace, push_moved, values_at};
 use prima_base::{NoMemory, Period, Val};
 use std::alloc::Global;
 use std::marker::Model;
+use std::mem;
 
 /// Rows with periods, the values of all of which stand in one list: a row takes no memory of its
 /// own. The values may be borrowed from a store. A contract sees the list of the rows. Values of a
-/// row that was dropped stay until the list goes.
+/// row that was dropped stay until the list is packed, or goes.
 #[derive(Drop)]
 pub struct TimedRows<'a> {
     values: Vec<Val<'a>>,
@@ -27,13 +29,13 @@ impl<'a> Model for TimedRows<'a> {
 
 impl<'a> TimedRows<'a> {
     ghost use Rattle.std.specs.Prelude.{◌≡◌, ◌==◌, ◌<◌, ◌≤◌, ◌^◌, ◌++◌, [], ◌∷◌, length, take};
-    ghost use Rattle.std.specs.Prelude.{drop, IfOk, OnOk, OnErr, slice_index_or, slice_set};
+    ghost use Rattle.std.specs.Prelude.{drop, map, IfOk, OnOk, OnErr, slice_index_or, slice_set};
     ghost use Rattle.std.specs.Prelude.{slice_range};
     ghost use Rattle.std.specs.List.{swap};
     ghost use Rattle.std.specs.List.Sorted.{IsPermutation, IsSorted};
     ghost use Rattle.prima_base.specs.declared.timed_row.TimedRow.{TimedRow};
-    ghost use Rattle.prima_base.specs.Timed.{timed_cmp};
-    ghost use Rattle.timed_rows.specs.Rows.{row_of, in_period};
+    ghost use Rattle.prima_base.specs.Timed.{timed_cmp, entries_of};
+    ghost use Rattle.timed_rows.specs.Rows.{row_of, in_period, borrowed_of};
 
     /// No rows. It takes no memory.
     pub fn new(alloc: Global) -> TimedRows<'a>
@@ -149,6 +151,17 @@ impl<'a> TimedRows<'a> {
         ensures { self.new.items ≡ take rows self.old.items }
     {
         self.places.truncate(rows);
+    }
+
+    /// Gives back the memory of the values that dropped rows have left. The rows stay the same, also
+    /// where there is no memory to copy what they keep; that is the one error, `NoMemory`.
+    pub fn pack(&mut self, alloc: Global) -> Result<(), NoMemory>
+        ensures rows { entries_of self.new.items ≡ entries_of self.old.items }
+        ensures same { map borrowed_of self.new.items ≡ map borrowed_of self.old.items }
+    {
+        let mut rows = packed(alloc, self)?;
+        mem::swap(self, &mut rows);
+        Ok(())
     }
 
     /// Puts the rows in order: by row, then start, then end. It takes no memory.

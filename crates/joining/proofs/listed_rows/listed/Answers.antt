@@ -1,11 +1,11 @@
 use Rattle.std.proofs.Common.{◌<◌, length, sym, ap, ◌∙◌, subst, arith, get_or}
 use Rattle.std.proofs.lemmas.List.{take_all}
-use Rattle.prima_base.specs.Timed.{entries_of}
+use Rattle.prima_base.specs.Timed.{entry_of, entries_of}
 use Rattle.timed_choices.specs.BorrowedOutputs.{RowBorrows}
 use Rattle.timed_choices.proofs.BorrowedLaws.{each_more, each_at}
 use Rattle.timed_rows.proofs.Moves.{no_row}
-use Rattle.timed_rows.proofs.ReadRows.{stands_there}
-use Rattle.joining.proofs.RowPlaces.{copied_entry, listed_more, copies_borrow}
+use Rattle.timed_rows.proofs.ReadRows.{stands_there, copied_entry, made_more}
+use Rattle.joining.proofs.RowPlaces.{copies_borrow}
 use Rattle.joining.proofs.listed_rows.listed.Goals as goal
 
 pub loop-i-preserved : goal.loop-i-preserved
@@ -14,7 +14,7 @@ loop-i-preserved c =
     let i = c.loop-i.i in
     let here : i < length rows = omega arith in
     record {
-      entries = listed_more rows c.loop-i.list.items c.push.new.self.items i _ here
+      entries = made_more entry_of rows c.loop-i.list.items c.push.new.self.items i _ here
           c.loop-i.invariant.entries c.in_ok-push.ensures.items
           (copied_entry rows i c.in_ok-copy_vals.field-0.items c.values.result.now c.period.result
           c.in_ok-copy_vals.ensures.values (c.values.ensures.values no_row)

@@ -10,9 +10,9 @@ use Rattle.timed_choices.specs.Answering.{answers}
 use Rattle.timed_choices.specs.BorrowedOutputs.{RowBorrows, AllStayBorrowed}
 use Rattle.timed_choices.proofs.BorrowedLaws.{each_at}
 use Rattle.timed_rows.proofs.Moves.{no_row}
-use Rattle.timed_rows.proofs.ReadRows.{read_entry, stands_there}
+use Rattle.timed_rows.proofs.ReadRows.{read_entry, rows_more, stands_there}
 use Rattle.joining.specs.InSlice.{in_slice, all_in_slice}
-use Rattle.joining.proofs.RowPlaces.{rows_more, valid_at}
+use Rattle.joining.proofs.RowPlaces.{valid_at}
 use Rattle.joining.proofs.SingleAtoms.{row_more}
 use Rattle.joining.proofs.single_atom.made_rows.Goals as goal
 
