@@ -8,9 +8,8 @@
 # with 3,000, and of 200 with 200 with 200, where no equality links them and the answer is one
 # value; and a full listing, to compare with. Where an answer is short or as long as the tables,
 # ten times the rows should take little more than ten times as long; the products should take
-# little more memory than `few` (as yet they take some 30 bytes for each choice, since what a row
-# had that was coalesced away stays until the query is answered), and texts little more than `key`,
-# since joins and listings borrow them. PROGRAM names another build to be timed in place of this one.
+# little more memory than `few`, and texts little more than `key`, since joins and listings borrow
+# them. PROGRAM names another build to be timed in place of this one.
 set -eu
 top=$(cd "$(dirname "$0")/.." && pwd)
 if [ -z "${PROGRAM:-}" ]; then

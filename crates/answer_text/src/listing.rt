@@ -13,7 +13,7 @@ ghost use Rattle.smo_parse.specs.TreeTexts.{doubled, value_text};
 ghost use Rattle.answer_text.specs.Texts.{values_text, head_text, row_text, count_text};
 ghost use Rattle.answer_text.specs.Texts.{listing_text};
 
-use crate::line::ReplyLine;
+use crate::line::{ROOM, ReplyLine};
 use itoa::Buffer;
 use prima_base::{Period, Val};
 use prima_io::{Failed, Sink};
@@ -178,16 +178,20 @@ fn push_int<K: Sink>(line: &mut ReplyLine, sink: &mut K, n: i64) -> Result<(), F
     Ok(())
 }
 
-fn push_text<K: Sink>(line: &mut ReplyLine, sink: &mut K, bytes: &[u8]) -> Result<(), Failed>
+// A space and a text without quotes for which a line has room.
+fn push_plain<K: Sink>(line: &mut ReplyLine, sink: &mut K, bytes: &[u8]) -> Result<(), Failed>
+    requires { length bytes.now + 3 ≤ 4096 }
     ensures all { OnOk result (Gathers (K.written sink.old) line.old (K.written sink.new) line.new
-        (codes " '" ++ doubled bytes.now ++ codes "'")) }
+        (codes " '" ++ bytes.now ++ codes "'")) }
     ensures part { OnErr result (AppendsLess (K.written sink.old) (K.written sink.new)
-        (line.old ++ (codes " '" ++ doubled bytes.now ++ codes "'"))) }
+        (line.old ++ (codes " '" ++ bytes.now ++ codes "'"))) }
     ensures cause { HasCause (K.faults sink.old) (K.faults sink.new) result }
 {
-    line.push(sink, b" '")?;
-    push_doubled(line, sink, bytes)?;
-    line.push(sink, b"'")
+    line.make_room(sink, bytes.len() + 3)?;
+    line.add(b" '");
+    line.add(bytes);
+    line.add(b"'");
+    Ok(())
 }
 
 // Each piece that is pushed ends with a quote, and the next begins with the same quote once more.
@@ -208,17 +212,30 @@ fn push_pieces<K: Sink>(line: &mut ReplyLine, sink: &mut K, bytes: &[u8]) -> Res
     line.push(sink, &bytes[start..])
 }
 
-// The text with its quotes doubled. Most texts have none: these are looked through many bytes at a
-// time, and pushed whole.
-fn push_doubled<K: Sink>(line: &mut ReplyLine, sink: &mut K, bytes: &[u8]) -> Result<(), Failed>
+// A space and a text that has quotes, or more bytes than a line.
+fn push_quoted<K: Sink>(line: &mut ReplyLine, sink: &mut K, bytes: &[u8]) -> Result<(), Failed>
     ensures all { OnOk result (Gathers (K.written sink.old) line.old (K.written sink.new) line.new
-        (doubled bytes.now)) }
+        (codes " '" ++ doubled bytes.now ++ codes "'")) }
     ensures part { OnErr result (AppendsLess (K.written sink.old) (K.written sink.new)
-        (line.old ++ doubled bytes.now)) }
+        (line.old ++ (codes " '" ++ doubled bytes.now ++ codes "'"))) }
     ensures cause { HasCause (K.faults sink.old) (K.faults sink.new) result }
 {
-    if bytes.contains(&b'\'') {
-        return push_pieces(line, sink, bytes);
+    line.push(sink, b" '")?;
+    push_pieces(line, sink, bytes)?;
+    line.push(sink, b"'")
+}
+
+// A space and the text. Most texts have no quotes: these are looked through many bytes at a time,
+// and gathered at once.
+fn push_text<K: Sink>(line: &mut ReplyLine, sink: &mut K, bytes: &[u8]) -> Result<(), Failed>
+    ensures all { OnOk result (Gathers (K.written sink.old) line.old (K.written sink.new) line.new
+        (codes " '" ++ doubled bytes.now ++ codes "'")) }
+    ensures part { OnErr result (AppendsLess (K.written sink.old) (K.written sink.new)
+        (line.old ++ (codes " '" ++ doubled bytes.now ++ codes "'"))) }
+    ensures cause { HasCause (K.faults sink.old) (K.faults sink.new) result }
+{
+    if bytes.len() > ROOM - 3 || bytes.contains(&b'\'') {
+        return push_quoted(line, sink, bytes);
     }
-    line.push(sink, bytes)
+    push_plain(line, sink, bytes)
 }

@@ -1,9 +1,11 @@
 -- What entries hold that are cut to a slice.
 use Rattle.std.specs.Prelude.{◌≡◌, ◌⊎◌, ℕ, ◌<◌, ◌≤◌, Bool, true, false, cond, nat_lt, min, max}
-use Rattle.std.specs.Prelude.{List, [], ◌∷◌, Option, Some, None}
-use Rattle.std.proofs.Common.{refl, sym, ap, subst, ◌∙◌, inl, inr, arith}
+use Rattle.std.specs.Prelude.{List, [], ◌∷◌, ◌++◌, take, length, Option, Some, None}
+use Rattle.std.proofs.Common.{refl, sym, ap, subst, ◌∙◌, inl, inr, arith, ◌+◌, get_or}
 use Rattle.std.specs.List.{filter_map, cons_option}
 use Rattle.std.proofs.lemmas.Bool.Decides.{nat_tests}
+use Rattle.std.proofs.lemmas.List.{take_more}
+use Rattle.std.proofs.lemmas.List.Elements.{filter_map-append}
 use Rattle.relations.specs.Sets.{In}
 use Rattle.relations.specs.Spans.{Span, span, common}
 use Rattle.relations.specs.Timed.{Entry}
@@ -11,6 +13,7 @@ use Rattle.relations.specs.Listing.{Covered}
 use Rattle.prima_base.specs.declared.timed_row.TimedRow.{TimedRow}
 use Rattle.prima_base.specs.Timed.{entry_of, entries_of}
 use Rattle.coalesce.specs.Cutting.{with_period, cut_row, entry_with, cut_entry}
+use Rattle.coalesce.specs.Listed.{is_inside}
 
 -- a list with a first one more covers what that covers, and what the others do
 abbrev pub Covers : {X : Type 0} → Entry X → X → ℕ → Type 0
@@ -133,3 +136,26 @@ module _ {X : Type 0} (slice : Span) where
     from_cut (e ∷ entries) c = back_step e (nat_lt (max e.period.start slice.start)
         (min e.period.end slice.end)) entries (filter_map (cut_entry slice) entries)
         (from_cut entries) c
+
+-- ---- rows that are inside the slice
+
+inside_common : (slice p : Span) → is_inside slice p ≡ true → common p slice ≡ Some p
+inside_common slice p h =
+    let from : max p.start slice.start ≡ p.start = grind (arith, nat_tests) in
+    let to : min p.end slice.end ≡ p.end = grind (arith, nat_tests) in
+    let lasting : nat_lt p.start p.end ≡ true = grind (arith, nat_tests) in
+    (λ i. cond (nat_lt (from i) (to i)) (Some (span (from i) (to i))) None)
+    ∙ ap (λ (b : Bool). cond b (Some (span p.start p.end)) None) lasting
+
+-- one row more that is cut to itself
+pub inside_more : (slice : Span) (rows : List TimedRow) (i : ℕ) (d : TimedRow) → i < length rows
+    → is_inside slice (get_or rows i d).period ≡ true
+    → filter_map (cut_row slice) (take i rows) ≡ take i rows
+    → filter_map (cut_row slice) (take (i + 1) rows) ≡ take (i + 1) rows
+inside_more slice rows i d below inside before =
+    let row = get_or rows i d in
+    let whole = ap (with_period row) (inside_common slice row.period inside) in
+    ap (filter_map (cut_row slice)) (take_more rows i d below)
+    ∙ filter_map-append (cut_row slice) (take i rows) (row ∷ [])
+    ∙ (λ k. before k ++ cons_option (whole k) [])
+    ∙ sym (take_more rows i d below)

@@ -1,9 +1,10 @@
-ghost use Rattle.std.specs.Prelude.{◌≡◌, ◌≤◌, ◌<◌, ◌+◌, length};
+ghost use Rattle.std.specs.Prelude.{◌≡◌, ◌≤◌, ◌<◌, ◌+◌, true, length};
 ghost use Rattle.std.specs.List.{filter_map, swap};
 ghost use Rattle.prima_base.specs.Timed.{entries_of};
 ghost use Rattle.coalesce.specs.Cutting.{cut_row, cut_entry, left};
 ghost use Rattle.coalesce.specs.Joining.{HaveValuesOf};
 
+use crate::row_list::is_inside;
 use prima_base::{Period, meet};
 use timed_rows::TimedRows;
 
@@ -38,10 +39,26 @@ fn keep(rows: &mut TimedRows<'_>, slice: Period, kept: usize, next: usize) -> us
     }
 }
 
-/// Cuts each row to the slice, and drops those that have no moment of it.
+// Whether every row is inside the slice, so that nothing of any is cut off.
+fn are_inside(rows: &TimedRows<'_>, slice: Period) -> bool
+    ensures { result ≡ true → filter_map (cut_row slice) rows.now.items ≡ rows.now.items }
+{
+    for index in 0..rows.len() {
+        if !is_inside(rows.period(index), slice) {
+            return false;
+        }
+    }
+    true
+}
+
+/// Cuts each row to the slice, and drops those that have no moment of it. Where all are inside the
+/// slice, as rows are that were read in it, none is moved or written.
 pub fn cut_rows(rows: &mut TimedRows<'_>, slice: Period)
     ensures { rows.new.items ≡ filter_map (cut_row slice) rows.old.items }
 {
+    if are_inside(rows, slice) {
+        return;
+    }
     let mut kept = 0;
     let mut next = 0;
     'rows: while next < rows.len() {

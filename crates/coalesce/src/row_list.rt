@@ -10,8 +10,8 @@ ghost use Rattle.coalesce.specs.Listed.{is_inside, is_after, are_after, is_listi
 use prima_base::{Period, compare_vals};
 use timed_rows::TimedRows;
 
-// Whether the period is inside the slice.
-fn is_inside(period: Period, slice: Period) -> bool
+/// Whether the period is inside the slice.
+pub(crate) fn is_inside(period: Period, slice: Period) -> bool
     ensures { result ≡ is_inside slice period }
 {
     slice.start() <= period.start() && period.end() <= slice.end()

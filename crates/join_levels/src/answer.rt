@@ -133,11 +133,7 @@ fn put_choice_answers<'a>(
 }
 
 // Coalesces the rows, and keeps no values beside theirs.
-fn coalesce_and_pack(
-    alloc: Global,
-    rows: &mut TimedRows<'_>,
-    slice: Period,
-) -> Result<(), NoMemory>
+fn coalesce_and_pack(alloc: Global, rows: &mut TimedRows<'_>, slice: Period) -> Result<(), NoMemory>
     ensures borrowed { (which : BorrowedValues) → (outs : List Tree)
         → AllStayBorrowed which outs rows.old.items
         → AllStayBorrowed which outs rows.new.items }

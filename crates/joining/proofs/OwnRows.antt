@@ -14,7 +14,7 @@ use Rattle.prima_base.specs.declared.timed_row.TimedRow.{TimedRow}
 use Rattle.prima_base.specs.Order.{shown}
 use Rattle.prima_base.specs.Timed.{entry_of, entries_of}
 use Rattle.cond_expr.specs.declared.expr.Column.{Column}
-use Rattle.cond_expr.specs.Trees.{Tree, Test, always}
+use Rattle.cond_expr.specs.Trees.{Tree, Test}
 use Rattle.coalesce.specs.Cutting.{entry_with, cut_entry}
 use Rattle.coalesce.specs.Joining.{HaveValuesOf}
 use Rattle.timed_choices.specs.Answering.{outputs, answer, answers}
@@ -51,15 +51,14 @@ kept_values p before cut after h e = λ row i.
 
 -- ---- which of them meet the condition
 
-pub all_meet : (cs : List Column) (c : Test) → c ≡ always → (es : List (Entry (List Value)))
+pub all_meet : (cs : List Column) (c : Test) → ((row : List Value) → meets cs c row ≡ true)
+    → (es : List (Entry (List Value)))
     → filter (λ (e : Entry (List Value)). meets cs c e.item) es ≡ es
-all_meet cs c always_met es = ap (λ (t : Test).
-    filter (λ (e : Entry (List Value)). meets cs t e.item) es) always_met ∙ each es
-  where
-    each : (es : List (Entry (List Value)))
-        → filter (λ (e : Entry (List Value)). meets cs always e.item) es ≡ es
-    each [] = refl
-    each (e ∷ es) = ap (λ (l : List (Entry (List Value))). e ∷ l) (each es)
+all_meet cs c all [] = refl
+all_meet cs c all (e ∷ es) =
+    ap (λ (b : Bool). cond b (e ∷ filter (λ (e : Entry (List Value)). meets cs c e.item) es)
+    (filter (λ (e : Entry (List Value)). meets cs c e.item) es)) (all e.item)
+    ∙ ap (λ (l : List (Entry (List Value))). e ∷ l) (all_meet cs c all es)
 
 and_true : (b : Bool) → (b && true) ≡ b
 and_true true = refl

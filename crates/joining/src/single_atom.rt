@@ -10,8 +10,8 @@ ghost use Rattle.prima_base.specs.declared.value.Value.{Value as OneValue};
 ghost use Rattle.prima_base.specs.Order.{shown};
 ghost use Rattle.prima_base.specs.Timed.{entries_of, rows_at};
 ghost use Rattle.cond_expr.specs.Rows.{cells};
+ghost use Rattle.cond_expr.specs.declared.expr.Column.{Column as OneColumn};
 ghost use Rattle.cond_expr.specs.Seen.{tree, test};
-ghost use Rattle.cond_expr.specs.Trees.{always};
 ghost use Rattle.cond_expr.specs.Values.{value};
 ghost use Rattle.coalesce.specs.Cutting.{cut_entry};
 ghost use Rattle.coalesce.specs.Joining.{HaveValuesOf};
@@ -122,15 +122,22 @@ fn made_rows<'a>(
     Ok(made)
 }
 
-// Whether the condition is TRUE.
+// Whether every row meets the condition: it is TRUE, or it is AND of nothing, as what is asked of a
+// table is of which nothing is said.
+#[tactic(auto, using(cond_expr::proofs::SeenLaws::test_of_and))]
 fn is_always(cond: &Cond) -> bool
-    ensures { result ≡ true → test cond.now ≡ always }
+    ensures { (columns : List OneColumn) → (row : List OneValue) → result ≡ true
+        → meets columns (test cond.now) row ≡ true }
 {
-    matches!(cond, Cond::True)
+    match cond {
+        Cond::True => true,
+        Cond::And(members) => members.is_empty(),
+        Cond::False | Cond::Cmp(_, _, _) | Cond::Or(_) | Cond::Not(_) => false,
+    }
 }
 
-// The rows that meet the condition, in their moments of the slice, as they are. Where the condition
-// is TRUE none is looked at.
+// The rows that meet the condition, in their moments of the slice, as they are. Where all do none is
+// looked at.
 fn own_rows<'a>(
     alloc: Global,
     cond: &Cond,

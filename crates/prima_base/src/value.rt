@@ -105,6 +105,23 @@ impl<'a> Val<'a> {
     }
 }
 
+ghost use Rattle.prima_base.specs.Order.{bytes_cmp};
+
+// Compares two texts. Most are told apart by their first bytes, which are looked at before the call
+// that goes over whole texts.
+fn compare_texts(text: &[u8], other: &[u8]) -> Ordering
+    ensures { result ≡ bytes_cmp text.now other.now }
+{
+    match (text, other) {
+        ([first, ..], [second, ..]) => match first.cmp(second) {
+            Ordering::Equal => text.cmp(other),
+            Ordering::Less => Ordering::Less,
+            Ordering::Greater => Ordering::Greater,
+        },
+        _ => text.cmp(other),
+    }
+}
+
 impl Val<'_> {
     ghost use Rattle.std.specs.Prelude.{◌≡◌, IfOk};
     ghost use Rattle.prima_base.specs.Order.{shown, value_cmp};
@@ -131,10 +148,10 @@ impl Val<'_> {
             (Val::Int(x), Val::Int(y)) => x.cmp(y),
             (Val::Int(_), Val::Slice(_) | Val::Own(_)) => Ordering::Less,
             (Val::Slice(_) | Val::Own(_), Val::Int(_)) => Ordering::Greater,
-            (Val::Slice(x), Val::Slice(y)) => x.cmp(y),
-            (Val::Slice(x), Val::Own(y)) => (*x).cmp(y.bytes()),
-            (Val::Own(x), Val::Slice(y)) => x.bytes().cmp(*y),
-            (Val::Own(x), Val::Own(y)) => x.bytes().cmp(y.bytes()),
+            (Val::Slice(x), Val::Slice(y)) => compare_texts(x, y),
+            (Val::Slice(x), Val::Own(y)) => compare_texts(x, y.bytes()),
+            (Val::Own(x), Val::Slice(y)) => compare_texts(x.bytes(), y),
+            (Val::Own(x), Val::Own(y)) => compare_texts(x.bytes(), y.bytes()),
         }
     }
 }

@@ -1,5 +1,5 @@
 -- What is borrowed stays borrowed, from the pieces to the answer.
-use Rattle.std.proofs.Common.{◌≡◌, ◌<◌, ◌+◌, ℕ, zero, suc, Bool, true, false, not, List, [], ◌∷◌}
+use Rattle.std.proofs.Common.{◌≡◌, ◌<◌, ◌+◌, ℕ, zero, suc, Bool, true, false, List, [], ◌∷◌}
 use Rattle.std.proofs.Common.{◌++◌, map, length, get_or, drop, refl, sym, ap, ◌∙◌, subst}
 use Rattle.std.proofs.Common.{inl, inr, arith}
 use Rattle.std.specs.Prelude.{Option, ◌⊎◌}
@@ -38,8 +38,7 @@ use Rattle.plain_answers.specs.Reading.{Read}
 use Rattle.piece_meaning.specs.Pieces.{PlainPiece, out_names, out_trees}
 use Rattle.piece_meaning.specs.Rules.{Book, IsValidBook}
 use Rattle.piece_meaning.specs.Typed.{atom_kinds, typed_names}
-use Rattle.piece_ir.specs.Shown.{piece_of, shown_pieces}
-use Rattle.piece_ir.specs.declared.piece.Piece.{Piece}
+use Rattle.piece_ir.specs.Shown.{shown_pieces}
 use Rattle.piece_texts.specs.ExplainedPieces.{PlainExplained}
 use Rattle.rewrite_chains.specs.Beginnings.{first_piece, own_column}
 use Rattle.rewrite_chains.specs.Chains.{unfolded_to}

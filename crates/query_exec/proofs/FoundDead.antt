@@ -1,21 +1,19 @@
 -- The few values that are tried find the dead pieces of a query whose constants are valid, and no
 -- others.
-use Rattle.std.proofs.Common.{◌≡◌, ◌+◌, ℕ, Bool, true, false, cond, List, [], ◌∷◌, ◌++◌, map, refl}
+use Rattle.std.proofs.Common.{◌≡◌, ◌+◌, ℕ, Bool, true, false, cond, List, [], ◌∷◌, map, refl}
 use Rattle.std.proofs.Common.{sym, ap, subst, ◌∙◌, inl, inr}
-use Rattle.std.specs.Prelude.{◌==◌, not, Option, Some, None, if◌then◌else◌}
-use Rattle.std.specs.List.{flat_map}
+use Rattle.std.specs.Prelude.{◌==◌, not, None, if◌then◌else◌}
 use Rattle.std.specs.FinMap.{get}
 use Rattle.relations.specs.Sets.{In}
 use Rattle.relations.specs.Spans.{Span}
 use Rattle.relations.proofs.SetLaws.{in_append, from_map, from_flat_map, from_filter}
 use Rattle.prima_base.specs.Columns.{IsValid}
 use Rattle.schema_catalog.specs.Tables.{Tables}
-use Rattle.cond_expr.specs.declared.expr.ColRef.{ColRef}
 use Rattle.cond_expr.specs.declared.expr.Whose.{Whose}
 use Rattle.cond_expr.specs.declared.expr.Whose.TheVariants.{Free, Alias, Atom}
 use Rattle.cond_expr.specs.Trees.{Tree, column, Test, always, fill_test}
 use Rattle.cond_expr.specs.Faults.{test_references}
-use Rattle.cond_expr.specs.Parts.{parts, Bound, bound_of}
+use Rattle.cond_expr.specs.Parts.{parts, Bound}
 use Rattle.smo_types.specs.Commands.{PlainVersion}
 use Rattle.smo_meaning.specs.ValidPast.{IsPast}
 use Rattle.smo_meaning.specs.Past.{Past, no_tables, tables_from, tables_of, version_at}
@@ -48,7 +46,7 @@ use Rattle.query_pieces.specs.Piecewise.{asked_branches, IsAskedOf}
 use Rattle.query_pieces.proofs.ReadByPieces.{pushed_enough, items_kept}
 use Rattle.period_split.specs.Splitting.{Part, split_by}
 use Rattle.period_split.proofs.PartLaws.{split_ascends}
-use Rattle.query_exec.specs.Constants.{ValidInBranch, ValidInQuery}
+use Rattle.query_exec.specs.Constants.{ValidInQuery}
 use Rattle.query_exec.specs.QueryPieces.{explained_in, part_pieces, table_pieces, items_pieces}
 use Rattle.query_exec.specs.QueryPieces.{branch_pieces, branches_pieces, all_pieces, AreAlive}
 use Rattle.query_exec.specs.QueryPieces.{none_alive, one_dead, one_alive, ArePieces, alive_of}

@@ -1,5 +1,4 @@
 -- Queries that have no constants but valid values.
-use Rattle.std.specs.Prelude.{List}
 use Rattle.relations.specs.Sets.{In}
 use Rattle.cond_expr.specs.Trees.{Tree}
 use Rattle.plain_answers.specs.Branches.{PlainBranch}

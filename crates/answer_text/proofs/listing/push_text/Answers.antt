@@ -1,27 +1,14 @@
-use Rattle.std.proofs.Common.{refl, [], codes, ◌++◌}
+use Rattle.std.proofs.Common.{sym}
 use Rattle.std.proofs.lemmas.Result.{on_ok_weaker, on_err_weaker}
-use Rattle.smo_parse.specs.TreeTexts.{doubled}
-use Rattle.answer_text.proofs.Gathered.{on_err, more, nothing, less_within, less_gathered}
+use Rattle.answer_text.proofs.Doubling.{without_quotes}
 use Rattle.answer_text.proofs.listing.push_text.Goals as goal
-
-pub returns-in_err-push-clause-part : goal.returns-in_err-push-clause-part
-returns-in_err-push-clause-part g c =
-    on_err _ _ (less_within _ _ _ _ _ [] (codes " '") (doubled c.args.bytes.now ++ codes "'") _
-    (nothing _ _) c.in_err-push.ensures.part refl)
-
-pub returns-in_err-push_doubled-clause-part : goal.returns-in_err-push_doubled-clause-part
-returns-in_err-push_doubled-clause-part g c =
-    on_err _ _ (less_within _ _ _ _ _ (codes " '") _ (codes "'") _ c.in_ok-push.ensures.all
-    c.in_err-push_doubled.ensures.part refl)
 
 pub returns-clause-all : goal.returns-clause-all
 returns-clause-all g c =
-    let p = more _ _ _ _ _ _ (codes " '") (doubled c.args.bytes.now) c.in_ok-push.ensures.all
-    c.in_ok-push_doubled.ensures.all in
-    on_ok_weaker c.push-2.result (more _ _ _ _ _ _ _ (codes "'") p) c.push-2.ensures.all
+    let e = without_quotes c.args.bytes.now (sym c.if-contains.ensures.value) in
+    on_ok_weaker c.push_plain.result (λ q. rw e q) c.push_plain.ensures.all
 
 pub returns-clause-part : goal.returns-clause-part
 returns-clause-part g c =
-    let p = more _ _ _ _ _ _ (codes " '") (doubled c.args.bytes.now) c.in_ok-push.ensures.all
-    c.in_ok-push_doubled.ensures.all in
-    on_err_weaker c.push-2.result (less_gathered _ _ _ _ _ _ (codes "'") p) c.push-2.ensures.part
+    let e = without_quotes c.args.bytes.now (sym c.if-contains.ensures.value) in
+    on_err_weaker c.push_plain.result (λ q. rw e q) c.push_plain.ensures.part

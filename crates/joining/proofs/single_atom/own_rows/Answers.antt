@@ -14,7 +14,7 @@ passing-requires c = valid_by_values c.args.rows.items c.cut_to_slice.new.rows.i
 pub returns-then-is_always-clause-rows : goal.returns-then-is_always-clause-rows
 returns-then-is_always-clause-rows c = c.cut_to_slice.ensures.rows
     ∙ sym (all_meet c.args.columns.now (test c.args.cond.now)
-    (c.is_always.ensures c.if-is_always.true) _)
+    (λ row. c.is_always.ensures c.args.columns.now row c.if-is_always.true) _)
 
 pub returns-clause-values : goal.returns-clause-values
 returns-clause-values c = IfOk-weaker c.passing.result _ _

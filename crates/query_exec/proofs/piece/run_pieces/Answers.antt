@@ -1,6 +1,5 @@
 use Rattle.std.proofs.Common.{◌<◌, List, length, sym, ap, subst, ◌∙◌, arith}
 use Rattle.std.proofs.lemmas.List.{take_all}
-use Rattle.relations.specs.Sets.{In}
 use Rattle.relations.proofs.SetLaws.{in_map}
 use Rattle.join_exec.specs.Pieces.{stored_meaning}
 use Rattle.prima_base.specs.declared.timed_row.TimedRow.{TimedRow}
