@@ -19,6 +19,9 @@ use prima_base::{Period, Val};
 use prima_io::{Failed, Sink};
 use timed_rows::TimedRows;
 
+// the space and the two quotes that stand around a text
+const MARKS: usize = 3;
+
 /// The answer to a query: its rows, each with a period in which it holds, ascending by row and
 /// start. The periods are told with the rows (`periods`), but for a query that asks of one moment.
 /// Texts are borrowed as the query's answer has them.
@@ -178,8 +181,8 @@ fn push_int<K: Sink>(line: &mut ReplyLine, sink: &mut K, n: i64) -> Result<(), F
     Ok(())
 }
 
-// A space and a text without quotes for which a line has room.
-fn push_plain<K: Sink>(line: &mut ReplyLine, sink: &mut K, bytes: &[u8]) -> Result<(), Failed>
+// A space, and between two quotes a text whose bytes are put as they are. A line has room for it.
+fn push_whole<K: Sink>(line: &mut ReplyLine, sink: &mut K, bytes: &[u8]) -> Result<(), Failed>
     requires { length bytes.now + 3 ≤ 4096 }
     ensures all { OnOk result (Gathers (K.written sink.old) line.old (K.written sink.new) line.new
         (codes " '" ++ bytes.now ++ codes "'")) }
@@ -187,7 +190,7 @@ fn push_plain<K: Sink>(line: &mut ReplyLine, sink: &mut K, bytes: &[u8]) -> Resu
         (line.old ++ (codes " '" ++ bytes.now ++ codes "'"))) }
     ensures cause { HasCause (K.faults sink.old) (K.faults sink.new) result }
 {
-    line.make_room(sink, bytes.len() + 3)?;
+    line.make_room(sink, bytes.len() + MARKS)?;
     line.add(b" '");
     line.add(bytes);
     line.add(b"'");
@@ -212,8 +215,8 @@ fn push_pieces<K: Sink>(line: &mut ReplyLine, sink: &mut K, bytes: &[u8]) -> Res
     line.push(sink, &bytes[start..])
 }
 
-// A space and a text that has quotes, or more bytes than a line.
-fn push_quoted<K: Sink>(line: &mut ReplyLine, sink: &mut K, bytes: &[u8]) -> Result<(), Failed>
+// A space, and between two quotes a text of any length, with its quotes doubled.
+fn push_doubled<K: Sink>(line: &mut ReplyLine, sink: &mut K, bytes: &[u8]) -> Result<(), Failed>
     ensures all { OnOk result (Gathers (K.written sink.old) line.old (K.written sink.new) line.new
         (codes " '" ++ doubled bytes.now ++ codes "'")) }
     ensures part { OnErr result (AppendsLess (K.written sink.old) (K.written sink.new)
@@ -225,8 +228,8 @@ fn push_quoted<K: Sink>(line: &mut ReplyLine, sink: &mut K, bytes: &[u8]) -> Res
     line.push(sink, b"'")
 }
 
-// A space and the text. Most texts have no quotes: these are looked through many bytes at a time,
-// and gathered at once.
+// A space and the text, between two quotes. Most texts have no quotes: these are looked through
+// many bytes at a time, and gathered at once, where a line has room for them.
 fn push_text<K: Sink>(line: &mut ReplyLine, sink: &mut K, bytes: &[u8]) -> Result<(), Failed>
     ensures all { OnOk result (Gathers (K.written sink.old) line.old (K.written sink.new) line.new
         (codes " '" ++ doubled bytes.now ++ codes "'")) }
@@ -234,8 +237,8 @@ fn push_text<K: Sink>(line: &mut ReplyLine, sink: &mut K, bytes: &[u8]) -> Resul
         (line.old ++ (codes " '" ++ doubled bytes.now ++ codes "'"))) }
     ensures cause { HasCause (K.faults sink.old) (K.faults sink.new) result }
 {
-    if bytes.len() > ROOM - 3 || bytes.contains(&b'\'') {
-        return push_quoted(line, sink, bytes);
+    if bytes.len() > ROOM - MARKS || bytes.contains(&b'\'') {
+        return push_doubled(line, sink, bytes);
     }
-    push_plain(line, sink, bytes)
+    push_whole(line, sink, bytes)
 }

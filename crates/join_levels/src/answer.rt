@@ -132,31 +132,9 @@ fn put_choice_answers<'a>(
     Ok(())
 }
 
-// Coalesces the rows, and keeps no values beside theirs.
-fn coalesce_and_pack(alloc: Global, rows: &mut TimedRows<'_>, slice: Period) -> Result<(), NoMemory>
-    ensures borrowed { (which : BorrowedValues) → (outs : List Tree)
-        → AllStayBorrowed which outs rows.old.items
-        → AllStayBorrowed which outs rows.new.items }
-    ensures same { (m : ℕ) → covers slice m ≡ true
-        → rows_at rows.new.items m ≡ rows_at rows.old.items m }
-    ensures inside { (m : ℕ) → rows_at rows.old.items m ≡ [] → rows_at rows.new.items m ≡ [] }
-{
-    let before = rows.len();
-    coalesce_in_place(rows, slice);
-    if rows.len() < before {
-        rows.pack(alloc)?;
-    }
-    Ok(())
-}
-
-// Coalesces the rows, where they are as many as the limit. Answered is at how many they are
-// coalesced next.
-fn settled(
-    alloc: Global,
-    rows: &mut TimedRows<'_>,
-    slice: Period,
-    limit: usize,
-) -> Result<usize, NoMemory>
+// Coalesces the rows, where they are as many as the limit, and packs them. Answered is at how many
+// they are coalesced next.
+fn settled(alloc: Global, rows: &mut TimedRows<'_>, slice: Period, limit: usize) -> usize
     ensures borrowed { (which : BorrowedValues) → (outs : List Tree)
         → AllStayBorrowed which outs rows.old.items
         → AllStayBorrowed which outs rows.new.items }
@@ -165,10 +143,11 @@ fn settled(
     ensures inside { (m : ℕ) → rows_at rows.old.items m ≡ [] → rows_at rows.new.items m ≡ [] }
 {
     if rows.len() < limit {
-        return Ok(limit);
+        return limit;
     }
-    coalesce_and_pack(alloc, rows, slice)?;
-    Ok(rows.len().saturating_mul(2).max(FEW))
+    coalesce_in_place(rows, slice);
+    rows.pack(alloc);
+    rows.len().saturating_mul(2).max(FEW)
 }
 
 /// Takes what the choices that meet the condition answer into what is answered, at each moment of
@@ -204,6 +183,6 @@ pub(crate) fn answer_made<'a>(
         columns,
         choices,
     )?;
-    answered.limit = settled(alloc, &mut answered.rows, slice, answered.limit)?;
+    answered.limit = settled(alloc, &mut answered.rows, slice, answered.limit);
     Ok(())
 }

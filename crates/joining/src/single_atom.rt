@@ -1,5 +1,5 @@
-//! What is answered over one atom alone. Its rows are gone over once, in their order: none is
-//! looked up, and where the outputs are the atom's own columns the rows stay where they are.
+//! What is answered over one atom alone. Its rows are gone over in their order: none is looked up,
+//! and where the outputs are the atom's own columns the rows stay where they are.
 
 ghost use Rattle.std.specs.Prelude.{◌≡◌, ◌++◌, ◌∷◌, [], ℕ, true, false, List, map, length, IfOk};
 ghost use Rattle.std.specs.Prelude.{OnOk};
@@ -122,8 +122,8 @@ fn made_rows<'a>(
     Ok(made)
 }
 
-// Whether every row meets the condition: it is TRUE, or it is AND of nothing, as what is asked of a
-// table is of which nothing is said.
+// Whether the condition is TRUE, or AND of nothing, which every row meets. A query that says
+// nothing of an item asks its table with the latter.
 #[tactic(auto, using(cond_expr::proofs::SeenLaws::test_of_and))]
 fn is_always(cond: &Cond) -> bool
     ensures { (columns : List OneColumn) → (row : List OneValue) → result ≡ true
@@ -136,8 +136,8 @@ fn is_always(cond: &Cond) -> bool
     }
 }
 
-// The rows that meet the condition, in their moments of the slice, as they are. Where all do none is
-// looked at.
+// The rows that meet the condition, in their moments of the slice, as they are. Where every row
+// meets it none is tested.
 fn own_rows<'a>(
     alloc: Global,
     cond: &Cond,

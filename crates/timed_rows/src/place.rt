@@ -21,6 +21,16 @@ pub fn values_at<'v, 'a>(values: &'v [Val<'a>], place: &RowPlace) -> &'v [Val<'a
     &rest[..place.len.min(rest.len())]
 }
 
+/// How many values the places have, each counted by itself. Where that is no number of 64 bits, the
+/// largest is answered.
+pub fn values_of(places: &[RowPlace]) -> usize {
+    let mut count: usize = 0;
+    for place in places {
+        count = count.saturating_add(place.len);
+    }
+    count
+}
+
 /// Puts the other places after these, for values that were put after so many. It takes no memory.
 pub fn push_moved(places: &mut Vec<RowPlace>, others: &[RowPlace], start: usize)
     requires room { vec_len places.old + length others.now ≤ vec_capacity places.old }

@@ -1,7 +1,6 @@
 use crate::order::sort_places;
-use crate::packed::packed;
-use crate::place::{RowPlace, push_moved, values_at};
-use prima_base::{NoMemory, Period, Val};
+use crate::place::{RowPlace, push_moved, values_at, values_of};
+use prima_base::{NoMemory, Period, Val, copy_vals};
 use std::alloc::Global;
 use std::marker::Model;
 use std::mem;
@@ -153,15 +152,34 @@ impl<'a> TimedRows<'a> {
         self.places.truncate(rows);
     }
 
-    /// Gives back the memory of the values that dropped rows have left. The rows stay the same, also
-    /// where there is no memory to copy what they keep; that is the one error, `NoMemory`.
-    pub fn pack(&mut self, alloc: Global) -> Result<(), NoMemory>
-        ensures rows { entries_of self.new.items ≡ entries_of self.old.items }
-        ensures same { map borrowed_of self.new.items ≡ map borrowed_of self.old.items }
+    // The same rows, in their order, and no values beside theirs. A borrowed text stays borrowed,
+    // and one that a row owns is copied.
+    fn packed(&self, alloc: Global) -> Result<TimedRows<'a>, NoMemory>
+        ensures rows { IfOk result (λ r. entries_of r.items ≡ entries_of self.now.items) }
+        ensures borrowed { IfOk result (λ r.
+            map borrowed_of r.items ≡ map borrowed_of self.now.items) }
     {
-        let mut rows = packed(alloc, self)?;
-        mem::swap(self, &mut rows);
-        Ok(())
+        let mut rows = TimedRows::new(alloc);
+        for index in 0..self.len() {
+            let mut copies = copy_vals(alloc, self.values(index), 0)?;
+            rows.push_from(&mut copies, self.period(index))?;
+        }
+        Ok(rows)
+    }
+
+    /// Gives back the memory of the values that dropped rows have left, where these are at least as
+    /// many as those that the rows still have. The rows stay the same. What they have is put
+    /// together anew; where there is no memory for that, nothing is given back.
+    pub fn pack(&mut self, alloc: Global)
+        ensures rows { entries_of self.new.items ≡ entries_of self.old.items }
+        ensures borrowed { map borrowed_of self.new.items ≡ map borrowed_of self.old.items }
+    {
+        if self.values.len() / 2 < values_of(&self.places) {
+            return;
+        }
+        if let Ok(mut rows) = self.packed(alloc) {
+            mem::swap(self, &mut rows);
+        }
     }
 
     /// Puts the rows in order: by row, then start, then end. It takes no memory.

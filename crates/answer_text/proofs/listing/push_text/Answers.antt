@@ -6,9 +6,9 @@ use Rattle.answer_text.proofs.listing.push_text.Goals as goal
 pub returns-clause-all : goal.returns-clause-all
 returns-clause-all g c =
     let e = without_quotes c.args.bytes.now (sym c.if-contains.ensures.value) in
-    on_ok_weaker c.push_plain.result (λ q. rw e q) c.push_plain.ensures.all
+    on_ok_weaker c.push_whole.result (λ q. rw e q) c.push_whole.ensures.all
 
 pub returns-clause-part : goal.returns-clause-part
 returns-clause-part g c =
     let e = without_quotes c.args.bytes.now (sym c.if-contains.ensures.value) in
-    on_err_weaker c.push_plain.result (λ q. rw e q) c.push_plain.ensures.part
+    on_err_weaker c.push_whole.result (λ q. rw e q) c.push_whole.ensures.part

@@ -2,7 +2,7 @@ use Rattle.std.proofs.Common.{refl, [], codes, ◌++◌}
 use Rattle.std.proofs.lemmas.Result.{on_ok_weaker, on_err_weaker}
 use Rattle.smo_parse.specs.TreeTexts.{doubled}
 use Rattle.answer_text.proofs.Gathered.{on_err, more, nothing, less_within, less_gathered}
-use Rattle.answer_text.proofs.listing.push_quoted.Goals as goal
+use Rattle.answer_text.proofs.listing.push_doubled.Goals as goal
 
 pub returns-in_err-push-clause-part : goal.returns-in_err-push-clause-part
 returns-in_err-push-clause-part g c =

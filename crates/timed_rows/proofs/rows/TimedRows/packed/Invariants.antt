@@ -1,10 +1,10 @@
 use Rattle.std.proofs.Common.{◌≡◌, map, take}
 use Rattle.prima_base.specs.Timed.{entries_of}
 use Rattle.timed_rows.specs.Rows.{borrowed_of}
-use Rattle.timed_rows.proofs.packed.packed.Given as goal
+use Rattle.timed_rows.proofs.rows.TimedRows.packed.Given as goal
 
 abbrev pub invariant-loop-index : goal.invariant-loop-index
 invariant-loop-index l = record {
-  rows : entries_of l.made.items ≡ entries_of (take l.index l.rows.items);
-  same : map borrowed_of l.made.items ≡ map borrowed_of (take l.index l.rows.items);
+  rows : entries_of l.rows.items ≡ entries_of (take l.index l.self.items);
+  borrowed : map borrowed_of l.rows.items ≡ map borrowed_of (take l.index l.self.items);
 }

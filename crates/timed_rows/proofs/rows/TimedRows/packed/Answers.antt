@@ -5,29 +5,29 @@ use Rattle.prima_base.specs.Timed.{entry_of, entries_of}
 use Rattle.timed_rows.specs.Rows.{row_of, borrowed_of}
 use Rattle.timed_rows.proofs.Moves.{no_row}
 use Rattle.timed_rows.proofs.ReadRows.{copied_entry, made_more}
-use Rattle.timed_rows.proofs.packed.packed.Goals as goal
+use Rattle.timed_rows.proofs.rows.TimedRows.packed.Goals as goal
 
 pub loop-index-preserved : goal.loop-index-preserved
 loop-index-preserved c =
-    let rows = c.args.rows.now.items in
+    let rows = c.args.self.now.items in
     let i = c.loop-index.index in
     let here : i < length rows = omega arith in
     let row = row_of c.in_ok-copies.copies c.period.result in
     record {
-      rows = made_more entry_of rows c.loop-index.made.items c.push_from.new.self.items i row here
+      rows = made_more entry_of rows c.loop-index.rows.items c.push_from.new.self.items i row here
           c.loop-index.invariant.rows c.in_ok-push_from.ensures.rows
           (copied_entry rows i c.in_ok-copies.copies.items c.values.result.now c.period.result
           c.in_ok-copies.ensures.values (c.values.ensures.values no_row)
           (c.period.ensures.period no_row));
-      same = made_more borrowed_of rows c.loop-index.made.items c.push_from.new.self.items i row
-          here c.loop-index.invariant.same c.in_ok-push_from.ensures.rows
+      borrowed = made_more borrowed_of rows c.loop-index.rows.items c.push_from.new.self.items i row
+          here c.loop-index.invariant.borrowed c.in_ok-push_from.ensures.rows
           (c.in_ok-copies.ensures.same ∙ ap (map is_borrowed) (c.values.ensures.values no_row));
     }
 
 pub returns-clause-rows : goal.returns-clause-rows
 returns-clause-rows c = c.loop-index.invariant.rows
-    ∙ ap entries_of (take_all c.loop-index.index c.args.rows.now.items (omega arith))
+    ∙ ap entries_of (take_all c.loop-index.index c.args.self.now.items (omega arith))
 
-pub returns-clause-same : goal.returns-clause-same
-returns-clause-same c = c.loop-index.invariant.same
-    ∙ ap (map borrowed_of) (take_all c.loop-index.index c.args.rows.now.items (omega arith))
+pub returns-clause-borrowed : goal.returns-clause-borrowed
+returns-clause-borrowed c = c.loop-index.invariant.borrowed
+    ∙ ap (map borrowed_of) (take_all c.loop-index.index c.args.self.now.items (omega arith))

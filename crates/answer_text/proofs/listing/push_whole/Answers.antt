@@ -1,5 +1,5 @@
 use Rattle.answer_text.proofs.Gathered.{on_err, less_longer}
-use Rattle.answer_text.proofs.listing.push_plain.Goals as goal
+use Rattle.answer_text.proofs.listing.push_whole.Goals as goal
 
 pub returns-in_err-make_room-clause-part : goal.returns-in_err-make_room-clause-part
 returns-in_err-make_room-clause-part g c = on_err _ _
