@@ -107,7 +107,7 @@ impl<'a> Val<'a> {
 
 ghost use Rattle.prima_base.specs.Order.{bytes_cmp};
 
-// Compares two texts. Most are told apart by their first bytes, which are looked at before the call
+// Compares two texts. Many are told apart by their first bytes, which are looked at before the call
 // that goes over whole texts.
 fn compare_texts(text: &[u8], other: &[u8]) -> Ordering
     ensures { result ≡ bytes_cmp text.now other.now }
