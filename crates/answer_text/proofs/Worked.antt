@@ -1,13 +1,13 @@
 -- A worked row: what is told of one piece of a query that is pushed through a PARTITION.
 use Rattle.std.proofs.Common.{◌≡◌, ℕ, [], ◌∷◌, pos, codes, refl}
 use Rattle.std.specs.Fmt.{digits}
-use Rattle.relations.specs.Spans.{span}
+use Rattle.relations_spec.specs.Spans.{span}
 use Rattle.prima_base.specs.declared.value.Value.TheVariants.{Int}
 use Rattle.cond_expr.specs.declared.expr.Whose.TheVariants.{Atom}
 use Rattle.cond_expr.specs.declared.expr.CmpOp.{CmpOp}
 use Rattle.cond_expr.specs.declared.expr.CmpOp.TheVariants.{Gt, Lt}
 use Rattle.cond_expr.specs.Trees.{Tree, Test, column, constant, compared, all_of, a_test, no_tests}
-use Rattle.piece_texts.specs.ExplainedPieces.{PlainExplained}
+use Rattle.piece_ir.specs.ExplainedPieces.{PlainExplained}
 use Rattle.answer_text.specs.Texts.{piece_head, explain_text}
 
 abbrev a : Tree

@@ -2,7 +2,7 @@
 use Rattle.std.proofs.Common.{◌≡◌, ℕ, List, [], ◌∷◌, codes, refl}
 use Rattle.std.specs.Prelude.{Option, Some, None}
 use Rattle.std.specs.Fmt.{digits}
-use Rattle.smo_meaning.specs.Sizes.{Size, Written}
+use Rattle.smo_ops_spec.specs.Sizes.{Size, Written}
 use Rattle.answer_text.specs.Texts.{size_text, sizes_text}
 
 -- of one column

@@ -3,3 +3,4 @@ pub mod Gathering
 pub mod KeptValues
 pub mod RefusalTexts
 pub mod Texts
+pub mod PieceTexts

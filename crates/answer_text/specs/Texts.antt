@@ -4,19 +4,19 @@ use Rattle.std.specs.Prelude.{codes, decimal, Option, Some, None, if◌then◌el
 use Rattle.std.specs.List.{flat_map}
 use Rattle.std.specs.Option.{unwrap_or}
 use Rattle.std.specs.FinMap.{entries}
-use Rattle.relations.specs.Timed.{Entry}
+use Rattle.relations_spec.specs.Timed.{Entry}
 use Rattle.prima_base.specs.declared.period.TheConstants.{FOREVER}
 use Rattle.prima_base.specs.declared.value.Value.{Value}
 use Rattle.prima_base.specs.Columns.{Column}
 use Rattle.schema_catalog.specs.Tables.{Tables}
-use Rattle.smo_types.specs.Operators.{Operator}
-use Rattle.smo_types.specs.Commands.{PlainVersion}
-use Rattle.smo_meaning.specs.InForce.{begins_at}
-use Rattle.smo_meaning.specs.Sizes.{Size, cells_in}
+use Rattle.smo_ops_types.specs.Operators.{Operator}
+use Rattle.smo_ops_types.specs.Commands.{PlainVersion}
+use Rattle.smo_ops_spec.specs.InForce.{begins_at}
+use Rattle.smo_ops_spec.specs.Sizes.{Size, cells_in}
 use Rattle.smo_parse.specs.TreeTexts.{value_text}
 use Rattle.smo_parse.specs.Texts.{listed, column_text, operator_text}
-use Rattle.piece_texts.specs.ExplainedPieces.{PlainExplained}
-use Rattle.piece_texts.specs.PieceTexts.{piece_text}
+use Rattle.piece_ir.specs.ExplainedPieces.{PlainExplained}
+use Rattle.answer_text.specs.PieceTexts.{piece_text}
 
 -- so many rows were gained and lost at this moment
 unfoldable pub changed_text : ℕ → ℕ → ℕ → List ℕ

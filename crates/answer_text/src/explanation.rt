@@ -5,16 +5,17 @@ ghost use Rattle.std.specs.Prelude.{◌≡◌, ◌++◌, Err, IfOk, OnOk, OnErr}
 ghost use Rattle.std.specs.List.{flat_map};
 ghost use Rattle.std.specs.Io.KnownBytes.{Appends};
 ghost use Rattle.prima_io.specs.Moves.{AppendsPrefix, AppendsLess};
-ghost use Rattle.piece_texts.specs.ExplainedPieces.{explained_of, all_explained};
-ghost use Rattle.piece_texts.specs.PieceTexts.{piece_text};
+ghost use Rattle.piece_ir.specs.ExplainedPieces.{explained_of, all_explained};
+ghost use Rattle.answer_text.specs.PieceTexts.{piece_text};
 ghost use Rattle.answer_text.specs.Causes.{HasStopCause};
 ghost use Rattle.answer_text.specs.declared.stop.PutStop.TheVariants as stop;
 ghost use Rattle.answer_text.specs.Texts.{piece_head, explained_text, explain_text};
 
 use crate::line::ReplyLine;
 use crate::made_reply::{add_count, put_lines};
+use crate::piece_text;
 use crate::stop::PutStop;
-use piece_texts::{Explained, piece_text};
+use piece_ir::Explained;
 use prima_base::NoMemory;
 use prima_io::Sink;
 use smo_parse::put;

@@ -16,8 +16,8 @@ ghost use Rattle.answer_text.specs.Texts.{listing_text};
 use crate::line::{ROOM, ReplyLine};
 use itoa::Buffer;
 use prima_base::{Period, Val};
+use prima_base_rows::TimedRows;
 use prima_io::{Failed, Sink};
-use timed_rows::TimedRows;
 
 // the space and the two quotes that stand around a text
 const MARKS: usize = 3;

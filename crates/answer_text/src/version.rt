@@ -4,8 +4,8 @@
 ghost use Rattle.std.specs.Prelude.{◌≡◌, ◌++◌, ◌+◌, ◌<◌, ◌^◌, length, map, IfOk, OnOk, OnErr, Err};
 ghost use Rattle.std.specs.Io.KnownBytes.{Appends};
 ghost use Rattle.prima_io.specs.Moves.{AppendsPrefix, AppendsLess};
-ghost use Rattle.smo_types.specs.Operators.{operator_of, operators_of};
-ghost use Rattle.smo_types.specs.Commands.{version_of};
+ghost use Rattle.smo_ops_types.specs.Operators.{operator_of, operators_of};
+ghost use Rattle.smo_ops_types.specs.Commands.{version_of};
 ghost use Rattle.smo_parse.specs.Texts.{operator_text};
 ghost use Rattle.answer_text.specs.Causes.{HasStopCause};
 ghost use Rattle.answer_text.specs.declared.stop.PutStop.TheVariants as stop;

@@ -8,13 +8,13 @@ use Rattle.journal.specs.Records.{Record}
 use Rattle.std.proofs.lemmas.Bool.Decides.{nat_tests}
 use Rattle.prima_base.specs.declared.refusal.Refusal.{Refusal}
 use Rattle.prima_base.specs.declared.refusal.Refusal.TheVariants.{JournalFull}
-use Rattle.smo_types.specs.Commands.{PlainCommand}
-use Rattle.smo_meaning.specs.First.{unless}
-use Rattle.smo_meaning.specs.Past.{Past}
-use Rattle.smo_meaning.specs.Accepts.{command_fault}
-use Rattle.smo_meaning.proofs.Firsts.{first_at, first_later, first_alone}
+use Rattle.smo_ops_types.specs.Commands.{PlainCommand}
+use Rattle.smo_ops_spec.specs.First.{unless}
+use Rattle.smo_ops_spec.specs.Past.{Past}
+use Rattle.smo_ops_spec.specs.Accepts.{command_fault}
+use Rattle.smo_ops_spec.proofs.Firsts.{first_at, first_later, first_alone}
 use Rattle.journal.specs.JournalFiles.{needs}
-use Rattle.archive_file.specs.LogRecords.{logged, record_of}
+use Rattle.archive_core_file_spec.specs.LogRecords.{logged, record_of}
 use Rattle.archive_core.specs.declared.fault.CommitFault.{CommitFault}
 use Rattle.archive_core.specs.declared.fault.CommitFault.TheVariants as fault
 use Rattle.archive_core.specs.Committing.{need_fault, room_fault, commit_fault, IsPut}

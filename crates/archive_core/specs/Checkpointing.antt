@@ -1,12 +1,12 @@
 -- What an archive on a disk answers to a checkpoint.
 use Rattle.std.specs.Prelude.{◌≡◌, ℕ, ◌+◌, Some, None, Result, Ok, Err, ⊤}
-use Rattle.smo_meaning.specs.Checks.{Fault}
-use Rattle.smo_meaning.specs.Past.{Past}
-use Rattle.image_spelling.specs.Images.{Image}
-use Rattle.image_spelling.specs.Lengths.{image_length}
+use Rattle.smo_ops_spec.specs.Checks.{Fault}
+use Rattle.smo_ops_spec.specs.Past.{Past}
+use Rattle.store_image_spec.specs.Images.{Image}
+use Rattle.store_image_spec.specs.Lengths.{image_length}
 use Rattle.store_image.specs.ImageIn.{image_in}
-use Rattle.archive_file.specs.LogRecords.{LogRecord, checkpointed}
-use Rattle.archive_state.specs.ArchiveContents.{ArchiveContent}
+use Rattle.archive_core_file_spec.specs.LogRecords.{LogRecord, checkpointed}
+use Rattle.archive_core_state.specs.ArchiveContents.{ArchiveContent}
 use Rattle.archive_core.specs.Committing.{need_fault}
 use Rattle.archive_core.specs.declared.fault.CommitFault.{CommitFault}
 use Rattle.archive_core.specs.declared.fault.CommitFault.TheVariants.{Broken, Refused, Disk}

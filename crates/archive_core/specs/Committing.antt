@@ -2,20 +2,20 @@
 use Rattle.std.specs.Prelude.{◌≡◌, ℕ, ◌+◌, ◌∷◌, [], nat_le, Some, None, Result, Ok, Err}
 use Rattle.std.specs.Prelude.{⊤}
 use Rattle.prima_base.specs.declared.refusal.Refusal.TheVariants.{JournalFull}
-use Rattle.smo_types.specs.Commands.{PlainCommand}
-use Rattle.smo_meaning.specs.First.{unless, first_refusal}
-use Rattle.smo_meaning.specs.Checks.{Fault}
-use Rattle.smo_meaning.specs.Accepts.{command_fault}
-use Rattle.smo_meaning.specs.Past.{Past, past_with}
+use Rattle.smo_ops_types.specs.Commands.{PlainCommand}
+use Rattle.smo_ops_spec.specs.First.{unless, first_refusal}
+use Rattle.smo_ops_spec.specs.Checks.{Fault}
+use Rattle.smo_ops_spec.specs.Accepts.{command_fault}
+use Rattle.smo_ops_spec.specs.Past.{Past, past_with}
 use Rattle.journal.specs.Records.{Record}
 use Rattle.journal.specs.JournalFiles.{needs}
 use Rattle.journal.specs.declared.sealed.Sealed.{Sealed}
-use Rattle.archive_file.specs.LogRecords.{logged, record_of}
-use Rattle.archive_state.specs.declared.accepted_command.AcceptedCommand.{AcceptedCommand}
-use Rattle.archive_state.specs.declared.archive.Done.{Done}
-use Rattle.archive_state.specs.AcceptedCommands.{IsAcceptedAfter}
-use Rattle.archive_state.specs.ArchiveContents.{ArchiveContent, RepresentsPast}
-use Rattle.archive_state.specs.Committing.{IsAsBefore, IsDone}
+use Rattle.archive_core_file_spec.specs.LogRecords.{logged, record_of}
+use Rattle.archive_core_state.specs.declared.accepted_command.AcceptedCommand.{AcceptedCommand}
+use Rattle.archive_core_state.specs.declared.archive.Done.{Done}
+use Rattle.archive_core_state.specs.AcceptedCommands.{IsAcceptedAfter}
+use Rattle.archive_core_state.specs.ArchiveContents.{ArchiveContent, RepresentsPast}
+use Rattle.archive_core_state.specs.Committing.{IsAsBefore, IsDone}
 use Rattle.archive_core.specs.declared.fault.CommitFault.{CommitFault}
 use Rattle.archive_core.specs.declared.fault.CommitFault.TheVariants.{Broken, Refused, Disk}
 use Rattle.archive_core.specs.declared.fault.CommitFault.TheVariants.{NoMemory}

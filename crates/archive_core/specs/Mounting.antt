@@ -1,10 +1,10 @@
 -- What mounting makes of a file.
 use Rattle.std.specs.Prelude.{◌≡◌, ℕ, List}
-use Rattle.archive_file.specs.LogRecords.{LogRecord, gate_after, past_recorded}
-use Rattle.archive_file.specs.Opening.{Opens}
-use Rattle.archive_state.specs.ArchiveContents.{ArchiveContent, RepresentsPast}
-use Rattle.archive_replay.specs.declared.opened.Opened.{Opened}
-use Rattle.archive_replay.specs.Restoring.{IsCounted}
+use Rattle.archive_core_file_spec.specs.LogRecords.{LogRecord, gate_after, past_recorded}
+use Rattle.archive_core_file_spec.specs.Opening.{Opens}
+use Rattle.archive_core_state.specs.ArchiveContents.{ArchiveContent, RepresentsPast}
+use Rattle.archive_core_replay.specs.declared.opened.Opened.{Opened}
+use Rattle.archive_core_replay.specs.Restoring.{IsCounted}
 
 -- the file opens as records; the archive represents just their past, the gate after them is at this
 -- place, and their commands are counted

@@ -2,9 +2,9 @@ ghost use Rattle.std.specs.Prelude.{◌≡◌};
 ghost use Rattle.journal.specs.declared.fault.JournalFault.TheVariants as journal;
 ghost use Rattle.archive_core.specs.declared.fault.CommitFault.TheVariants as commit;
 ghost use Rattle.archive_core.specs.declared.fault.MountFault.TheVariants as mounting;
-ghost use Rattle.archive_replay.specs.declared.fault.RestoreFault.TheVariants as restoring;
+ghost use Rattle.archive_core_replay.specs.declared.fault.RestoreFault.TheVariants as restoring;
 
-use archive_replay::RestoreFault;
+use archive_core_replay::RestoreFault;
 use journal::JournalFault;
 use prima_base::{NoMemory, Refusal};
 

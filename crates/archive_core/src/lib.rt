@@ -1,4 +1,4 @@
-//! The archive on a disk: what it has accepted stands in memory (archive_state), and as records in
+//! The archive on a disk: what it has accepted stands in memory (archive_core_state), and as records in
 //! a journal that may stop at any moment (journal).
 //!
 //! A command is judged, made ready, written as bytes and sealed before the first call of the
@@ -13,7 +13,7 @@ mod preparation;
 
 pub use answer_text::Listing;
 pub use archive::Archive;
-pub use archive_replay::Opened;
-pub use archive_state::{AskFault, Done};
+pub use archive_core_replay::Opened;
+pub use archive_core_state::{AskFault, Done};
 pub use fault::{CommitFault, MountFault};
-pub use piece_texts::Explained;
+pub use piece_ir::Explained;

@@ -1,26 +1,26 @@
 //! All that a command or a checkpoint needs before the disk is called.
 
 ghost use Rattle.std.specs.Prelude.{◌≡◌, ◌<◌, IfOk, OnOk};
-ghost use Rattle.relations.specs.Spans.{forever};
-ghost use Rattle.smo_types.specs.Commands.{command_of};
-ghost use Rattle.smo_meaning.specs.Past.{Past};
-ghost use Rattle.command_spelling.specs.Found.{Spells};
-ghost use Rattle.command_spelling.specs.Valid.{IsCommand, IsWritable};
+ghost use Rattle.relations_spec.specs.Spans.{forever};
+ghost use Rattle.smo_ops_types.specs.Commands.{command_of};
+ghost use Rattle.smo_ops_spec.specs.Past.{Past};
+ghost use Rattle.command_codec_spec.specs.Found.{Spells};
+ghost use Rattle.command_codec_spec.specs.Valid.{IsCommand, IsWritable};
 ghost use Rattle.journal.specs.JournalFiles.{sealed_record};
-ghost use Rattle.archive_state.specs.AcceptedCommands.{accepted_command};
-ghost use Rattle.archive_state.specs.ArchiveContents.{RepresentsPast, RepresentsSome};
-ghost use Rattle.archive_file.specs.LogRecords.{logged, record_of};
+ghost use Rattle.archive_core_state.specs.AcceptedCommands.{accepted_command};
+ghost use Rattle.archive_core_state.specs.ArchiveContents.{RepresentsPast, RepresentsSome};
+ghost use Rattle.archive_core_file_spec.specs.LogRecords.{logged, record_of};
 ghost use Rattle.archive_core.specs.Committing.{IsCommandJudged};
 ghost use Rattle.archive_core.specs.Checkpointing.{checkpoint_of};
 ghost use Rattle.store_image.specs.ImageIn.{GroupsHold};
 
 use crate::CommitFault;
-use archive_state::{AcceptedCommand, ArchiveState, CommandFault};
+use archive_core_state::{AcceptedCommand, ArchiveState, CommandFault};
 use command_codec::{encode_changes, encode_operator};
-use command_spelling::accepted_commands_can_be_written;
+use command_codec_spec::accepted_commands_can_be_written;
 use journal::{CHECKPOINT, COMMAND, Sealed};
 use prima_base::NoMemory;
-use smo_types::Command;
+use smo_ops_types::Command;
 use std::alloc::Global;
 use store_image::image_of;
 

@@ -6,10 +6,10 @@ use Rattle.std.specs.List.{filter_map, cons_option}
 use Rattle.std.proofs.lemmas.Bool.Decides.{nat_tests}
 use Rattle.std.proofs.lemmas.List.{take_more}
 use Rattle.std.proofs.lemmas.List.Elements.{filter_map-append}
-use Rattle.relations.specs.Sets.{In}
-use Rattle.relations.specs.Spans.{Span, span, common}
-use Rattle.relations.specs.Timed.{Entry}
-use Rattle.relations.specs.Listing.{Covered}
+use Rattle.relations_spec.specs.Sets.{In}
+use Rattle.relations_spec.specs.Spans.{Span, span, common}
+use Rattle.relations_spec.specs.Timed.{Entry}
+use Rattle.relations_spec.specs.Listing.{Covered}
 use Rattle.prima_base.specs.declared.timed_row.TimedRow.{TimedRow}
 use Rattle.prima_base.specs.Timed.{entry_of, entries_of}
 use Rattle.coalesce.specs.Cutting.{with_period, cut_row, entry_with, cut_entry}

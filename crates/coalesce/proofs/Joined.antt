@@ -6,13 +6,13 @@ use Rattle.std.specs.Ordering.{is_eq, nat_cmp, ordering_then}
 use Rattle.std.specs.declared.cmp.Ordering.{Ordering}
 use Rattle.std.specs.declared.cmp.Ordering.TheVariants.{Less, Equal, Greater}
 use Rattle.std.proofs.lemmas.Bool.Decides.{nat_tests}
-use Rattle.relations.specs.Sets.{In, BeforeAll, Ascends, IsExact}
-use Rattle.relations.specs.Spans.{Span}
-use Rattle.relations.specs.Timed.{Entry, at}
-use Rattle.relations.specs.Listing.{IsEntry, IsListing, Covered, entry_cmp}
-use Rattle.relations.proofs.SetLaws.{cmp_itself, below_each, told_apart}
-use Rattle.relations.proofs.ListingLaws.{at_or_above, made, entry_less, less_entry}
-use Rattle.relations.proofs.Held.{in_at, covers_is}
+use Rattle.relations_spec.specs.Sets.{In, BeforeAll, Ascends, IsExact}
+use Rattle.relations_spec.specs.Spans.{Span}
+use Rattle.relations_spec.specs.Timed.{Entry, at}
+use Rattle.relations_spec.specs.Listing.{IsEntry, IsListing, Covered, entry_cmp}
+use Rattle.relations_spec.proofs.SetLaws.{cmp_itself, below_each, told_apart}
+use Rattle.relations_spec.proofs.ListingLaws.{at_or_above, made, entry_less, less_entry}
+use Rattle.relations_spec.proofs.Held.{in_at, covers_is}
 use Rattle.coalesce.specs.Joining.{touch_entries, join_entries, into, merged}
 use Rattle.coalesce.proofs.Cut.{Covers, covered_first, covered_later, from_covered, Within}
 

@@ -2,7 +2,7 @@
 use Rattle.std.proofs.Common.{◌≡◌, Bool, true, false, cond, List, [], ◌∷◌, refl, ap}
 use Rattle.std.specs.Prelude.{Some, None}
 use Rattle.std.specs.List.{filter, filter_map, cons_option}
-use Rattle.relations.specs.Timed.{Entry}
+use Rattle.relations_spec.specs.Timed.{Entry}
 use Rattle.prima_base.specs.declared.keep.Keep.{Keep}
 use Rattle.prima_base.specs.declared.timed_row.TimedRow.{TimedRow}
 use Rattle.prima_base.specs.declared.value.Value.{Value}

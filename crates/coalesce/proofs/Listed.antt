@@ -1,11 +1,11 @@
 -- What a list holds at a moment is the relation that it lists.
 use Rattle.std.proofs.Common.{◌≡◌, ◌≤◌, ◌<◌, ℕ, true, false, List, [], ◌∷◌, refl, subst, inl, arith}
-use Rattle.relations.specs.Sets.{In, Ascends}
-use Rattle.relations.specs.Spans.{Span, covers}
-use Rattle.relations.specs.Timed.{Entry, at}
-use Rattle.relations.specs.Listing.{IsListing, Covered}
-use Rattle.relations.proofs.SetLaws.{one_list}
-use Rattle.relations.proofs.Held.{in_at, at_ascends, held_is_covered, covers_is}
+use Rattle.relations_spec.specs.Sets.{In, Ascends}
+use Rattle.relations_spec.specs.Spans.{Span, covers}
+use Rattle.relations_spec.specs.Timed.{Entry, at}
+use Rattle.relations_spec.specs.Listing.{IsListing, Covered}
+use Rattle.relations_spec.proofs.SetLaws.{one_list}
+use Rattle.relations_spec.proofs.Held.{in_at, at_ascends, held_is_covered, covers_is}
 use Rattle.prima_base.specs.declared.value.Value.{Value}
 use Rattle.prima_base.specs.declared.timed_row.TimedRow.{TimedRow}
 use Rattle.prima_base.specs.Order.{row_cmp}

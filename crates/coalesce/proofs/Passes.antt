@@ -4,7 +4,7 @@ use Rattle.std.proofs.Common.{arith}
 use Rattle.std.specs.Prelude.{◌&&◌}
 use Rattle.std.proofs.Math.ListN.{drop_of_length-le}
 use Rattle.std.proofs.lemmas.List.{drop_more}
-use Rattle.relations.specs.Spans.{Span}
+use Rattle.relations_spec.specs.Spans.{Span}
 use Rattle.prima_base.specs.declared.timed_row.TimedRow.{TimedRow}
 use Rattle.coalesce.specs.Listed.{is_inside, is_after, are_after, is_listing}
 

@@ -2,13 +2,13 @@
 use Rattle.std.proofs.Common.{◌≡◌, ℕ, Bool, true, false, List, [], ◌∷◌, length, refl}
 use Rattle.std.proofs.Common.{ap, ◌∙◌, arith}
 use Rattle.std.specs.Prelude.{map, max, cond}
-use Rattle.relations.specs.Spans.{Span, span}
+use Rattle.relations_spec.specs.Spans.{Span, span}
 use Rattle.prima_base.specs.declared.timed_row.TimedRow.{TimedRow}
 use Rattle.std.specs.Ordering.{is_eq, ordering_then}
 use Rattle.std.specs.declared.cmp.Ordering.{Ordering}
 use Rattle.std.specs.declared.cmp.Ordering.TheVariants.{Less, Equal, Greater}
 use Rattle.std.specs.Cmp.Lexicographic.{slice_cmp}
-use Rattle.timed_rows.specs.Rows.{in_period}
+use Rattle.prima_base_rows.specs.Rows.{in_period}
 use Rattle.coalesce.specs.Joining.{both, join_rows, into, merged}
 
 pub other_length : {K : Type 0} (R : K → K → Ordering) (a b : List K) → (length a ≡ length b → ⊥)

@@ -11,11 +11,11 @@ use Rattle.std.specs.Cmp.Derive.Mapped.{lex_map}
 use Rattle.std.proofs.lemmas.List.Sorted.{Contains-permutation, IsPermutation-sym}
 use Rattle.std.proofs.lemmas.List.Sorted.{IsPermutation-map}
 use Rattle.std.proofs.lemmas.Bool.Decides.{nat_tests}
-use Rattle.relations.specs.Sets.{In}
-use Rattle.relations.specs.Spans.{Span}
-use Rattle.relations.specs.Timed.{Entry, at}
-use Rattle.relations.specs.Listing.{IsListing, Covered}
-use Rattle.relations.proofs.ListingLaws.{listing_same}
+use Rattle.relations_spec.specs.Sets.{In}
+use Rattle.relations_spec.specs.Spans.{Span}
+use Rattle.relations_spec.specs.Timed.{Entry, at}
+use Rattle.relations_spec.specs.Listing.{IsListing, Covered}
+use Rattle.relations_spec.proofs.ListingLaws.{listing_same}
 use Rattle.prima_base.specs.declared.timed_row.TimedRow.{TimedRow}
 use Rattle.prima_base.specs.Order.{row_cmp, value_cmp, shown}
 use Rattle.prima_base.specs.OrderLaws.{row_exact}

@@ -6,11 +6,11 @@ use Rattle.std.specs.Ordering.{is_lt, is_eq, nat_cmp, ordering_then}
 use Rattle.std.specs.declared.cmp.Ordering.{Ordering}
 use Rattle.std.specs.declared.cmp.Ordering.TheVariants.{Less, Equal, Greater}
 use Rattle.std.proofs.lemmas.Bool.Decides.{nat_tests}
-use Rattle.relations.specs.Sets.{In}
-use Rattle.relations.specs.Spans.{Span}
-use Rattle.relations.specs.Timed.{Entry}
-use Rattle.relations.specs.Listing.{IsListing}
-use Rattle.relations.proofs.SetLaws.{in_map}
+use Rattle.relations_spec.specs.Sets.{In}
+use Rattle.relations_spec.specs.Spans.{Span}
+use Rattle.relations_spec.specs.Timed.{Entry}
+use Rattle.relations_spec.specs.Listing.{IsListing}
+use Rattle.relations_spec.proofs.SetLaws.{in_map}
 use Rattle.prima_base.specs.declared.value.Value.{Value}
 use Rattle.prima_base.specs.declared.timed_row.TimedRow.{TimedRow}
 use Rattle.prima_base.specs.Order.{row_cmp}

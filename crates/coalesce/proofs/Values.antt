@@ -6,10 +6,10 @@ use Rattle.std.specs.List.{filter_map, cons_option}
 use Rattle.std.specs.List.Sorted.{IsPermutation}
 use Rattle.std.proofs.lemmas.List.Sorted.{IsPermutation-sym}
 use Rattle.std.proofs.lemmas.Option.{same_Some}
-use Rattle.relations.specs.Sets.{In}
-use Rattle.relations.specs.Spans.{Span, common, covers}
-use Rattle.relations.proofs.CommonMoments.{in_common, common_lasts}
-use Rattle.relations.proofs.Held.{covers_is}
+use Rattle.relations_spec.specs.Sets.{In}
+use Rattle.relations_spec.specs.Spans.{Span, common, covers}
+use Rattle.relations_spec.proofs.CommonMoments.{in_common, common_lasts}
+use Rattle.relations_spec.proofs.Held.{covers_is}
 use Rattle.prima_base.specs.declared.timed_row.TimedRow.{TimedRow}
 use Rattle.coalesce.specs.Cutting.{with_period, cut_row}
 use Rattle.coalesce.specs.Joining.{touch_rows, join_rows, into, merged, HaveValuesOf}

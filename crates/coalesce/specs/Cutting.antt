@@ -1,8 +1,8 @@
 -- Rows and entries, cut to a slice.
 use Rattle.std.specs.Prelude.{ℕ, List, ◌++◌, take, drop, Option, Some, None, if◌then◌else◌}
 use Rattle.std.specs.List.{filter_map}
-use Rattle.relations.specs.Spans.{Span, common}
-use Rattle.relations.specs.Timed.{Entry}
+use Rattle.relations_spec.specs.Spans.{Span, common}
+use Rattle.relations_spec.specs.Timed.{Entry}
 use Rattle.prima_base.specs.Keeping.{keeps_all}
 use Rattle.prima_base.specs.declared.keep.Keep.{Keep}
 use Rattle.prima_base.specs.declared.timed_row.TimedRow.{TimedRow}

@@ -1,7 +1,7 @@
 -- Rows that are the list of what they hold as they stand.
 use Rattle.std.specs.Prelude.{Bool, true, ◌&&◌, nat_le, nat_lt, List, [], ◌∷◌}
 use Rattle.std.specs.Ordering.{is_lt, nat_cmp, ordering_then}
-use Rattle.relations.specs.Spans.{Span}
+use Rattle.relations_spec.specs.Spans.{Span}
 use Rattle.prima_base.specs.declared.timed_row.TimedRow.{TimedRow}
 use Rattle.prima_base.specs.Timed.{vals_cmp}
 

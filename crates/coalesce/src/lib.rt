@@ -12,8 +12,8 @@ mod row_list;
 mod row_merge;
 
 ghost use Rattle.std.specs.Prelude.{◌≡◌, ℕ, true, false, []};
-ghost use Rattle.relations.specs.Listing.{IsListing};
-ghost use Rattle.relations.specs.Spans.{covers};
+ghost use Rattle.relations_spec.specs.Listing.{IsListing};
+ghost use Rattle.relations_spec.specs.Spans.{covers};
 ghost use Rattle.coalesce.specs.Joining.{HaveValuesOf};
 ghost use Rattle.prima_base.specs.Order.{row_cmp};
 ghost use Rattle.prima_base.specs.Timed.{rows_at, entries_of};
@@ -23,9 +23,9 @@ use crate::row_group::sort_groups;
 use crate::row_list::is_listing;
 use crate::row_merge::join_sorted;
 use prima_base::Period;
+use prima_base_rows::TimedRows;
 pub use row_cut::cut_to_slice;
 pub use row_keep::keep;
-use timed_rows::TimedRows;
 
 /// Makes of rows with periods the one list of what they hold inside a slice: each row with its
 /// longest periods, ascending by row and start. At each moment of the slice the same rows hold as

@@ -6,7 +6,7 @@ ghost use Rattle.coalesce.specs.Joining.{HaveValuesOf};
 
 use crate::row_list::is_inside;
 use prima_base::{Period, meet};
-use timed_rows::TimedRows;
+use prima_base_rows::TimedRows;
 
 /// Exchanges two rows. One that is in its place stays where it is, and is not moved.
 pub fn exchange(rows: &mut TimedRows<'_>, place: usize, next: usize)

@@ -9,7 +9,7 @@ ghost use Rattle.std.specs.Prelude.{◌≡◌, ◌≤◌, ◌<◌, length};
 ghost use Rattle.std.specs.List.Sorted.{IsPermutation};
 
 use prima_base::Val;
-use timed_rows::TimedRows;
+use prima_base_rows::TimedRows;
 
 // Whether both rows begin with the same value.
 fn share_first(row: &[Val<'_>], other: &[Val<'_>]) -> bool {

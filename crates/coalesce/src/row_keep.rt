@@ -6,7 +6,7 @@ ghost use Rattle.coalesce.specs.Joining.{AreAmong};
 
 use crate::row_cut::exchange;
 use prima_base::{FOREVER, Keep, Period};
-use timed_rows::TimedRows;
+use prima_base_rows::TimedRows;
 
 // Whether the number is below the bound; `FOREVER` is no limit.
 fn is_below(bound: u64, number: u64) -> bool

@@ -8,7 +8,7 @@ ghost use Rattle.prima_base.specs.declared.timed_row.TimedRow.{TimedRow};
 ghost use Rattle.coalesce.specs.Listed.{is_inside, is_after, are_after, is_listing};
 
 use prima_base::{Period, compare_vals};
-use timed_rows::TimedRows;
+use prima_base_rows::TimedRows;
 
 /// Whether the period is inside the slice.
 pub(crate) fn is_inside(period: Period, slice: Period) -> bool

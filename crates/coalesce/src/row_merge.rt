@@ -4,7 +4,7 @@ ghost use Rattle.coalesce.specs.Joining.{standing, merged, touch_rows, join_rows
 
 use crate::row_cut::exchange;
 use prima_base::compare_vals;
-use timed_rows::TimedRows;
+use prima_base_rows::TimedRows;
 
 // Whether the next is of the same row and begins before, or where, the first ends.
 fn touches(rows: &TimedRows<'_>, first: usize, next: usize) -> bool

@@ -2,16 +2,16 @@
 use Rattle.std.proofs.Common.{◌≡◌, ℕ, ◌-◌, ◌<◌, ◌≤◌, List, [], length, refl, sym, ap, ◌∙◌, subst}
 use Rattle.std.proofs.Common.{Option, Some, Result, Ok, Err}
 use Rattle.std.specs.Prelude.{IfOk, IfErr, IfSome}
-use Rattle.smo_types.specs.Commands.{PlainCommand, command_of}
-use Rattle.smo_types.specs.declared.command.Body.{Body}
-use Rattle.command_spelling.specs.Reading.{Parsed, Unexpected}
-use Rattle.command_spelling.specs.Spelling.{command_bytes}
-use Rattle.command_spelling.specs.Valid.{IsCommand}
-use Rattle.command_spelling.specs.Reader.{command}
-use Rattle.command_spelling.specs.Found.{Decoding, whole, bad_at, rest_at, IsDecoding}
-use Rattle.command_spelling.proofs.CommandFormats.{command_correct}
-use Rattle.command_spelling.proofs.Deciding.{got_prefix, got_command, got_more, stuck_command}
-use Rattle.command_spelling.proofs.Deciding.{decoding_once}
+use Rattle.smo_ops_types.specs.Commands.{PlainCommand, command_of}
+use Rattle.smo_ops_types.specs.declared.command.Body.{Body}
+use Rattle.command_codec_spec.specs.Reading.{Parsed, Unexpected}
+use Rattle.command_codec_spec.specs.Spelling.{command_bytes}
+use Rattle.command_codec_spec.specs.Valid.{IsCommand}
+use Rattle.command_codec_spec.specs.Reader.{command}
+use Rattle.command_codec_spec.specs.Found.{Decoding, whole, bad_at, rest_at, IsDecoding}
+use Rattle.command_codec_spec.proofs.CommandFormats.{command_correct}
+use Rattle.command_codec_spec.proofs.Deciding.{got_prefix, got_command, got_more, stuck_command}
+use Rattle.command_codec_spec.proofs.Deciding.{decoding_once}
 use Rattle.command_codec.specs.declared.fault.CodecFault.{CodecFault}
 use Rattle.command_codec.specs.declared.fault.CodecFault.TheVariants.{BadAt, Rest, NoMemory}
 use Rattle.command_codec.specs.Answers.{decoding_of}

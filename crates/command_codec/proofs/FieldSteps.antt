@@ -4,12 +4,12 @@ use Rattle.std.proofs.Common.{◌∷◌, length, take, refl, sym, ap, ◌∙◌,
 use Rattle.std.proofs.lemmas.Bool.{ltb-true}
 use Rattle.std.proofs.lemmas.List.{take_at, length-append}
 use Rattle.prima_base.specs.Bytes.{is_name_byte, is_text_byte, IsName, IsTxt}
-use Rattle.command_spelling.specs.Reading.{Parsed, Unexpected, and_then, pure, map_to, byte, run}
-use Rattle.command_spelling.specs.Reading.{digits}
-use Rattle.command_spelling.specs.Reader.{is_name_start, is_name_length, name_text}
-use Rattle.command_spelling.proofs.Correctness.{is_read, byte_correct, run_correct}
-use Rattle.command_spelling.proofs.Numbers.{of_both, number_correct}
-use Rattle.command_spelling.proofs.PartFormats.{name_text_correct, are_text}
+use Rattle.command_codec_spec.specs.Reading.{Parsed, Unexpected, and_then, pure, map_to, byte, run}
+use Rattle.command_codec_spec.specs.Reading.{digits}
+use Rattle.command_codec_spec.specs.Reader.{is_name_start, is_name_length, name_text}
+use Rattle.command_codec_spec.proofs.Correctness.{is_read, byte_correct, run_correct}
+use Rattle.command_codec_spec.proofs.Numbers.{of_both, number_correct}
+use Rattle.command_codec_spec.proofs.PartFormats.{name_text_correct, are_text}
 
 from_length : (n : ℕ) → is_name_length n ≡ true → suc (n - 1) ≡ n
 from_length n h = let k = ltb-true 0 n (of_both (nat_lt 0 n) (nat_le n 63) h).0 in omega (arith, k)

@@ -2,9 +2,9 @@
 use Rattle.std.proofs.Common.{◌≡◌, ℕ, ◌<◌, ◌^◌, List, ◌++◌, length, get_or, sym, ap, ◌∙◌, arith}
 use Rattle.std.specs.Int.{w64, from_be_bytes, bytes_high_first}
 use Rattle.std.proofs.lemmas.Nat.{be_bytes_8}
-use Rattle.command_spelling.specs.Reading.{Parsed, digits}
-use Rattle.command_spelling.specs.Spelling.{number}
-use Rattle.command_spelling.proofs.Numbers.{number_correct}
+use Rattle.command_codec_spec.specs.Reading.{Parsed, digits}
+use Rattle.command_codec_spec.specs.Spelling.{number}
+use Rattle.command_codec_spec.proofs.Numbers.{number_correct}
 
 pub read_at_once : (bs : List ℕ) → length bs ≡ 8 → ((i : ℕ) → get_or bs i 0 < 256) → (n : ℕ)
     → n < 2 ^ 64 → n ≡ from_be_bytes w64 bs → (rest : List ℕ)

@@ -4,7 +4,7 @@ use Rattle.cond_expr.specs.declared.expr.Expr.{Expr}
 use Rattle.cond_expr.specs.declared.expr.Cond.{Cond}
 use Rattle.cond_expr.specs.Seen.{tree, test}
 use Rattle.command_codec.specs.declared.reader.ReadStop.{ReadStop}
-use Rattle.command_spelling.specs.Reader.{expr, cond, level}
+use Rattle.command_codec_spec.specs.Reader.{expr, cond, level}
 use Rattle.command_codec.specs.Reads.{Reads}
 
 -- a level over the one below

@@ -1,10 +1,10 @@
 -- What the functions that read answer.
 use Rattle.std.specs.Prelude.{ℕ, Bool, Option, Some, None, Result, Ok, Err}
 use Rattle.prima_base.specs.Bytes.{is_name_byte, is_text_byte}
-use Rattle.smo_types.specs.Commands.{command_of}
-use Rattle.smo_types.specs.declared.command.Body.{Body}
-use Rattle.command_spelling.specs.Found.{Decoding, whole, bad_at, rest_at, Part, part, no_part}
-use Rattle.command_spelling.specs.Found.{more}
+use Rattle.smo_ops_types.specs.Commands.{command_of}
+use Rattle.smo_ops_types.specs.declared.command.Body.{Body}
+use Rattle.command_codec_spec.specs.Found.{Decoding, whole, bad_at, rest_at, Part, part, no_part}
+use Rattle.command_codec_spec.specs.Found.{more}
 use Rattle.command_codec.specs.declared.fault.CodecFault.{CodecFault}
 use Rattle.command_codec.specs.declared.fault.CodecFault.TheVariants.{BadAt, Rest, NoMemory}
 use Rattle.command_codec.specs.declared.reader.Alphabet.{Alphabet}

@@ -2,7 +2,7 @@
 use Rattle.std.specs.Prelude.{◌≡◌, ℕ, List, Result, Ok, Err}
 use Rattle.command_codec.specs.declared.reader.ReadStop.{ReadStop}
 use Rattle.command_codec.specs.declared.reader.ReadStop.TheVariants as stop
-use Rattle.command_spelling.specs.Reading.{Out, Parsed, Unexpected}
+use Rattle.command_codec_spec.specs.Reading.{Out, Parsed, Unexpected}
 
 -- it stands at the byte with which nothing goes on; running out of memory is free
 abbrev pub Fails : {A : Type 0} → Out A → ReadStop → List ℕ → Type 0

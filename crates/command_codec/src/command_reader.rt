@@ -1,9 +1,9 @@
 //! Reading changes and commands.
 
-ghost use Rattle.smo_types.specs.Changes.{change_of, changes_of, set_of_expr, sets_of};
-ghost use Rattle.smo_types.specs.Commands.{body_of, command_of, changing, evolving};
-ghost use Rattle.command_spelling.specs.Reading.{map_to, pair};
-ghost use Rattle.command_spelling.specs.Reader as spec;
+ghost use Rattle.smo_ops_types.specs.Changes.{change_of, changes_of, set_of_expr, sets_of};
+ghost use Rattle.smo_ops_types.specs.Commands.{body_of, command_of, changing, evolving};
+ghost use Rattle.command_codec_spec.specs.Reading.{map_to, pair};
+ghost use Rattle.command_codec_spec.specs.Reader as spec;
 ghost use Rattle.command_codec.specs.Reads.{Reads};
 
 use crate::field::{name, value};
@@ -12,11 +12,11 @@ use crate::reader::{ReadStop, Reader};
 use crate::tree_reader::{outer_cond, outer_expr};
 use cond_expr::Expr;
 use prima_base::{FOREVER, Name, Value};
-use smo_types::{Body, Change, Command};
+use smo_ops_types::{Body, Change, Command};
 use std::alloc::Global;
 
 // A column's name and its value.
-#[tactic(auto, unfolding(command_spelling::specs::Reader::cell))]
+#[tactic(auto, unfolding(command_codec_spec::specs::Reader::cell))]
 fn cell(alloc: Global, reader: &mut Reader<'_>) -> Result<(Name, Value), ReadStop>
     ensures { Reads (λ c. c) (spec.cell reader.old.rest.now) result reader.new.rest.now }
 {
@@ -26,7 +26,7 @@ fn cell(alloc: Global, reader: &mut Reader<'_>) -> Result<(Name, Value), ReadSto
 }
 
 // Cells, with their count before them.
-#[tactic(auto, unfolding(command_spelling::specs::Reader::cells))]
+#[tactic(auto, unfolding(command_codec_spec::specs::Reader::cells))]
 fn cells(alloc: Global, reader: &mut Reader<'_>) -> Result<Vec<(Name, Value)>, ReadStop>
     ensures { Reads (λ v. v.items) (spec.cells reader.old.rest.now) result reader.new.rest.now }
 {
@@ -39,7 +39,7 @@ fn cells(alloc: Global, reader: &mut Reader<'_>) -> Result<Vec<(Name, Value)>, R
 }
 
 // A column's name and what it is set to.
-#[tactic(auto, unfolding(command_spelling::specs::Reader::set))]
+#[tactic(auto, unfolding(command_codec_spec::specs::Reader::set))]
 fn set(alloc: Global, reader: &mut Reader<'_>) -> Result<(Name, Expr), ReadStop>
     ensures { Reads set_of_expr (spec.set reader.old.rest.now) result reader.new.rest.now }
 {
@@ -49,7 +49,7 @@ fn set(alloc: Global, reader: &mut Reader<'_>) -> Result<(Name, Expr), ReadStop>
 }
 
 // What columns are set to, with their count before them.
-#[tactic(auto, unfolding(command_spelling::specs::Reader::sets))]
+#[tactic(auto, unfolding(command_codec_spec::specs::Reader::sets))]
 fn sets(alloc: Global, reader: &mut Reader<'_>) -> Result<Vec<(Name, Expr)>, ReadStop>
     ensures { Reads (λ v. sets_of v.items) (spec.sets reader.old.rest.now) result
         reader.new.rest.now }
@@ -95,7 +95,7 @@ fn update(alloc: Global, reader: &mut Reader<'_>) -> Result<Change, ReadStop>
 }
 
 // A change.
-#[tactic(auto, unfolding(command_spelling::specs::Reader::change))]
+#[tactic(auto, unfolding(command_codec_spec::specs::Reader::change))]
 fn change(alloc: Global, reader: &mut Reader<'_>) -> Result<Change, ReadStop>
     ensures { Reads change_of (spec.change reader.old.rest.now) result reader.new.rest.now }
 {
@@ -107,7 +107,7 @@ fn change(alloc: Global, reader: &mut Reader<'_>) -> Result<Change, ReadStop>
 }
 
 // Changes, with their count before them.
-#[tactic(auto, unfolding(command_spelling::specs::Reader::changes))]
+#[tactic(auto, unfolding(command_codec_spec::specs::Reader::changes))]
 fn changes(alloc: Global, reader: &mut Reader<'_>) -> Result<Vec<Change>, ReadStop>
     ensures { Reads (λ v. changes_of v.items) (spec.changes reader.old.rest.now) result
         reader.new.rest.now }
@@ -121,7 +121,7 @@ fn changes(alloc: Global, reader: &mut Reader<'_>) -> Result<Vec<Change>, ReadSt
 }
 
 // What a command does.
-#[tactic(auto, unfolding(command_spelling::specs::Reader::body))]
+#[tactic(auto, unfolding(command_codec_spec::specs::Reader::body))]
 fn body(alloc: Global, reader: &mut Reader<'_>) -> Result<Body, ReadStop>
     ensures { Reads body_of (spec.body reader.old.rest.now) result reader.new.rest.now }
 {
@@ -136,7 +136,7 @@ fn body(alloc: Global, reader: &mut Reader<'_>) -> Result<Body, ReadStop>
 }
 
 /// A command.
-#[tactic(auto, unfolding(command_spelling::specs::Reader::command))]
+#[tactic(auto, unfolding(command_codec_spec::specs::Reader::command))]
 pub fn command(alloc: Global, reader: &mut Reader<'_>) -> Result<Command, ReadStop>
     ensures { Reads command_of (spec.command reader.old.rest.now) result reader.new.rest.now }
 {

@@ -1,12 +1,12 @@
 ghost use Rattle.std.specs.Prelude.{◌≡◌, ◌-◌, ◌<◌, ◌≤◌, [], length, IfOk, IfErr, IfSome};
 ghost use Rattle.command_codec.specs.declared.fault.CodecFault.TheVariants.{Rest};
-ghost use Rattle.command_spelling.specs.Found.{Decoding, IsDecoding};
+ghost use Rattle.command_codec_spec.specs.Found.{Decoding, IsDecoding};
 ghost use Rattle.command_codec.specs.Answers.{decoding_of};
 
 use crate::CodecFault;
 use crate::command_reader::command;
 use crate::reader::{ReadStop, Reader};
-use smo_types::Command;
+use smo_ops_types::Command;
 use std::alloc::Global;
 
 // The command that was read from the start of the bytes, if nothing is left of them.

@@ -2,7 +2,7 @@
 
 ghost use Rattle.std.specs.Prelude.{◌≡◌, true, IfOk};
 ghost use Rattle.prima_base.specs.Bytes.{IsName};
-ghost use Rattle.command_spelling.specs.Reader as spec;
+ghost use Rattle.command_codec_spec.specs.Reader as spec;
 ghost use Rattle.command_codec.specs.Reads.{Reads, ReadsInPlace};
 
 use crate::reader::{Alphabet, ReadStop, Reader, Unexpected};
@@ -24,7 +24,7 @@ fn name_text<'a>(reader: &mut Reader<'a>, count: u8) -> Result<&'a [u8], Unexpec
 }
 
 /// A name, where it stands in the bytes. It takes no memory.
-#[tactic(auto, unfolding(command_spelling::specs::Reader::name))]
+#[tactic(auto, unfolding(command_codec_spec::specs::Reader::name))]
 pub fn borrowed_name<'a>(reader: &mut Reader<'a>) -> Result<&'a [u8], Unexpected>
     ensures reads { ReadsInPlace (λ s. s.now) (spec.name reader.old.rest.now) result reader.new.rest.now }
     ensures valid { IfOk result (λ s. IsName s.now) }
@@ -51,7 +51,7 @@ fn text(alloc: Global, reader: &mut Reader<'_>) -> Result<Txt, ReadStop>
 }
 
 /// A value.
-#[tactic(auto, unfolding(command_spelling::specs::Reader::value, command_spelling::specs::Reader::number_64))]
+#[tactic(auto, unfolding(command_codec_spec::specs::Reader::value, command_codec_spec::specs::Reader::number_64))]
 pub fn value(alloc: Global, reader: &mut Reader<'_>) -> Result<Value, ReadStop>
     ensures { Reads (λ v. v) (spec.value reader.old.rest.now) result reader.new.rest.now }
 {
@@ -62,7 +62,7 @@ pub fn value(alloc: Global, reader: &mut Reader<'_>) -> Result<Value, ReadStop>
 }
 
 /// A column's type.
-#[tactic(auto, unfolding(command_spelling::specs::Reader::column_type))]
+#[tactic(auto, unfolding(command_codec_spec::specs::Reader::column_type))]
 pub fn column_type(reader: &mut Reader<'_>) -> Result<ColType, Unexpected>
     ensures { ReadsInPlace (λ k. k) (spec.column_type reader.old.rest.now) result
         reader.new.rest.now }
@@ -74,7 +74,7 @@ pub fn column_type(reader: &mut Reader<'_>) -> Result<ColType, Unexpected>
 }
 
 /// The sign of a comparison.
-#[tactic(auto, unfolding(command_spelling::specs::Reader::sign))]
+#[tactic(auto, unfolding(command_codec_spec::specs::Reader::sign))]
 pub fn sign(reader: &mut Reader<'_>) -> Result<CmpOp, Unexpected>
     ensures { ReadsInPlace (λ o. o) (spec.sign reader.old.rest.now) result reader.new.rest.now }
 {

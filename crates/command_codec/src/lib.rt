@@ -1,8 +1,8 @@
 //! Commands as bytes, written and read.
 //!
-//! command_encoder writes them; here they are read: `decode` a command that is all of the bytes,
+//! command_codec_writer writes them; here they are read: `decode` a command that is all of the bytes,
 //! and `read_name`, `read_value` and `read_op` a part that begins at a place. Which bytes they are
-//! says command_spelling, with its laws. `Reader` goes over bytes from the start, and `name`,
+//! says command_codec_spec, with its laws. `Reader` goes over bytes from the start, and `name`,
 //! `value`, `op` and `ops` read a part from it, for who reads a larger format.
 #![tactic(auto)]
 
@@ -16,7 +16,9 @@ mod reader;
 mod tree_reader;
 mod value_reader;
 
-pub use command_encoder::{encode, encode_changes, encode_operator, put_name, put_op, put_value};
+pub use command_codec_writer::{
+    encode, encode_changes, encode_operator, put_name, put_op, put_value,
+};
 pub use decoder::decode;
 pub use fault::CodecFault;
 pub use field::{borrowed_name, column_type, name, sign, value};

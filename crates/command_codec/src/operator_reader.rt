@@ -1,19 +1,19 @@
 //! Reading operators.
 
-ghost use Rattle.smo_types.specs.Operators.{operator_of, operators_of};
-ghost use Rattle.command_spelling.specs.Reading.{map_to, pair};
-ghost use Rattle.command_spelling.specs.Reader as spec;
+ghost use Rattle.smo_ops_types.specs.Operators.{operator_of, operators_of};
+ghost use Rattle.command_codec_spec.specs.Reading.{map_to, pair};
+ghost use Rattle.command_codec_spec.specs.Reader as spec;
 ghost use Rattle.command_codec.specs.Reads.{Reads};
 
 use crate::field::{column_type, name};
 use crate::reader::{ReadStop, Reader};
 use crate::tree_reader::{outer_cond, outer_expr};
 use prima_base::{ColType, Name};
-use smo_types::Op;
+use smo_ops_types::Op;
 use std::alloc::Global;
 
 // A column's name and its type.
-#[tactic(auto, unfolding(command_spelling::specs::Reader::column_of))]
+#[tactic(auto, unfolding(command_codec_spec::specs::Reader::column_of))]
 fn column(alloc: Global, reader: &mut Reader<'_>) -> Result<(Name, ColType), ReadStop>
     ensures { Reads (λ c. c) (spec.column_of reader.old.rest.now) result reader.new.rest.now }
 {
@@ -23,7 +23,7 @@ fn column(alloc: Global, reader: &mut Reader<'_>) -> Result<(Name, ColType), Rea
 }
 
 // Columns, with their count before them.
-#[tactic(auto, unfolding(command_spelling::specs::Reader::columns))]
+#[tactic(auto, unfolding(command_codec_spec::specs::Reader::columns))]
 fn columns(alloc: Global, reader: &mut Reader<'_>) -> Result<Vec<(Name, ColType)>, ReadStop>
     ensures { Reads (λ v. v.items) (spec.columns reader.old.rest.now) result reader.new.rest.now }
 {
@@ -36,7 +36,7 @@ fn columns(alloc: Global, reader: &mut Reader<'_>) -> Result<Vec<(Name, ColType)
 }
 
 // Names, with their count before them.
-#[tactic(auto, unfolding(command_spelling::specs::Reader::names))]
+#[tactic(auto, unfolding(command_codec_spec::specs::Reader::names))]
 fn names(alloc: Global, reader: &mut Reader<'_>) -> Result<Vec<Name>, ReadStop>
     ensures { Reads (λ v. v.items) (spec.names reader.old.rest.now) result reader.new.rest.now }
 {
@@ -49,7 +49,7 @@ fn names(alloc: Global, reader: &mut Reader<'_>) -> Result<Vec<Name>, ReadStop>
 }
 
 // Two names.
-#[tactic(auto, unfolding(command_spelling::specs::Reader::two_names))]
+#[tactic(auto, unfolding(command_codec_spec::specs::Reader::two_names))]
 fn two_names(alloc: Global, reader: &mut Reader<'_>) -> Result<(Name, Name), ReadStop>
     ensures { Reads (λ x. (x.0, x.1)) (spec.two_names reader.old.rest.now) result
         reader.new.rest.now }
@@ -60,7 +60,7 @@ fn two_names(alloc: Global, reader: &mut Reader<'_>) -> Result<(Name, Name), Rea
 }
 
 // Three names.
-#[tactic(auto, unfolding(command_spelling::specs::Reader::three_names))]
+#[tactic(auto, unfolding(command_codec_spec::specs::Reader::three_names))]
 fn three_names(alloc: Global, reader: &mut Reader<'_>) -> Result<(Name, Name, Name), ReadStop>
     ensures { Reads (λ x. ((x.0, x.1), x.2)) (spec.three_names reader.old.rest.now) result
         reader.new.rest.now }
@@ -160,7 +160,7 @@ fn renamed_column(alloc: Global, reader: &mut Reader<'_>) -> Result<Op, ReadStop
 }
 
 /// An operator.
-#[tactic(auto, unfolding(command_spelling::specs::Reader::operator))]
+#[tactic(auto, unfolding(command_codec_spec::specs::Reader::operator))]
 pub fn op(alloc: Global, reader: &mut Reader<'_>) -> Result<Op, ReadStop>
     ensures { Reads operator_of (spec.operator reader.old.rest.now) result reader.new.rest.now }
 {
@@ -195,7 +195,7 @@ pub fn op(alloc: Global, reader: &mut Reader<'_>) -> Result<Op, ReadStop>
 }
 
 /// Operators, with their count before them.
-#[tactic(auto, unfolding(command_spelling::specs::Reader::operators))]
+#[tactic(auto, unfolding(command_codec_spec::specs::Reader::operators))]
 pub fn ops(alloc: Global, reader: &mut Reader<'_>) -> Result<Vec<Op>, ReadStop>
     ensures { Reads (λ v. operators_of v.items) (spec.operators reader.old.rest.now) result
         reader.new.rest.now }

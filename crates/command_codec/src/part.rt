@@ -2,9 +2,9 @@
 
 ghost use Rattle.std.specs.Prelude.{◌≡◌, ◌+◌, ◌≤◌, ℕ, List, length, drop, IfSome};
 ghost use Rattle.prima_base.specs.declared.value.Value.{Value as AValue};
-ghost use Rattle.smo_types.specs.Operators.{Operator, operator_of};
-ghost use Rattle.command_spelling.specs.Found.{SpellsName, SpellsValue, SpellsOperator, Part};
-ghost use Rattle.command_spelling.specs.Found.{IsPart};
+ghost use Rattle.smo_ops_types.specs.Operators.{Operator, operator_of};
+ghost use Rattle.command_codec_spec.specs.Found.{SpellsName, SpellsValue, SpellsOperator, Part};
+ghost use Rattle.command_codec_spec.specs.Found.{IsPart};
 ghost use Rattle.command_codec.specs.Answers.{part_of};
 
 use crate::CodecFault;
@@ -12,7 +12,7 @@ use crate::field::{name, value};
 use crate::operator_reader::op;
 use crate::reader::{ReadStop, Reader};
 use prima_base::{Name, Value};
-use smo_types::Op;
+use smo_ops_types::Op;
 use std::alloc::Global;
 
 // A reader of the bytes from a place on.

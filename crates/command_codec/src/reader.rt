@@ -1,7 +1,7 @@
 //! Reading bytes from the start.
 
 ghost use Rattle.std.specs.Prelude.{◌≡◌, ◌++◌, ℕ, List};
-ghost use Rattle.command_spelling.specs.Reading.{Parsed, digits};
+ghost use Rattle.command_codec_spec.specs.Reading.{Parsed, digits};
 
 use prima_base::{NoMemory, is_name_byte};
 use std::alloc::{AllocError, AllocFailed};
@@ -105,8 +105,8 @@ pub struct Reader<'a> {
 impl<'a> Reader<'a> {
     ghost use Rattle.std.specs.Prelude.{◌≡◌, ◌+◌, ◌*◌, ◌/◌, ◌≤◌, ◌<◌, ◌^◌, ◌&&◌, nat_lt, nat_le, ℕ};
     ghost use Rattle.std.specs.Prelude.{length, IfOk};
-    ghost use Rattle.command_spelling.specs.Reading.{byte, digits, run, map_to};
-    ghost use Rattle.command_spelling.specs.Reader as spec;
+    ghost use Rattle.command_codec_spec.specs.Reading.{byte, digits, run, map_to};
+    ghost use Rattle.command_codec_spec.specs.Reader as spec;
     ghost use Rattle.command_codec.specs.Reads.{ReadsInPlace};
     ghost use Rattle.command_codec.specs.Answers.{takes as may_stand};
 

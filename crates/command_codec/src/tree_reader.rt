@@ -5,8 +5,8 @@ ghost use Rattle.cond_expr.specs.declared.expr.Whose.TheVariants.{Atom};
 ghost use Rattle.cond_expr.specs.Trees.{column, constant, length_of, joined};
 ghost use Rattle.cond_expr.specs.Trees.{all_of, some_of, fails};
 ghost use Rattle.cond_expr.specs.Seen.{tree, test, trees_of, tests_of};
-ghost use Rattle.command_spelling.specs.Reading.{byte, digits, map_to, pair, items, listed};
-ghost use Rattle.command_spelling.specs.Reader as spec;
+ghost use Rattle.command_codec_spec.specs.Reading.{byte, digits, map_to, pair, items, listed};
+ghost use Rattle.command_codec_spec.specs.Reader as spec;
 ghost use Rattle.command_codec.specs.Reads.{Reads, ReadsInPlace};
 
 use crate::field::{name, sign, value};
@@ -160,7 +160,7 @@ fn case(alloc: Global, reader: &mut Reader<'_>, levels: u32) -> Result<Expr, Rea
 
 // An expression whose parts have at most so many levels.
 #[cycle(reads)]
-#[tactic(auto, unfolding(command_spelling::specs::Reader::expr))]
+#[tactic(auto, unfolding(command_codec_spec::specs::Reader::expr))]
 fn expr_over(alloc: Global, reader: &mut Reader<'_>, levels: u32) -> Result<Expr, ReadStop>
     ensures { Reads tree (spec.expr (nat_lt 0 levels) (spec.level levels) reader.old.rest.now)
         result reader.new.rest.now }
@@ -220,7 +220,7 @@ fn negation(alloc: Global, reader: &mut Reader<'_>, levels: u32) -> Result<Cond,
 
 // A condition whose parts have at most so many levels.
 #[cycle(reads)]
-#[tactic(auto, unfolding(command_spelling::specs::Reader::cond))]
+#[tactic(auto, unfolding(command_codec_spec::specs::Reader::cond))]
 fn cond_over(alloc: Global, reader: &mut Reader<'_>, levels: u32) -> Result<Cond, ReadStop>
     ensures { Reads test (spec.cond (nat_lt 0 levels) (spec.level levels) reader.old.rest.now)
         result reader.new.rest.now }
@@ -247,7 +247,7 @@ fn cond(alloc: Global, reader: &mut Reader<'_>, levels: u32) -> Result<Cond, Rea
 }
 
 /// An expression.
-#[tactic(auto, unfolding(command_spelling::specs::Reader::outermost))]
+#[tactic(auto, unfolding(command_codec_spec::specs::Reader::outermost))]
 pub fn outer_expr(alloc: Global, reader: &mut Reader<'_>) -> Result<Expr, ReadStop>
     ensures { Reads tree (spec.outermost.expr reader.old.rest.now) result reader.new.rest.now }
 {
@@ -255,7 +255,7 @@ pub fn outer_expr(alloc: Global, reader: &mut Reader<'_>) -> Result<Expr, ReadSt
 }
 
 /// A condition.
-#[tactic(auto, unfolding(command_spelling::specs::Reader::outermost))]
+#[tactic(auto, unfolding(command_codec_spec::specs::Reader::outermost))]
 pub fn outer_cond(alloc: Global, reader: &mut Reader<'_>) -> Result<Cond, ReadStop>
     ensures { Reads test (spec.outermost.cond reader.old.rest.now) result reader.new.rest.now }
 {

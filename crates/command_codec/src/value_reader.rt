@@ -4,7 +4,7 @@ ghost use Rattle.std.specs.Prelude.{IfOk};
 ghost use Rattle.prima_base.specs.Bytes.{IsTxt};
 ghost use Rattle.prima_base.specs.Columns.{IsValid};
 ghost use Rattle.prima_base.specs.Order.{shown, IsBorrowed};
-ghost use Rattle.command_spelling.specs.Reader as spec;
+ghost use Rattle.command_codec_spec.specs.Reader as spec;
 ghost use Rattle.command_codec.specs.Reads.{ReadsInPlace};
 
 use crate::reader::{Alphabet, Reader, Unexpected};
@@ -12,7 +12,7 @@ use prima_base::Val;
 use prima_base::limits::MAX_TEXT;
 
 /// A text, where it stands in the bytes. It takes no memory.
-#[tactic(auto, unfolding(command_spelling::specs::Reader::text))]
+#[tactic(auto, unfolding(command_codec_spec::specs::Reader::text))]
 pub fn borrowed_text<'a>(reader: &mut Reader<'a>) -> Result<&'a [u8], Unexpected>
     ensures reads { ReadsInPlace (λ s. s.now) (spec.text reader.old.rest.now) result reader.new.rest.now }
     ensures valid { IfOk result (λ s. IsTxt s.now) }
@@ -23,7 +23,7 @@ pub fn borrowed_text<'a>(reader: &mut Reader<'a>) -> Result<&'a [u8], Unexpected
 }
 
 /// A value; a text where it stands in the bytes. It takes no memory.
-#[tactic(auto, unfolding(command_spelling::specs::Reader::value, command_spelling::specs::Reader::number_64))]
+#[tactic(auto, unfolding(command_codec_spec::specs::Reader::value, command_codec_spec::specs::Reader::number_64))]
 pub fn borrowed_value<'a>(reader: &mut Reader<'a>) -> Result<Val<'a>, Unexpected>
     ensures reads { ReadsInPlace shown (spec.value reader.old.rest.now) result reader.new.rest.now }
     ensures valid { IfOk result (λ v. IsValid (shown v)) }

@@ -9,3 +9,4 @@ pub mod ConstantLaws
 pub mod ReferenceLaws
 pub mod PinnedLaws
 pub mod ComparisonLaws
+pub mod ListedLaws

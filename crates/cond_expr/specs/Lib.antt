@@ -11,3 +11,5 @@ pub mod Parts
 pub mod AtomColumns
 pub mod PinnedParts
 pub mod Comparisons
+pub mod Walks
+pub mod Judgements

@@ -1,4 +1,5 @@
-//! Expressions and conditions over the columns of atoms: trees, their types, values and sizes.
+//! Expressions and conditions over the columns of atoms: trees, their types with their first
+//! faults, values and sizes.
 //!
 //! A contract sees a tree as a plain mirror of it (`specs/Trees.antt`, read by `tree` and `test` of
 //! `specs/Seen.antt`), and a value as it is shown.
@@ -10,6 +11,8 @@ mod comparison;
 mod copy;
 mod evaluation;
 mod expr;
+mod expr_type;
+mod fault;
 mod fill;
 mod laws;
 mod maker;
@@ -23,6 +26,11 @@ pub use comparison::{same_way, turned};
 pub use copy::Itself;
 pub use evaluation::{decide, eval, holds};
 pub use expr::{CmpOp, ColRef, Column, Cond, Expr, TreeSize, Whose};
+pub use expr_type::{
+    TypedExpr, check_cond, type_of, typed_cond, typed_expr, unknown_of_cond, unknown_of_expr,
+    value_kind,
+};
+pub use fault::TypeFault;
 pub use fill::{Fill, fill_cond, fill_expr};
 pub use laws::{
     accepted_has_a_value_of_its_type, filling_atoms_is_substitution, filling_is_substitution,

@@ -1,2 +1,2 @@
 -- The rows with one value.
-pub use Rattle.table_meaning.specs.ByValue.{rows_with}
+pub use Rattle.history_store_change_spec.specs.ByValue.{rows_with}

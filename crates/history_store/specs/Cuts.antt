@@ -1,2 +1,2 @@
 -- Cuts in the order of rows.
-pub use Rattle.row_order.specs.Cuts.{Cut, is_before, between}
+pub use Rattle.history_store_row_order.specs.Cuts.{Cut, is_before, between}

@@ -5,7 +5,7 @@ use Rattle.std.specs.declared.alloc.Global.{Global}
 use Rattle.prima_base.specs.Order.{shown}
 use Rattle.history_store.specs.declared.restoration.Cell.{Cell as GivenCell}
 use Rattle.history_store.specs.Store.{Cell}
-pub use Rattle.table_meaning.specs.Restoring.{store_with, IsInOrder}
+pub use Rattle.history_store_change_spec.specs.Restoring.{store_with, IsInOrder}
 
 -- the entry that a cell is
 abbrev pub cell_of : GivenCell → Cell

@@ -1,11 +1,11 @@
 -- The fields of a table.
 use Rattle.std.specs.Prelude.{◌≡◌, ◌-◌, ◌^◌, ◌<◌, [], length, All, vec_len, vec_capacity}
 use Rattle.history_store.specs.declared.table.StoredTable.TheInside.{Inside}
-use Rattle.row_order.specs.Logs.{cells_of, few_of}
-use Rattle.row_writes.specs.Logs.{kinds_of, types_of, spare_rows}
-use Rattle.row_writes.specs.ValueIndexes.{indexed_columns, least_room, IsIndexed}
+use Rattle.history_store_row_order.specs.Logs.{cells_of, few_of}
+use Rattle.history_store_writes.specs.Logs.{kinds_of, types_of, spare_rows}
+use Rattle.history_store_writes.specs.ValueIndexes.{indexed_columns, least_room, IsIndexed}
 use Rattle.history_store.specs.Store.{Store, cells_in}
-use Rattle.table_meaning.specs.Kept.{store_of, IsKept}
+use Rattle.history_store_change_spec.specs.Kept.{store_of, IsKept}
 
 abbrev pub table_view : Inside → Store
 table_view a = store_of a.columns.items a.keys.items (cells_of a.logs.items)

@@ -20,9 +20,9 @@ mod scan;
 mod table;
 mod table_heading;
 
-pub use column_log::{CellEntry, CellScan};
-pub use given_row::GivenRow;
+pub use history_store_columns::{CellEntry, CellScan};
+pub use history_store_row_order::{BorrowedRows, Cut};
+pub use prima_base_rows::GivenRow;
 pub use restoration::Cell;
-pub use row_order::{BorrowedRows, Cut};
 pub use scan::{KeyEntry, KeyScan};
 pub use table::{PreparedTable, StoredTable};

@@ -2,14 +2,14 @@
 
 ghost use Rattle.std.specs.Prelude.{◌≡◌, ◌<◌, ◌^◌, ℕ, All, IfOk, OnOk, length, map};
 ghost use Rattle.prima_base.specs.Columns.{IsValid};
-ghost use Rattle.row_order.specs.Logs.{cells_of};
-ghost use Rattle.row_writes.specs.Logs.{kinds_of, types_of};
+ghost use Rattle.history_store_row_order.specs.Logs.{cells_of};
+ghost use Rattle.history_store_writes.specs.Logs.{kinds_of, types_of};
 ghost use Rattle.history_store.specs.Store.{cells_in};
 ghost use Rattle.history_store.specs.Restoring.{cell_of, entries_of};
-ghost use Rattle.table_meaning.specs.Restoring.{write_of, writes_of, AreInTurn, ids_known};
-ghost use Rattle.table_meaning.specs.Restoring.{AreCellsOf, AreValidCells, AreEntriesOf};
+ghost use Rattle.history_store_change_spec.specs.Restoring.{write_of, writes_of, AreInTurn, ids_known};
+ghost use Rattle.history_store_change_spec.specs.Restoring.{AreCellsOf, AreValidCells, AreEntriesOf};
 
-use column_log::Column;
+use history_store_columns::Column;
 use prima_base::{ColType, Name, NoMemory, Period, Val};
 use std::alloc::Global;
 

@@ -1,18 +1,18 @@
 use crate::restoration::{Cell, check_cells, restored_columns};
 use crate::scan::KeyScan;
 use crate::table_heading::column_place;
-use column_log::{CellScan, Column};
-use given_row::GivenRow;
-use prima_base::{ColType, Name, NoMemory, Period, Row, Value, copy_columns};
-use row_index::RowIndex;
-use row_order::{
+use history_store_columns::{CellScan, Column};
+use history_store_index::RowIndex;
+use history_store_row_order::{
     After, BorrowedRows, Cut, RowChange, change_index, copy_rows, count_before, few_of,
     find_change, place_in, splice, splice_fresh,
 };
-use row_writes::{
+use history_store_writes::{
     ValueIndex, carry_out, count_cells, empty_columns, gain_each, index_of, lose_each,
     reserve_rows, rows_room,
 };
+use prima_base::{ColType, Name, NoMemory, Period, Row, Value, copy_columns};
+use prima_base_rows::GivenRow;
 use std::alloc::Global;
 use std::marker::Model;
 
@@ -52,11 +52,11 @@ pub struct PreparedTable<'a> {
 }
 
 impl<'a> Model for PreparedTable<'a> {
-    ghost use Rattle.table_meaning.specs.Change.{PreparedChange};
+    ghost use Rattle.history_store_change_spec.specs.Change.{PreparedChange};
 
     ghost Value = { PreparedChange };
 
-    ghost use Rattle.row_order.specs.Indexes.{index_of};
+    ghost use Rattle.history_store_row_order.specs.Indexes.{index_of};
 
     ghost view = { λ p. record {
       stamp = p.stamp;
@@ -88,29 +88,29 @@ impl StoredTable {
     ghost use Rattle.std.specs.Prelude.{◌≡◌, ℕ, ◌+◌, ◌-◌, ◌<◌, ◌≤◌, List, [], length, All, IfOk};
     ghost use Rattle.std.specs.Prelude.{IfSome, OnOk, OnErr, is_some, option_map, slice_index_or};
     ghost use Rattle.std.specs.Prelude.{nat_le};
-    ghost use Rattle.relations.specs.Sets.{In, has};
-    ghost use Rattle.relations.specs.Spans.{forever};
+    ghost use Rattle.relations_spec.specs.Sets.{In, has};
+    ghost use Rattle.relations_spec.specs.Spans.{forever};
     ghost use Rattle.prima_base.specs.Order.{row_cmp};
     ghost use Rattle.prima_base.specs.Columns.{IsValid};
     ghost use Rattle.prima_base.specs.declared.value.Value.{Value as OneValue};
     ghost use Rattle.history_store.specs.Store.{Store, cells_in, weight, rows_from, relation_at};
     ghost use Rattle.history_store.specs.Store.{IsRelation, AreColumns, AllBefore, IsStore};
     ghost use Rattle.history_store.specs.Store.{column_of};
-    ghost use Rattle.row_writes.specs.Writing.{new_keys};
-    ghost use Rattle.row_order.specs.Handing.{handed, only_in};
-    ghost use Rattle.table_meaning.specs.Handing.{written};
-    ghost use Rattle.table_meaning.specs.Change.{PreparedChange, IsPrepared, rows_after};
-    ghost use Rattle.table_meaning.specs.Change.{rows_along, changed, keys_after, cells_after};
-    ghost use Rattle.table_meaning.specs.Change.{write_rows, no_cells};
+    ghost use Rattle.history_store_writes.specs.Writing.{new_keys};
+    ghost use Rattle.history_store_row_order.specs.Handing.{handed, only_in};
+    ghost use Rattle.history_store_change_spec.specs.Handing.{written};
+    ghost use Rattle.history_store_change_spec.specs.Change.{PreparedChange, IsPrepared, rows_after};
+    ghost use Rattle.history_store_change_spec.specs.Change.{rows_along, changed, keys_after, cells_after};
+    ghost use Rattle.history_store_change_spec.specs.Change.{write_rows, no_cells};
     ghost use Rattle.history_store.specs.Scans.{keys_from};
-    ghost use Rattle.row_order.specs.Cuts.{between};
-    ghost use Rattle.table_meaning.specs.Restoring.{store_with, IsInOrder};
+    ghost use Rattle.history_store_row_order.specs.Cuts.{between};
+    ghost use Rattle.history_store_change_spec.specs.Restoring.{store_with, IsInOrder};
     ghost use Rattle.history_store.specs.Restoring.{entries_of};
-    ghost use Rattle.row_order.specs.Logs.{few_of};
-    ghost use Rattle.row_writes.specs.ValueIndexes.{is_indexed, indexed_after};
-    ghost use Rattle.row_writes.specs.RowRoom.{rows_room};
-    ghost use Rattle.row_order.specs.Indexes.{index_of};
-    ghost use Rattle.table_meaning.specs.ByValue.{indexed_with, rows_with};
+    ghost use Rattle.history_store_row_order.specs.Logs.{few_of};
+    ghost use Rattle.history_store_writes.specs.ValueIndexes.{is_indexed, indexed_after};
+    ghost use Rattle.history_store_writes.specs.RowRoom.{rows_room};
+    ghost use Rattle.history_store_row_order.specs.Indexes.{index_of};
+    ghost use Rattle.history_store_change_spec.specs.ByValue.{indexed_with, rows_with};
 
     /// A table of these columns, which stand in the order of their names: from the stamp on its
     /// relation is `rows`, before it is empty. The one error is `NoMemory`, where memory runs out.

@@ -3,9 +3,9 @@ use Rattle.std.proofs.Common.{◌≡◌, ℕ, ◌+◌, ◌<◌, true, List, [], 
 use Rattle.std.specs.Prelude.{Option, Some, None}
 use Rattle.std.specs.List.{filter}
 use Rattle.std.proofs.Math.Path.{fun_ext}
-use Rattle.relations.specs.Sets.{Ascends, set_of}
-use Rattle.relations.specs.Spans.{Span, covers}
-use Rattle.relations.proofs.SetLaws.{set_ascends, set_same}
+use Rattle.relations_spec.specs.Sets.{Ascends, set_of}
+use Rattle.relations_spec.specs.Spans.{Span, covers}
+use Rattle.relations_spec.proofs.SetLaws.{set_ascends, set_same}
 use Rattle.prima_base.specs.Order.{row_cmp, bytes_cmp}
 use Rattle.prima_base.specs.OrderLaws.{row_exact, bytes_exact}
 use Rattle.prima_base.specs.declared.value.Value.{Value}
@@ -15,22 +15,22 @@ use Rattle.prima_base.specs.Timed.{rows_at}
 use Rattle.schema_catalog.specs.Databases.{cell}
 use Rattle.cond_expr.specs.declared.expr.ColRef.{ColRef}
 use Rattle.cond_expr.specs.Trees.{Tree, Test, always}
-use Rattle.smo_meaning.specs.OneRow.{Row, Relation, meets}
-use Rattle.smo_meaning.specs.Making.{named}
+use Rattle.smo_ops_spec.specs.OneRow.{Row, Relation, meets}
+use Rattle.smo_ops_spec.specs.Making.{named}
 use Rattle.history_store.specs.Store.{Store, relation_at}
-use Rattle.version_tables.specs.NewestTables.{rows_stored}
+use Rattle.version_groups_tables.specs.NewestTables.{rows_stored}
 use Rattle.version_groups.specs.Groups.{Kept, table_in}
 use Rattle.cond_expr.specs.AtomColumns.{columns_at}
-use Rattle.plain_answers.specs.Choosing.{answers_over}
-use Rattle.plain_answers.specs.Naming.{is_to, written_names, names_at, names_from, all_references}
-use Rattle.plain_answers.specs.Reading.{Read, read_of, read_rows, AsMany, AreEnough, whole_rows}
-use Rattle.plain_answers.specs.Reading.{read_columns as columns_left}
-use Rattle.plain_answers.proofs.NameLaws.{in_names_at}
-use Rattle.plain_answers.proofs.ReadLaws.{same_answers}
-use Rattle.joining.specs.declared.atom.Atom.{Atom}
-use Rattle.joining.specs.Atoms.{AtomsBorrow, atom_rows, IsNumbered, AreNumbered, HaveAtoms}
-use Rattle.timed_choices.specs.BorrowedOutputs.{AllBorrowed, BorrowedValues}
-use Rattle.timed_choices.proofs.BorrowedLaws.{rows_borrow}
+use Rattle.plain_answers_spec.specs.Choosing.{answers_over}
+use Rattle.plain_answers_spec.specs.Naming.{is_to, written_names, names_at, names_from, all_references}
+use Rattle.plain_answers_spec.specs.Reading.{Read, read_of, read_rows, AsMany, AreEnough, whole_rows}
+use Rattle.plain_answers_spec.specs.Reading.{read_columns as columns_left}
+use Rattle.plain_answers_spec.proofs.NameLaws.{in_names_at}
+use Rattle.plain_answers_spec.proofs.ReadLaws.{same_answers}
+use Rattle.join_exec_engine.specs.declared.atom.Atom.{Atom}
+use Rattle.join_exec_engine.specs.Atoms.{AtomsBorrow, atom_rows, IsNumbered, AreNumbered, HaveAtoms}
+use Rattle.join_exec_spec.specs.BorrowedOutputs.{AllBorrowed, BorrowedValues}
+use Rattle.join_exec_spec.proofs.BorrowedLaws.{rows_borrow}
 use Rattle.join_exec.specs.Pieces.{columns_stored, stored_columns, stored_rows}
 use Rattle.join_exec.specs.Atoms.{IsReadOf, AreRead, IsReadable, AreReadable}
 use Rattle.join_exec.proofs.LeftNames.{names_left}

@@ -5,12 +5,12 @@ use Rattle.std.proofs.lemmas.List.{take_more, at_drop_more}
 use Rattle.std.specs.Prelude.{Option, SomeIff, IfOk}
 use Rattle.std.specs.Result.{result_ok}
 use Rattle.prima_base.specs.declared.failure.NoMemory.{NoMemory}
-use Rattle.relations.specs.Spans.{Span}
+use Rattle.relations_spec.specs.Spans.{Span}
 use Rattle.history_store.specs.Store.{Store}
 use Rattle.cond_expr.specs.declared.expr.ColRef.{ColRef}
-use Rattle.plain_answers.specs.Naming.{names_at}
+use Rattle.plain_answers_spec.specs.Naming.{names_at}
 use Rattle.version_groups.specs.Groups.{Kept, table_in}
-use Rattle.joining.specs.declared.atom.Atom.{Atom}
+use Rattle.join_exec_engine.specs.declared.atom.Atom.{Atom}
 use Rattle.join_exec.specs.Pieces.{reads_stored, atoms_read}
 use Rattle.join_exec.specs.Atoms.{IsReadOf, AreRead, IsReadable, AreReadable}
 

@@ -1,7 +1,7 @@
 -- What is known of references, none of which is unknown.
 use Rattle.std.proofs.Common.{◌≡◌, Bool, true, false, cond, List, [], ◌∷◌, refl, subst, inl, inr}
 use Rattle.std.specs.Prelude.{Some, None, is_none}
-use Rattle.relations.specs.Sets.{In}
+use Rattle.relations_spec.specs.Sets.{In}
 use Rattle.cond_expr.specs.declared.expr.ColRef.{ColRef}
 use Rattle.cond_expr.specs.Kinds.{Kinds}
 use Rattle.cond_expr.specs.Faults.{first_unknown}

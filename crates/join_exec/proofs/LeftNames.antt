@@ -3,15 +3,15 @@ use Rattle.std.proofs.Common.{◌≡◌, ℕ, suc, Bool, true, false, cond, List
 use Rattle.std.proofs.Common.{sym, ap}
 use Rattle.std.proofs.Common.{◌∙◌}
 use Rattle.std.specs.List.{filter}
-use Rattle.relations.specs.Sets.{Ascends}
-use Rattle.relations.proofs.SetLaws.{in_filter, from_filter, one_list, below_each, before_in}
+use Rattle.relations_spec.specs.Sets.{Ascends}
+use Rattle.relations_spec.proofs.SetLaws.{in_filter, from_filter, one_list, below_each, before_in}
 use Rattle.prima_base.specs.Order.{bytes_cmp}
 use Rattle.prima_base.specs.OrderLaws.{bytes_exact}
 use Rattle.prima_base.specs.Columns.{Column, names_of}
-use Rattle.smo_meaning.specs.Preconditions.{among}
-use Rattle.smo_meaning.specs.Making.{named}
-use Rattle.smo_meaning.proofs.NameLaws.{among_in, in_among}
-use Rattle.gathered_rows.specs.Reading.{AreNames}
+use Rattle.smo_ops_spec.specs.Preconditions.{among}
+use Rattle.smo_ops_spec.specs.Making.{named}
+use Rattle.smo_ops_spec.proofs.NameLaws.{among_in, in_among}
+use Rattle.join_exec.specs.Reading.{AreNames}
 
 names_filtered : (ns : List (List ℕ)) (columns : List Column)
     → names_of (named ns columns) ≡ filter (λ n. among n ns) (names_of columns)

@@ -6,3 +6,9 @@ pub mod ReadRows
 pub mod AtomAnswers
 pub mod PieceAtoms
 pub mod AtomSteps
+pub mod EntriesInTurn
+pub mod Passing
+pub mod Picking
+pub mod Adding
+pub mod KeysInTurn
+pub mod Steps

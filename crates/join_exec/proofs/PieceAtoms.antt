@@ -5,8 +5,8 @@ use Rattle.std.proofs.Common.{ap, ◌∙◌, subst, inl, inr, arith}
 use Rattle.std.specs.Prelude.{Option, Some, None, is_some, is_none, unwrap_or}
 use Rattle.std.specs.List.{flat_map}
 use Rattle.std.specs.FinMap.{get}
-use Rattle.relations.specs.Sets.{In, set_of}
-use Rattle.relations.proofs.SetLaws.{from_flat_map, in_append}
+use Rattle.relations_spec.specs.Sets.{In, set_of}
+use Rattle.relations_spec.proofs.SetLaws.{from_flat_map, in_append}
 use Rattle.prima_base.specs.Order.{row_cmp}
 use Rattle.prima_base.specs.Columns.{Column, names_of}
 use Rattle.prima_base.specs.declared.value.ColType.{ColType}
@@ -17,20 +17,20 @@ use Rattle.cond_expr.specs.Trees.{Tree}
 use Rattle.cond_expr.specs.Kinds.{Kinds}
 use Rattle.cond_expr.specs.Faults.{references, test_references}
 use Rattle.cond_expr.proofs.FaultLaws.{known_tree, known_test}
-use Rattle.smo_meaning.specs.OneRow.{Relation}
-use Rattle.smo_meaning.specs.Effects.{columns_of, rows_under}
-use Rattle.smo_meaning.specs.Past.{Past, no_tables, tables_from, tables_of, database_at}
-use Rattle.smo_types.specs.Commands.{PlainVersion}
+use Rattle.smo_ops_spec.specs.OneRow.{Relation}
+use Rattle.smo_ops_spec.specs.Effects.{columns_of, rows_under}
+use Rattle.smo_ops_spec.specs.Past.{Past, no_tables, tables_from, tables_of, database_at}
+use Rattle.smo_ops_types.specs.Commands.{PlainVersion}
 use Rattle.history_store.specs.Store.{Store}
-use Rattle.version_tables.specs.NewestTables.{rows_stored}
+use Rattle.version_groups_tables.specs.NewestTables.{rows_stored}
 use Rattle.version_groups.specs.Groups.{Kept, table_in}
 use Rattle.version_groups.specs.Representation.{IsInForce, RepresentsEntry, Represents}
-use Rattle.plain_answers.specs.Naming.{IsNamed, names_at, all_references}
-use Rattle.plain_answers.specs.Choosing.{answers_over}
-use Rattle.plain_answers.proofs.NameLaws.{from_names_at}
-use Rattle.piece_meaning.specs.Pieces.{PlainPiece, out_trees, atom_columns, atom_rows, means}
-use Rattle.piece_meaning.specs.Typed.{AreThere, atom_kinds, HaveTypes, IsTyped}
-use Rattle.piece_meaning.proofs.AtomKinds.{atom_kind, kinds_at, typed_named}
+use Rattle.plain_answers_spec.specs.Naming.{IsNamed, names_at, all_references}
+use Rattle.plain_answers_spec.specs.Choosing.{answers_over}
+use Rattle.plain_answers_spec.proofs.NameLaws.{from_names_at}
+use Rattle.piece_ir_spec.specs.Pieces.{PlainPiece, out_trees, atom_columns, atom_rows, means}
+use Rattle.piece_ir_spec.specs.Typed.{AreThere, atom_kinds, HaveTypes, IsTyped}
+use Rattle.piece_ir_spec.proofs.AtomKinds.{atom_kind, kinds_at, typed_named}
 use Rattle.join_exec.specs.Pieces.{columns_stored, stored_columns, stored_rows, stored_meaning}
 use Rattle.join_exec.specs.Pieces.{atoms_read, piece_reads}
 use Rattle.join_exec.specs.Atoms.{IsReadable, AreReadable}

@@ -1,10 +1,10 @@
 -- The rows that are read of a table are what its relation has in the columns that were read.
 use Rattle.std.proofs.Common.{◌≡◌, ℕ, true, List, [], ◌∷◌, map, length, refl, sym, ap, ◌∙◌, subst}
 use Rattle.std.proofs.lemmas.List.{length-map}
-use Rattle.relations.specs.Sets.{Ascends, In, set_of}
-use Rattle.relations.specs.Spans.{Span, covers}
-use Rattle.relations.proofs.Held.{in_at, at_ascends, IsHeld}
-use Rattle.relations.proofs.SetLaws.{in_map, from_map, in_set, from_set, set_ascends, one_list}
+use Rattle.relations_spec.specs.Sets.{Ascends, In, set_of}
+use Rattle.relations_spec.specs.Spans.{Span, covers}
+use Rattle.relations_spec.proofs.Held.{in_at, at_ascends, IsHeld}
+use Rattle.relations_spec.proofs.SetLaws.{in_map, from_map, in_set, from_set, set_ascends, one_list}
 use Rattle.prima_base.specs.Columns.{Column}
 use Rattle.prima_base.specs.Order.{bytes_cmp, row_cmp}
 use Rattle.prima_base.specs.OrderLaws.{row_exact}
@@ -13,12 +13,12 @@ use Rattle.prima_base.specs.declared.timed_row.TimedRow.{TimedRow}
 use Rattle.prima_base.specs.declared.value.Value.{Value}
 use Rattle.cond_expr.specs.declared.expr.Column.{Column as AtomColumn}
 use Rattle.cond_expr.specs.AtomColumns.{columns_at}
-use Rattle.smo_meaning.specs.Making.{named}
+use Rattle.smo_ops_spec.specs.Making.{named}
 use Rattle.schema_catalog.specs.Databases.{cell}
 use Rattle.history_store.specs.Store.{Store, relation_at, row_at, IsStore}
-use Rattle.timed_choices.specs.Fitting.{Fit, AreOwn}
-use Rattle.gathered_rows.specs.Reading.{AreNames}
-use Rattle.gathered_rows.specs.Gathered.{IsGathered}
+use Rattle.join_exec_spec.specs.Fitting.{Fit, AreOwn}
+use Rattle.join_exec.specs.Reading.{AreNames}
+use Rattle.join_exec.specs.Gathered.{IsGathered}
 use Rattle.join_exec.proofs.LeftNames.{names_left, as_many}
 use Rattle.join_exec.proofs.RelationRows.{relation_row, row_of_key}
 

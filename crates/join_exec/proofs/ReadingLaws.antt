@@ -1,13 +1,13 @@
 -- What is read depends on which columns are named alone.
 use Rattle.std.proofs.Common.{◌≡◌, ◌+◌, ℕ, Bool, true, cond, List, [], ◌∷◌, length, ap, ◌∙◌, arith}
 use Rattle.std.specs.Prelude.{◌==◌, ◌↔◌}
-use Rattle.relations.specs.Sets.{set_of}
+use Rattle.relations_spec.specs.Sets.{set_of}
 use Rattle.cond_expr.specs.declared.expr.ColRef.{ColRef}
 use Rattle.cond_expr.specs.declared.expr.Whose.TheVariants.{Atom}
 use Rattle.history_store.specs.Store.{Store, column_of}
-use Rattle.plain_answers.specs.Naming.{IsNamed, names_in, names_at}
-use Rattle.plain_answers.proofs.NameLaws.{names_alike}
-use Rattle.gathered_rows.specs.Reading.{reads, count_in}
+use Rattle.plain_answers_spec.specs.Naming.{IsNamed, names_in, names_at}
+use Rattle.plain_answers_spec.proofs.NameLaws.{names_alike}
+use Rattle.join_exec.specs.Reading.{reads, count_in}
 
 pub none_read : (s : Store) (i : ℕ) → reads s (names_at i []) ≡ length s.keys
 unfolding set_of

@@ -1,9 +1,9 @@
 -- The rows of a stored table's relation are those of the keys that hold.
 use Rattle.std.proofs.Common.{◌≡◌, ◌<◌, ◌+◌, ℕ, zero, suc, Bool, true, false, List, [], ◌∷◌, length}
 use Rattle.std.proofs.Common.{get_or, cond, refl, sym, ap, ◌∙◌, subst, arith, inl, inr}
-use Rattle.relations.specs.Sets.{In}
-use Rattle.relations.specs.Spans.{Span, span, covers}
-use Rattle.relations.proofs.SetLaws.{in_set, from_set}
+use Rattle.relations_spec.specs.Sets.{In}
+use Rattle.relations_spec.specs.Spans.{Span, span, covers}
+use Rattle.relations_spec.proofs.SetLaws.{in_set, from_set}
 use Rattle.prima_base.specs.Order.{row_cmp}
 use Rattle.prima_base.specs.OrderLaws.{row_exact}
 use Rattle.prima_base.specs.declared.value.Value.{Value}

@@ -1,7 +1,7 @@
 -- The atoms that are read of stored tables.
 use Rattle.std.specs.Prelude.{◌≡◌, ℕ, ◌+◌, true, List, [], ◌∷◌, map, Option, Some, None, ⊤}
-use Rattle.relations.specs.Sets.{set_of}
-use Rattle.relations.specs.Spans.{Span, covers}
+use Rattle.relations_spec.specs.Sets.{set_of}
+use Rattle.relations_spec.specs.Spans.{Span, covers}
 use Rattle.prima_base.specs.Order.{row_cmp}
 use Rattle.prima_base.specs.Timed.{rows_at}
 use Rattle.schema_catalog.specs.Databases.{cell}
@@ -9,11 +9,11 @@ use Rattle.history_store.specs.Store.{Store, relation_at, IsStore}
 use Rattle.version_groups.specs.Groups.{Kept, table_in}
 use Rattle.cond_expr.specs.declared.expr.ColRef.{ColRef}
 use Rattle.cond_expr.specs.AtomColumns.{columns_at}
-use Rattle.smo_meaning.specs.Making.{named}
-use Rattle.plain_answers.specs.Naming.{names_at}
-use Rattle.timed_choices.specs.BorrowedOutputs.{AllBorrowed}
-use Rattle.joining.specs.declared.atom.Atom.{Atom}
-use Rattle.gathered_rows.specs.Reading.{AreNames}
+use Rattle.smo_ops_spec.specs.Making.{named}
+use Rattle.plain_answers_spec.specs.Naming.{names_at}
+use Rattle.join_exec_spec.specs.BorrowedOutputs.{AllBorrowed}
+use Rattle.join_exec_engine.specs.declared.atom.Atom.{Atom}
+use Rattle.join_exec.specs.Reading.{AreNames}
 
 -- the atom has this number, and at each moment of the slice what the table has in these columns;
 -- its values are borrowed

@@ -1,18 +1,18 @@
 -- Pieces over the stored tables of a version: what is stored of their atoms, what they mean over
 -- it, and what is read for it.
 use Rattle.std.specs.Prelude.{ℕ, ◌+◌, List, [], ◌∷◌, map, Option, Some, None}
-use Rattle.relations.specs.Sets.{set_of}
+use Rattle.relations_spec.specs.Sets.{set_of}
 use Rattle.prima_base.specs.Order.{row_cmp}
 use Rattle.prima_base.specs.Columns.{Column}
 use Rattle.history_store.specs.Store.{Store}
-use Rattle.version_tables.specs.NewestTables.{rows_stored}
+use Rattle.version_groups_tables.specs.NewestTables.{rows_stored}
 use Rattle.version_groups.specs.Groups.{Kept, table_in}
 use Rattle.cond_expr.specs.declared.expr.ColRef.{ColRef}
-use Rattle.smo_meaning.specs.OneRow.{Relation}
-use Rattle.plain_answers.specs.Choosing.{answers_over}
-use Rattle.plain_answers.specs.Naming.{all_references, names_at}
-use Rattle.piece_meaning.specs.Pieces.{PlainPiece, out_trees}
-use Rattle.gathered_rows.specs.Reading.{reads}
+use Rattle.smo_ops_spec.specs.OneRow.{Relation}
+use Rattle.plain_answers_spec.specs.Choosing.{answers_over}
+use Rattle.plain_answers_spec.specs.Naming.{all_references, names_at}
+use Rattle.piece_ir_spec.specs.Pieces.{PlainPiece, out_trees}
+use Rattle.join_exec.specs.Reading.{reads}
 
 -- the columns of a stored table
 abbrev pub columns_stored : Option Store → List Column

@@ -2,22 +2,22 @@
 
 ghost use Rattle.std.specs.Prelude.{◌≡◌, ◌+◌, ◌≤◌, IfOk};
 ghost use Rattle.std.specs.Option.{option_copied};
-ghost use Rattle.relations.specs.Sets.{Ascends};
+ghost use Rattle.relations_spec.specs.Sets.{Ascends};
 ghost use Rattle.prima_base.specs.Order.{bytes_cmp};
 ghost use Rattle.cond_expr.specs.References.{borrowed};
-ghost use Rattle.gathered_rows.specs.Reading.{AreNames, reads};
+ghost use Rattle.join_exec.specs.Reading.{AreNames, reads};
 ghost use Rattle.join_exec.specs.Pieces.{reads_stored, atoms_read};
 ghost use Rattle.join_exec.specs.Atoms.{IsRead, IsReadOf, AreRead, IsReadable, AreReadable};
 
+use crate::gather;
 use crate::name::names_at;
 use cond_expr::{ColRef, columns_at};
-use gathered_rows::gather;
 use history_store::StoredTable;
-use joining::Atom;
+use join_exec_engine::Atom;
 use prima_base::{Name, NoMemory, Period, Steps};
+use smo_ops_columns::columns_named;
 use std::alloc::Global;
 use std::sync::ledger::Ledger;
-use table_columns::columns_named;
 use version_groups::Groups;
 
 // What a table has in these columns inside the slice, as the atom with this number.

@@ -2,8 +2,8 @@ ghost use Rattle.std.specs.Prelude.{◌≡◌, ◌↔◌, ℕ, ◌+◌, List, []
 ghost use Rattle.cond_expr.specs.declared.expr.ColRef.{ColRef as Reference};
 ghost use Rattle.cond_expr.specs.declared.expr.Whose.TheVariants.{Atom};
 ghost use Rattle.history_store.specs.Store.{Store, column_of};
-ghost use Rattle.plain_answers.specs.Naming.{IsNamed, names_at};
-ghost use Rattle.gathered_rows.specs.Reading.{reads, count_in};
+ghost use Rattle.plain_answers_spec.specs.Naming.{IsNamed, names_at};
+ghost use Rattle.join_exec.specs.Reading.{reads, count_in};
 
 /// What is read of an item depends on which of its columns are named, and neither on how often, nor
 /// in which order, nor on what is named of other items: of none the keys alone, of one the keys and

@@ -2,7 +2,7 @@
 
 ghost use Rattle.std.specs.Prelude.{◌≡◌, IfOk};
 ghost use Rattle.std.specs.List.{filter};
-ghost use Rattle.plain_answers.specs.Naming.{written_names, names_at};
+ghost use Rattle.plain_answers_spec.specs.Naming.{written_names, names_at};
 ghost use Rattle.cond_expr.specs.References.{is_to, borrowed};
 
 use cond_expr::ColRef;

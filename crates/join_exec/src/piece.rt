@@ -1,32 +1,32 @@
 //! A piece of a rewritten query, run over the stored tables of a version.
 
 ghost use Rattle.std.specs.Prelude.{◌≡◌, ℕ, ◌+◌, ◌≤◌, [], true, false, IfOk, length, map};
-ghost use Rattle.relations.specs.Sets.{set_of};
-ghost use Rattle.relations.specs.Spans.{covers};
+ghost use Rattle.relations_spec.specs.Sets.{set_of};
+ghost use Rattle.relations_spec.specs.Spans.{covers};
 ghost use Rattle.prima_base.specs.Order.{row_cmp};
 ghost use Rattle.prima_base.specs.Timed.{rows_at};
 ghost use Rattle.cond_expr.specs.Seen.{tree, test};
-ghost use Rattle.smo_meaning.specs.Past.{Past, tables_of, database_at};
-ghost use Rattle.smo_types.specs.Changes.{sets_of};
+ghost use Rattle.smo_ops_spec.specs.Past.{Past, tables_of, database_at};
+ghost use Rattle.smo_ops_types.specs.Changes.{sets_of};
 ghost use Rattle.version_groups.specs.Representation.{Represents, IsInForce};
-ghost use Rattle.plain_answers.specs.Choosing.{answers_over};
-ghost use Rattle.plain_answers.specs.Naming.{all_references};
-ghost use Rattle.piece_meaning.specs.Pieces.{means, out_trees};
-ghost use Rattle.piece_meaning.specs.Typed.{IsTyped};
+ghost use Rattle.plain_answers_spec.specs.Choosing.{answers_over};
+ghost use Rattle.plain_answers_spec.specs.Naming.{all_references};
+ghost use Rattle.piece_ir_spec.specs.Pieces.{means, out_trees};
+ghost use Rattle.piece_ir_spec.specs.Typed.{IsTyped};
 ghost use Rattle.piece_ir.specs.Shown.{piece_of};
-ghost use Rattle.timed_choices.specs.BorrowedOutputs.{all_values, AllStayBorrowed};
+ghost use Rattle.join_exec_spec.specs.BorrowedOutputs.{all_values, AllStayBorrowed};
 ghost use Rattle.join_exec.specs.Pieces.{stored_columns, stored_rows, stored_meaning, atoms_read};
 ghost use Rattle.join_exec.specs.Pieces.{piece_reads};
 ghost use Rattle.join_exec.specs.Atoms.{AreReadable};
 
 use crate::atom::gather_atoms;
 use cond_expr::{Cond, Expr, gather_references};
-use joining::answer_choices;
+use join_exec_engine::answer_choices;
 use piece_ir::Piece;
 use prima_base::{Name, NoMemory, Period, Steps};
+use prima_base_rows::TimedRows;
 use std::alloc::Global;
 use std::sync::ledger::Ledger;
-use timed_rows::TimedRows;
 use version_groups::Groups;
 
 // Equal outputs, without their names.

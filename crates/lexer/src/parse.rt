@@ -3,22 +3,22 @@
 ghost use Rattle.std.specs.Prelude.{◌≡◌, ◌++◌, ◌<◌, ◌≤◌, ◌+◌, ◌∷◌, List, length, take, drop};
 ghost use Rattle.cond_expr.specs.Trees.{Tree, Test};
 ghost use Rattle.cond_expr.specs.Seen.{tree, test};
-ghost use Rattle.lexical_grammar.specs.Lexemes.{Lexeme};
-ghost use Rattle.parser_combinators.specs.declared.cursor.Stop.TheVariants as stop;
-ghost use Rattle.expr_grammar.specs.Grammar.{IsExpr, IsCond};
-ghost use Rattle.parser_combinators.specs.Crossings.{IsFirstCrossing, IsFaultOf};
-ghost use Rattle.expr_grammar.specs.TreeCounts.{expr_crossings, cond_crossings};
-ghost use Rattle.parser_combinators.specs.Parsing.{Stops, limit};
-ghost use Rattle.parser_combinators.specs.Grammar.{Size};
+ghost use Rattle.lexer_spec.specs.Lexemes.{Lexeme};
+ghost use Rattle.lexer_combinators.specs.declared.cursor.Stop.TheVariants as stop;
+ghost use Rattle.lexer_trees_spec.specs.Grammar.{IsExpr, IsCond};
+ghost use Rattle.lexer_combinators.specs.Crossings.{IsFirstCrossing, IsFaultOf};
+ghost use Rattle.lexer_trees_spec.specs.TreeCounts.{expr_crossings, cond_crossings};
+ghost use Rattle.lexer_combinators.specs.Parsing.{Stops, limit};
+ghost use Rattle.lexer_combinators.specs.Grammar.{Size};
 ghost use Rattle.prima_base.specs.declared.refusal.What.{What as Counted};
-ghost use Rattle.expr_grammar.specs.Reader.{follow_expr, follow_cond, outermost};
-ghost use Rattle.parser_combinators.specs.Found.{IsRead, Finds, Ends, IsTooMany, AnswersAs};
-ghost use Rattle.parser_combinators.specs.Found.{FaultAt, lexemes_from};
+ghost use Rattle.lexer_trees_spec.specs.Reader.{follow_expr, follow_cond, outermost};
+ghost use Rattle.lexer_combinators.specs.Found.{IsRead, Finds, Ends, IsTooMany, AnswersAs};
+ghost use Rattle.lexer_combinators.specs.Found.{FaultAt, lexemes_from};
 
 use crate::reader::{outer_cond, outer_expr};
 use cond_expr::{Cond, Expr};
-use lexical_grammar::Token;
-use parser_combinators::{Cursor, ParseFault, Stop};
+use lexer_combinators::{Cursor, ParseFault, Stop};
+use lexer_spec::Token;
 use prima_base::What;
 use prima_base::limits::{
     MAX_BRANCH_TABLES, MAX_BRANCHES, MAX_DEPTH, MAX_INVERSE, MAX_KEEPS, MAX_NODES, MAX_OUTPUTS,
@@ -44,7 +44,7 @@ pub fn limit_of(what: What) -> u64
 }
 
 /// The tokens from a place on; the place is at most the list's length.
-#[tactic(auto, using(lexical_grammar::proofs::Cuts::tail_is))]
+#[tactic(auto, using(lexer_spec::proofs::Cuts::tail_is))]
 pub fn tail<'a, 't>(list: &'a [Token<'t>], from: usize) -> &'a [Token<'t>]
     requires { from ≤ length list.now }
     ensures { result.now ≡ drop from list.now }

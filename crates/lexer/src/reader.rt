@@ -4,23 +4,23 @@ ghost use Rattle.std.specs.Prelude.{◌≡◌, ◌+◌, ◌-◌, ◌≤◌, ◌<
 ghost use Rattle.std.specs.Prelude.{take, true, false, codes, [], ◌∷◌, IfOk, IfErr, OnOk, OnErr};
 ghost use Rattle.prima_base.specs.declared.refusal.What.TheVariants as what;
 ghost use Rattle.cond_expr.specs.Seen.{tree, test};
-ghost use Rattle.lexical_grammar.specs.Lexemes.{is_word, is_sign};
-ghost use Rattle.parser_combinators.specs.Reads.{Reads, ReadsMore, ahead};
-ghost use Rattle.expr_grammar.specs.Reader as spec;
-ghost use Rattle.expr_grammar.specs.Where as wheres;
-ghost use Rattle.parser_combinators.specs.Parsing as parsing;
+ghost use Rattle.lexer_spec.specs.Lexemes.{is_word, is_sign};
+ghost use Rattle.lexer_combinators.specs.Reads.{Reads, ReadsMore, ahead};
+ghost use Rattle.lexer_trees_spec.specs.Reader as spec;
+ghost use Rattle.lexer_trees_spec.specs.Where as wheres;
+ghost use Rattle.lexer_combinators.specs.Parsing as parsing;
 
+use crate::atom_reader::{atom, falsehood, no_bracket, sees_op, truth};
 use cond_expr::{Cond, Expr};
-use parser_combinators::{Cursor, Stop};
+use lexer_combinators::{Cursor, Stop};
 use prima_base::{What, limits};
 use std::alloc::Global;
-use token_readers::{atom, falsehood, no_bracket, sees_op, truth};
 
 // How many constructs may be open at once.
 const MOST_OPEN: u32 = limits::MAX_DEPTH as u32;
 
 #[cycle(reads)]
-#[tactic(auto, unfolding(expr_grammar::specs::Reader::length_rest), using(parser_combinators::proofs::ReadSteps::lead_seen, parser_combinators::proofs::ReadSteps::lead_not))]
+#[tactic(auto, unfolding(lexer_trees_spec::specs::Reader::length_rest), using(lexer_combinators::proofs::ReadSteps::lead_seen, lexer_combinators::proofs::ReadSteps::lead_not))]
 fn length_inside(
     alloc: Global,
     c: &mut Cursor<'_, '_>,
@@ -38,7 +38,7 @@ fn length_inside(
 }
 
 #[cycle(reads)]
-#[tactic(auto, using(expr_grammar::proofs::TreeSteps::length_open, expr_grammar::proofs::TreeSteps::length_shut, expr_grammar::proofs::TreeSteps::length_stuck))]
+#[tactic(auto, using(lexer_trees_spec::proofs::TreeSteps::length_open, lexer_trees_spec::proofs::TreeSteps::length_shut, lexer_trees_spec::proofs::TreeSteps::length_stuck))]
 fn length_rest(
     alloc: Global,
     c: &mut Cursor<'_, '_>,
@@ -82,7 +82,7 @@ fn more_exprs(
 }
 
 #[cycle(reads)]
-#[tactic(auto, unfolding(expr_grammar::specs::Reader::concat_rest), using(parser_combinators::proofs::ReadSteps::lead_seen, parser_combinators::proofs::ReadSteps::lead_not))]
+#[tactic(auto, unfolding(lexer_trees_spec::specs::Reader::concat_rest), using(lexer_combinators::proofs::ReadSteps::lead_seen, lexer_combinators::proofs::ReadSteps::lead_not))]
 fn concat_inside(
     alloc: Global,
     c: &mut Cursor<'_, '_>,
@@ -102,7 +102,7 @@ fn concat_inside(
 }
 
 #[cycle(reads)]
-#[tactic(auto, using(expr_grammar::proofs::TreeSteps::concat_open, expr_grammar::proofs::TreeSteps::concat_shut, expr_grammar::proofs::TreeSteps::concat_stuck))]
+#[tactic(auto, using(lexer_trees_spec::proofs::TreeSteps::concat_open, lexer_trees_spec::proofs::TreeSteps::concat_shut, lexer_trees_spec::proofs::TreeSteps::concat_stuck))]
 fn concat_rest(
     alloc: Global,
     c: &mut Cursor<'_, '_>,
@@ -120,7 +120,7 @@ fn concat_rest(
 }
 
 #[cycle(reads)]
-#[tactic(auto, unfolding(expr_grammar::specs::Reader::case_rest), using(parser_combinators::proofs::ReadSteps::lead_seen, parser_combinators::proofs::ReadSteps::lead_not))]
+#[tactic(auto, unfolding(lexer_trees_spec::specs::Reader::case_rest), using(lexer_combinators::proofs::ReadSteps::lead_seen, lexer_combinators::proofs::ReadSteps::lead_not))]
 fn case_rest(
     alloc: Global,
     c: &mut Cursor<'_, '_>,
@@ -142,7 +142,7 @@ fn case_rest(
 }
 
 #[cycle(reads)]
-#[tactic(auto, using(expr_grammar::proofs::TreeSteps::expr_length, expr_grammar::proofs::TreeSteps::expr_length_full, expr_grammar::proofs::TreeSteps::expr_concat, expr_grammar::proofs::TreeSteps::expr_concat_full, expr_grammar::proofs::TreeSteps::expr_case, expr_grammar::proofs::TreeSteps::expr_case_full, expr_grammar::proofs::TreeSteps::expr_case_deep, expr_grammar::proofs::TreeSteps::expr_case_deep_full, expr_grammar::proofs::TreeSteps::expr_else))]
+#[tactic(auto, using(lexer_trees_spec::proofs::TreeSteps::expr_length, lexer_trees_spec::proofs::TreeSteps::expr_length_full, lexer_trees_spec::proofs::TreeSteps::expr_concat, lexer_trees_spec::proofs::TreeSteps::expr_concat_full, lexer_trees_spec::proofs::TreeSteps::expr_case, lexer_trees_spec::proofs::TreeSteps::expr_case_full, lexer_trees_spec::proofs::TreeSteps::expr_case_deep, lexer_trees_spec::proofs::TreeSteps::expr_case_deep_full, lexer_trees_spec::proofs::TreeSteps::expr_else))]
 /// An expression, inside which so many constructs may be opened.
 pub fn expr(
     alloc: Global,
@@ -173,7 +173,7 @@ pub fn expr(
 }
 
 #[cycle(reads)]
-#[tactic(auto, unfolding(expr_grammar::specs::Reader::comparison), using(expr_grammar::proofs::TreeSteps::op_none, expr_grammar::proofs::TreeSteps::op_counts, expr_grammar::proofs::TreeSteps::op_full))]
+#[tactic(auto, unfolding(lexer_trees_spec::specs::Reader::comparison), using(lexer_trees_spec::proofs::TreeSteps::op_none, lexer_trees_spec::proofs::TreeSteps::op_counts, lexer_trees_spec::proofs::TreeSteps::op_full))]
 fn comparison(
     alloc: Global,
     c: &mut Cursor<'_, '_>,
@@ -194,7 +194,7 @@ fn comparison(
 }
 
 #[cycle(reads)]
-#[tactic(auto, unfolding(expr_grammar::specs::Reader::bracketed), using(parser_combinators::proofs::ReadSteps::lead_seen, parser_combinators::proofs::ReadSteps::lead_not))]
+#[tactic(auto, unfolding(lexer_trees_spec::specs::Reader::bracketed), using(lexer_combinators::proofs::ReadSteps::lead_seen, lexer_combinators::proofs::ReadSteps::lead_not))]
 fn bracketed(
     alloc: Global,
     c: &mut Cursor<'_, '_>,
@@ -211,7 +211,7 @@ fn bracketed(
 }
 
 #[cycle(reads)]
-#[tactic(auto, using(expr_grammar::proofs::TreeSteps::fact_not, expr_grammar::proofs::TreeSteps::fact_not_full, expr_grammar::proofs::TreeSteps::fact_not_deep, expr_grammar::proofs::TreeSteps::fact_not_deep_full, expr_grammar::proofs::TreeSteps::fact_bracket, expr_grammar::proofs::TreeSteps::fact_bracket_deep, expr_grammar::proofs::TreeSteps::fact_true, expr_grammar::proofs::TreeSteps::fact_true_full, expr_grammar::proofs::TreeSteps::fact_false, expr_grammar::proofs::TreeSteps::fact_false_full, expr_grammar::proofs::TreeSteps::fact_else))]
+#[tactic(auto, using(lexer_trees_spec::proofs::TreeSteps::fact_not, lexer_trees_spec::proofs::TreeSteps::fact_not_full, lexer_trees_spec::proofs::TreeSteps::fact_not_deep, lexer_trees_spec::proofs::TreeSteps::fact_not_deep_full, lexer_trees_spec::proofs::TreeSteps::fact_bracket, lexer_trees_spec::proofs::TreeSteps::fact_bracket_deep, lexer_trees_spec::proofs::TreeSteps::fact_true, lexer_trees_spec::proofs::TreeSteps::fact_true_full, lexer_trees_spec::proofs::TreeSteps::fact_false, lexer_trees_spec::proofs::TreeSteps::fact_false_full, lexer_trees_spec::proofs::TreeSteps::fact_else))]
 /// A condition without AND and OR outside brackets.
 pub fn fact(
     alloc: Global,
@@ -277,7 +277,7 @@ fn more_facts(
 }
 
 #[cycle(reads)]
-#[tactic(auto, unfolding(expr_grammar::specs::Reader::facts), using(parser_combinators::proofs::ReadSteps::option_not, parser_combinators::proofs::ReadSteps::option_counts, parser_combinators::proofs::ReadSteps::option_full))]
+#[tactic(auto, unfolding(lexer_trees_spec::specs::Reader::facts), using(lexer_combinators::proofs::ReadSteps::option_not, lexer_combinators::proofs::ReadSteps::option_counts, lexer_combinators::proofs::ReadSteps::option_full))]
 fn facts(
     alloc: Global,
     c: &mut Cursor<'_, '_>,
@@ -300,7 +300,7 @@ fn facts(
 }
 
 #[cycle(reads)]
-#[tactic(auto, unfolding(expr_grammar::specs::Reader::conj))]
+#[tactic(auto, unfolding(lexer_trees_spec::specs::Reader::conj))]
 fn conj(alloc: Global, c: &mut Cursor<'_, '_>, qualified: bool, depth: u32) -> Result<Cond, Stop>
     requires { depth ≤ 32 }
     ensures { Reads test (spec.conj qualified (spec.can depth) (spec.inside qualified depth)
@@ -339,7 +339,7 @@ fn more_conjs(
 }
 
 #[cycle(reads)]
-#[tactic(auto, unfolding(expr_grammar::specs::Reader::conjs), using(parser_combinators::proofs::ReadSteps::option_not, parser_combinators::proofs::ReadSteps::option_counts, parser_combinators::proofs::ReadSteps::option_full))]
+#[tactic(auto, unfolding(lexer_trees_spec::specs::Reader::conjs), using(lexer_combinators::proofs::ReadSteps::option_not, lexer_combinators::proofs::ReadSteps::option_counts, lexer_combinators::proofs::ReadSteps::option_full))]
 fn conjs(
     alloc: Global,
     c: &mut Cursor<'_, '_>,
@@ -362,7 +362,7 @@ fn conjs(
 }
 
 #[cycle(reads)]
-#[tactic(auto, unfolding(expr_grammar::specs::Reader::cond))]
+#[tactic(auto, unfolding(lexer_trees_spec::specs::Reader::cond))]
 /// A condition, inside which so many constructs may be opened.
 pub fn cond(
     alloc: Global,
@@ -379,7 +379,7 @@ pub fn cond(
 }
 
 /// An expression inside which nothing is open yet.
-#[tactic(auto, unfolding(expr_grammar::specs::Reader::outermost))]
+#[tactic(auto, unfolding(lexer_trees_spec::specs::Reader::outermost))]
 pub fn outer_expr(alloc: Global, c: &mut Cursor<'_, '_>, qualified: bool) -> Result<Expr, Stop>
     ensures { Reads tree ((spec.outermost qualified).expr c.old.nodes (ahead c.old)) result c.new }
 {
@@ -387,7 +387,7 @@ pub fn outer_expr(alloc: Global, c: &mut Cursor<'_, '_>, qualified: bool) -> Res
 }
 
 /// A condition inside which nothing is open yet.
-#[tactic(auto, unfolding(expr_grammar::specs::Reader::outermost))]
+#[tactic(auto, unfolding(lexer_trees_spec::specs::Reader::outermost))]
 pub fn outer_cond(alloc: Global, c: &mut Cursor<'_, '_>, qualified: bool) -> Result<Cond, Stop>
     ensures { Reads test ((spec.outermost qualified).cond c.old.nodes (ahead c.old)) result c.new }
 {
@@ -396,7 +396,7 @@ pub fn outer_cond(alloc: Global, c: &mut Cursor<'_, '_>, qualified: bool) -> Res
 
 /// An expression with counts of its own: 256 nodes and 32 open constructs, whatever was counted
 /// before it. After it the cursor's count is as it was, whatever the answer.
-#[tactic(auto, using(parser_combinators::proofs::ReadSteps::fresh_fails))]
+#[tactic(auto, using(lexer_combinators::proofs::ReadSteps::fresh_fails))]
 pub fn fresh_expr(alloc: Global, c: &mut Cursor<'_, '_>, qualified: bool) -> Result<Expr, Stop>
     ensures read { Reads tree (parsing.fresh (spec.outermost qualified).expr c.old.nodes
         (ahead c.old)) result c.new }
@@ -410,7 +410,7 @@ pub fn fresh_expr(alloc: Global, c: &mut Cursor<'_, '_>, qualified: bool) -> Res
 }
 
 /// A condition with counts of its own, as `fresh_expr`.
-#[tactic(auto, using(parser_combinators::proofs::ReadSteps::fresh_fails))]
+#[tactic(auto, using(lexer_combinators::proofs::ReadSteps::fresh_fails))]
 pub fn fresh_cond(alloc: Global, c: &mut Cursor<'_, '_>, qualified: bool) -> Result<Cond, Stop>
     ensures read { Reads test (parsing.fresh (spec.outermost qualified).cond c.old.nodes
         (ahead c.old)) result c.new }
@@ -425,7 +425,7 @@ pub fn fresh_cond(alloc: Global, c: &mut Cursor<'_, '_>, qualified: bool) -> Res
 
 /// The condition after a WHERE, where one comes, and else TRUE; counted with what was counted
 /// before it.
-#[tactic(auto, unfolding(expr_grammar::specs::Where::outer_where), using(parser_combinators::proofs::ReadSteps::option_not, parser_combinators::proofs::ReadSteps::option_takes))]
+#[tactic(auto, unfolding(lexer_trees_spec::specs::Where::outer_where), using(lexer_combinators::proofs::ReadSteps::option_not, lexer_combinators::proofs::ReadSteps::option_takes))]
 pub fn outer_where(alloc: Global, c: &mut Cursor<'_, '_>, qualified: bool) -> Result<Cond, Stop>
     ensures { Reads test (wheres.outer_where qualified c.old.nodes (ahead c.old)) result c.new }
 {
@@ -438,7 +438,7 @@ pub fn outer_where(alloc: Global, c: &mut Cursor<'_, '_>, qualified: bool) -> Re
 
 /// The condition after a WHERE, where one comes, and else TRUE; with counts of its own, as
 /// `fresh_cond`.
-#[tactic(auto, unfolding(expr_grammar::specs::Where::fresh_where), using(parser_combinators::proofs::ReadSteps::option_not, parser_combinators::proofs::ReadSteps::option_takes))]
+#[tactic(auto, unfolding(lexer_trees_spec::specs::Where::fresh_where), using(lexer_combinators::proofs::ReadSteps::option_not, lexer_combinators::proofs::ReadSteps::option_takes))]
 pub fn fresh_where(alloc: Global, c: &mut Cursor<'_, '_>, qualified: bool) -> Result<Cond, Stop>
     ensures read { Reads test (wheres.fresh_where qualified c.old.nodes (ahead c.old)) result
         c.new }

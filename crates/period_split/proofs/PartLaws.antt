@@ -9,14 +9,14 @@ use Rattle.std.proofs.lemmas.Bool.Decides.{nat_tests}
 use Rattle.std.proofs.lemmas.List.{append-nil, length-map}
 use Rattle.std.proofs.lemmas.List.Concat.{flat_map-append}
 use Rattle.std.proofs.lemmas.Option.{slice_get-map, slice_get_read, slice_get_past}
-use Rattle.relations.specs.Sets.{In}
-use Rattle.relations.specs.Spans.{Span, span, forever, covers, common}
-use Rattle.relations.proofs.CommonMoments.{in_common, none_in_common}
-use Rattle.relations.proofs.SetLaws.{in_flat_map, from_flat_map}
-use Rattle.smo_types.specs.declared.version.Version.{Version}
-use Rattle.smo_types.specs.Commands.{PlainVersion, version_of}
-use Rattle.smo_meaning.specs.InForce.{stamp_of, begins_at, in_force}
-use Rattle.smo_meaning.specs.Past.{Past, version_at, begun_at}
+use Rattle.relations_spec.specs.Sets.{In}
+use Rattle.relations_spec.specs.Spans.{Span, span, forever, covers, common}
+use Rattle.relations_spec.proofs.CommonMoments.{in_common, none_in_common}
+use Rattle.relations_spec.proofs.SetLaws.{in_flat_map, from_flat_map}
+use Rattle.smo_ops_types.specs.declared.version.Version.{Version}
+use Rattle.smo_ops_types.specs.Commands.{PlainVersion, version_of}
+use Rattle.smo_ops_spec.specs.InForce.{stamp_of, begins_at, in_force}
+use Rattle.smo_ops_spec.specs.Past.{Past, version_at, begun_at}
 use Rattle.version_groups.specs.Groups.{Kept, versions_in}
 use Rattle.version_groups.specs.Representation.{Represents}
 use Rattle.version_groups.proofs.OwnMoments.{own_version, own_moment}

@@ -1,8 +1,8 @@
 ghost use Rattle.std.specs.Prelude.{◌≡◌, ◌+◌, ◌<◌, ◌^◌, ◌++◌, ℕ, true, map, length, IfOk, OnOk};
-ghost use Rattle.relations.specs.Spans.{span, forever, covers, common};
-ghost use Rattle.smo_types.specs.Commands.{version_of};
-ghost use Rattle.smo_meaning.specs.InForce.{begins_at};
-ghost use Rattle.smo_meaning.specs.Past.{Past, version_at};
+ghost use Rattle.relations_spec.specs.Spans.{span, forever, covers, common};
+ghost use Rattle.smo_ops_types.specs.Commands.{version_of};
+ghost use Rattle.smo_ops_spec.specs.InForce.{begins_at};
+ghost use Rattle.smo_ops_spec.specs.Past.{Past, version_at};
 ghost use Rattle.version_groups.specs.Groups.{versions_in};
 ghost use Rattle.version_groups.specs.Representation.{Represents};
 ghost use Rattle.period_split.specs.Splitting.{as_part, parts_below, split_by, HasMoment};

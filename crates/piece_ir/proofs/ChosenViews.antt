@@ -3,10 +3,10 @@ use Rattle.std.specs.Prelude.{◌≡◌, ℕ, zero, suc, ◌+◌, ◌<◌, ◌�
 use Rattle.std.specs.Prelude.{take, drop}
 use Rattle.std.specs.List.{flat_map}
 use Rattle.std.proofs.Common.{refl, sym, ap, ◌∙◌, arith, get_or, append_assoc}
-use Rattle.relations.specs.Choices.{choices}
-use Rattle.piece_meaning.specs.Pieces.{PlainPiece}
-use Rattle.piece_meaning.specs.Views.{PlainView, whole}
-use Rattle.piece_meaning.proofs.JoinedChoices.{map_both}
+use Rattle.relations_spec.specs.Choices.{choices}
+use Rattle.piece_ir_spec.specs.Pieces.{PlainPiece}
+use Rattle.piece_ir_spec.specs.Views.{PlainView, whole}
+use Rattle.piece_ir_spec.proofs.JoinedChoices.{map_both}
 use Rattle.piece_ir.specs.declared.view.View.{View}
 use Rattle.piece_ir.specs.Shown.{view_of}
 

@@ -9,8 +9,8 @@ use Rattle.cond_expr.specs.declared.expr.Cond.{Cond}
 use Rattle.cond_expr.specs.Seen.{test}
 use Rattle.cond_expr.specs.declared.expr.Whose.TheVariants.{Atom}
 use Rattle.cond_expr.specs.Trees.{Test, column, fill, fill_test}
-use Rattle.piece_meaning.specs.Views.{PlainView, out_of}
-use Rattle.piece_meaning.specs.Unfolding.{moved_on, put_from, atoms_of, parts_from}
+use Rattle.piece_ir_spec.specs.Views.{PlainView, out_of}
+use Rattle.piece_ir_spec.specs.Unfolding.{moved_on, put_from, atoms_of, parts_from}
 use Rattle.piece_ir.specs.declared.view.View.{View}
 use Rattle.piece_ir.specs.Shown.{view_of, borrowed_views}
 use Rattle.piece_ir.specs.Placing.{places_from}

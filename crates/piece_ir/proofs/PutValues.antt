@@ -9,7 +9,7 @@ use Rattle.cond_expr.specs.Trees.{Tree, Test, column, fill, fill_test, Within}
 use Rattle.cond_expr.specs.Values.{over, value, truth}
 use Rattle.cond_expr.proofs.TreeLaws.{value_fill, value_like}
 use Rattle.cond_expr.proofs.AtomLaws.{value_for_atoms, truth_for_atoms}
-use Rattle.smo_meaning.specs.OneRow.{same}
+use Rattle.smo_ops_spec.specs.OneRow.{same}
 use Rattle.piece_ir.specs.Substituting.{IsOwn, to_atom, put_column, with_value}
 
 module _ (at : ℕ → List ℕ → Value) (i : ℕ) (c : List ℕ) (e : Tree) (own : Within IsOwn e) where

@@ -6,9 +6,9 @@ use Rattle.prima_base.specs.OrderLaws.{same_is}
 use Rattle.cond_expr.specs.declared.expr.ColRef.{ColRef}
 use Rattle.cond_expr.specs.declared.expr.Whose.{Whose}
 use Rattle.cond_expr.specs.declared.expr.Whose.TheVariants.{Free, Alias, Atom}
-use Rattle.smo_meaning.specs.OneRow.{same}
-use Rattle.smo_meaning.proofs.NameLaws.{same_itself}
-use Rattle.plain_answers.specs.Naming.{is_atom, is_to, IsNamed}
+use Rattle.smo_ops_spec.specs.OneRow.{same}
+use Rattle.smo_ops_spec.proofs.NameLaws.{same_itself}
+use Rattle.plain_answers_spec.specs.Naming.{is_atom, is_to, IsNamed}
 use Rattle.piece_ir.specs.Substituting.{is_column, names_column}
 
 or_assoc : (a b c : Bool) → (a || (b || c)) ≡ ((a || b) || c)

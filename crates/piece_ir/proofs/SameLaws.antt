@@ -22,8 +22,8 @@ use Rattle.cond_expr.specs.Trees.{Tree, column, constant, length_of, joined, cho
 use Rattle.cond_expr.specs.Trees.{no_trees, a_tree, Test, never, always, compared, all_of, some_of}
 use Rattle.cond_expr.specs.Trees.{fails, Tests, no_tests, a_test}
 use Rattle.cond_expr.specs.Seen.{tree, test, trees_of, tests_of}
-use Rattle.smo_meaning.proofs.NameLaws.{same_itself}
-use Rattle.piece_meaning.specs.Pieces.{PlainPiece}
+use Rattle.smo_ops_spec.proofs.NameLaws.{same_itself}
+use Rattle.piece_ir_spec.specs.Pieces.{PlainPiece}
 use Rattle.piece_ir.specs.Sameness.{same_whose, same_tree, same_trees, same_test, same_tests}
 use Rattle.piece_ir.specs.Sameness.{same_names, same_outs, same_piece, same_pieces}
 

@@ -1,6 +1,6 @@
 -- The place at which the atoms of each view begin.
 use Rattle.std.specs.Prelude.{ℕ, ◌+◌, List, [], ◌∷◌, length}
-use Rattle.piece_meaning.specs.Views.{PlainView}
+use Rattle.piece_ir_spec.specs.Views.{PlainView}
 
 abbrev pub places_from : ℕ → List PlainView → List ℕ
 places_from off [] = []

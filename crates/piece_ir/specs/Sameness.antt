@@ -8,7 +8,7 @@ use Rattle.cond_expr.specs.Comparisons.{same_way}
 use Rattle.cond_expr.specs.Trees.{Tree, column, constant, length_of, joined, choose, Trees}
 use Rattle.cond_expr.specs.Trees.{no_trees, a_tree, Test, never, always, compared, all_of, some_of}
 use Rattle.cond_expr.specs.Trees.{fails, Tests, no_tests, a_test}
-use Rattle.piece_meaning.specs.Pieces.{PlainPiece}
+use Rattle.piece_ir_spec.specs.Pieces.{PlainPiece}
 
 abbrev pub same_whose : Whose → Whose → Bool
 same_whose Free Free = true

@@ -2,9 +2,9 @@
 use Rattle.std.specs.Prelude.{ℕ, List, map}
 use Rattle.std.specs.Borrow.{Bor}
 use Rattle.cond_expr.specs.Seen.{test}
-use Rattle.smo_types.specs.Changes.{sets_of}
-use Rattle.piece_meaning.specs.Pieces.{PlainPiece}
-use Rattle.piece_meaning.specs.Views.{PlainView, Views}
+use Rattle.smo_ops_types.specs.Changes.{sets_of}
+use Rattle.piece_ir_spec.specs.Pieces.{PlainPiece}
+use Rattle.piece_ir_spec.specs.Views.{PlainView, Views}
 use Rattle.piece_ir.specs.declared.piece.Piece.{Piece}
 use Rattle.piece_ir.specs.declared.view.View.{View}
 use Rattle.piece_ir.specs.declared.view.TableViews.{TableViews}

@@ -7,10 +7,10 @@ use Rattle.cond_expr.specs.declared.expr.Whose.{Whose}
 use Rattle.cond_expr.specs.declared.expr.Whose.TheVariants.{Atom}
 use Rattle.cond_expr.specs.Trees.{Tree, column, Filling, for_atoms, fill, fill_test}
 use Rattle.cond_expr.specs.Values.{over, value}
-use Rattle.smo_meaning.specs.OneRow.{same}
-use Rattle.plain_answers.specs.Naming.{is_to, all_references}
-use Rattle.piece_meaning.specs.Pieces.{PlainPiece, out_trees}
-use Rattle.piece_meaning.specs.Unfolding.{filled_outs}
+use Rattle.smo_ops_spec.specs.OneRow.{same}
+use Rattle.plain_answers_spec.specs.Naming.{is_to, all_references}
+use Rattle.piece_ir_spec.specs.Pieces.{PlainPiece, out_trees}
+use Rattle.piece_ir_spec.specs.Unfolding.{filled_outs}
 
 -- each reference is to this atom
 abbrev pub to_atom : ℕ → Filling

@@ -1,8 +1,8 @@
 ghost use Rattle.std.specs.Prelude.{◌≡◌, ◌<◌, ◌≤◌, ◌++◌, [], ◌∷◌, IfOk, OnOk, map, length, drop};
 ghost use Rattle.std.specs.Prelude.{slice_index_or};
-ghost use Rattle.relations.specs.Choices.{choices};
-ghost use Rattle.piece_meaning.specs.Views.{whole as whole_table, views_of as views_of_table};
-ghost use Rattle.piece_meaning.specs.Unfolding.{unfolded, unfoldings};
+ghost use Rattle.relations_spec.specs.Choices.{choices};
+ghost use Rattle.piece_ir_spec.specs.Views.{whole as whole_table, views_of as views_of_table};
+ghost use Rattle.piece_ir_spec.specs.Unfolding.{unfolded, unfoldings};
 ghost use Rattle.piece_ir.specs.Shown.{piece_of, shown_pieces, view_of, all_views_of};
 ghost use Rattle.piece_ir.specs.Shown.{borrowed_views};
 

@@ -2,7 +2,7 @@ ghost use Rattle.std.specs.Prelude.{◌≡◌, ◌↔◌, ℕ, true, List};
 ghost use Rattle.prima_base.specs.declared.value.Value.{Value as OneValue};
 ghost use Rattle.cond_expr.specs.Trees.{Tree, Test, fill, fill_test, Within};
 ghost use Rattle.cond_expr.specs.Values.{over, value, truth};
-ghost use Rattle.piece_meaning.specs.Pieces.{PlainPiece};
+ghost use Rattle.piece_ir_spec.specs.Pieces.{PlainPiece};
 ghost use Rattle.piece_ir.specs.Sameness.{same_pieces};
 ghost use Rattle.piece_ir.specs.Substituting.{IsOwn, put_column, with_value};
 

@@ -1,9 +1,10 @@
-//! Pieces of rewritten queries, and what is done with them: copied, substituted in, and unfolded by
-//! views.
+//! Pieces of rewritten queries, and what is done with them: copied, substituted in, unfolded by
+//! views, and explained.
 #![tactic(auto)]
 
 mod atom_fill;
 mod choice;
+mod explained;
 mod laws;
 mod name;
 mod output;
@@ -16,6 +17,7 @@ mod view;
 
 pub use atom_fill::column_of;
 pub use choice::unfold_by;
+pub use explained::Explained;
 pub use laws::{substitution_puts_a_value, the_same_pieces_are_equal};
 pub use piece::Piece;
 pub use sameness::same_pieces;

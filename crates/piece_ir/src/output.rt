@@ -1,8 +1,8 @@
 //! The outputs of a piece, with what is put for their references.
 
 ghost use Rattle.std.specs.Prelude.{◌≡◌, IfOk};
-ghost use Rattle.smo_types.specs.Changes.{set_of_expr, sets_of};
-ghost use Rattle.piece_meaning.specs.Unfolding.{filled_out, filled_outs};
+ghost use Rattle.smo_ops_types.specs.Changes.{set_of_expr, sets_of};
+ghost use Rattle.piece_ir_spec.specs.Unfolding.{filled_out, filled_outs};
 
 use cond_expr::{Expr, Fill, fill_expr};
 use prima_base::{Name, NoMemory};

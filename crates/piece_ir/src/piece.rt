@@ -1,7 +1,7 @@
 use crate::name::copy_names;
 use cond_expr::{Cond, Expr};
 use prima_base::{Name, NoMemory};
-use smo_types::copy_sets;
+use smo_ops_types::copy_sets;
 use std::alloc::Global;
 
 /// A query over the tables of one version, as rewriting takes it from version to version (PRISM

@@ -6,8 +6,8 @@ ghost use Rattle.cond_expr.specs.Seen.{tree, test, trees_of, tests_of};
 ghost use Rattle.cond_expr.specs.Faults.{references, trees_references, test_references};
 ghost use Rattle.cond_expr.specs.Faults.{tests_references};
 ghost use Rattle.piece_ir.specs.Substituting.{is_column, names_column};
-ghost use Rattle.smo_types.specs.Changes.{sets_of};
-ghost use Rattle.piece_meaning.specs.Pieces.{out_trees};
+ghost use Rattle.smo_ops_types.specs.Changes.{sets_of};
+ghost use Rattle.piece_ir_spec.specs.Pieces.{out_trees};
 
 use cond_expr::{ColRef, Cond, Expr, Whose};
 use prima_base::Name;

@@ -1,7 +1,7 @@
 //! Whether two expressions, conditions or pieces are the same.
 
 ghost use Rattle.std.specs.Prelude.{◌≡◌, map};
-ghost use Rattle.smo_types.specs.Changes.{sets_of};
+ghost use Rattle.smo_ops_types.specs.Changes.{sets_of};
 ghost use Rattle.cond_expr.specs.Seen.{tree, test, trees_of, tests_of};
 ghost use Rattle.piece_ir.specs.Shown.{piece_of, shown_pieces};
 ghost use Rattle.piece_ir.specs.Sameness.{same_whose, same_tree, same_trees, same_test, same_tests};

@@ -1,6 +1,6 @@
 ghost use Rattle.std.specs.Prelude.{◌≡◌, ◌↔◌, IfOk, IsTrue};
 ghost use Rattle.cond_expr.specs.Seen.{tree};
-ghost use Rattle.plain_answers.specs.Naming.{IsNamed};
+ghost use Rattle.plain_answers_spec.specs.Naming.{IsNamed};
 ghost use Rattle.piece_ir.specs.Shown.{piece_of};
 ghost use Rattle.piece_ir.specs.Substituting.{substituted, names_column, piece_references};
 

@@ -3,8 +3,8 @@ ghost use Rattle.cond_expr.specs.Seen.{test, tests_of};
 ghost use Rattle.cond_expr.specs.Trees.{fill_test, fill_tests};
 ghost use Rattle.cond_expr.specs.Parts.{parts_but_true as parts_of};
 ghost use Rattle.cond_expr.specs.Parts.{all_parts_but_true as all_parts_of};
-ghost use Rattle.piece_meaning.specs.Unfolding.{moved_on, parts_from, with_parts, atoms_of};
-ghost use Rattle.piece_meaning.specs.Unfolding.{unfolded};
+ghost use Rattle.piece_ir_spec.specs.Unfolding.{moved_on, parts_from, with_parts, atoms_of};
+ghost use Rattle.piece_ir_spec.specs.Unfolding.{unfolded};
 ghost use Rattle.piece_ir.specs.Shown.{piece_of, borrowed_views};
 ghost use Rattle.piece_ir.specs.Placing.{places_from};
 

@@ -27,8 +27,8 @@ pub struct TableViews {
 impl View {
     ghost use Rattle.std.specs.Prelude.{◌≡◌, [], ◌∷◌, IfOk, map};
     ghost use Rattle.cond_expr.specs.Seen.{test};
-    ghost use Rattle.smo_types.specs.Changes.{sets_of};
-    ghost use Rattle.piece_meaning.specs.Views.{whole as whole_table};
+    ghost use Rattle.smo_ops_types.specs.Changes.{sets_of};
+    ghost use Rattle.piece_ir_spec.specs.Views.{whole as whole_table};
     ghost use Rattle.piece_ir.specs.Shown.{view_of};
 
     /// Of one table the rows that meet all parts, with these outputs. The one error is `NoMemory`,

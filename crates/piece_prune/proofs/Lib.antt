@@ -1,3 +1,4 @@
 pub mod ValidCells
 pub mod Pruned
 pub mod PushedTypes
+pub mod PartSteps

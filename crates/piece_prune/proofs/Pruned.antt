@@ -4,19 +4,19 @@ use Rattle.std.proofs.Common.{ap, subst, ◌∙◌, inl, inr, arith}
 use Rattle.std.specs.List.{filter, flat_map, items_where_true}
 use Rattle.std.specs.List.Retain.{ReturnsInTurn, IsFiltered}
 use Rattle.std.proofs.lemmas.Bool.{cond-false}
-use Rattle.relations.specs.Sets.{In, set_of}
-use Rattle.relations.specs.Choices.{choices}
-use Rattle.relations.proofs.ChoiceLaws.{from_choices}
+use Rattle.relations_spec.specs.Sets.{In, set_of}
+use Rattle.relations_spec.specs.Choices.{choices}
+use Rattle.relations_spec.proofs.ChoiceLaws.{from_choices}
 use Rattle.prima_base.specs.Order.{row_cmp}
 use Rattle.schema_catalog.specs.Tables.{Tables}
 use Rattle.schema_catalog.specs.Databases.{Database}
-use Rattle.smo_meaning.specs.OneRow.{Row}
-use Rattle.smo_meaning.specs.ValidValues.{IsValidDatabase}
-use Rattle.dead_conditions.proofs.DeadLaws.{dead_holds_of_nothing}
-use Rattle.plain_answers.specs.Choosing.{answered, choice_meets, chosen_cells}
-use Rattle.piece_meaning.specs.Pieces.{PlainPiece, out_trees, atom_columns, atom_rows}
-use Rattle.piece_meaning.specs.Pieces.{piece_answers, means, all_mean}
-use Rattle.piece_meaning.specs.Typed.{IsTyped, AllTyped, atom_kinds}
+use Rattle.smo_ops_spec.specs.OneRow.{Row}
+use Rattle.smo_ops_spec.specs.ValidValues.{IsValidDatabase}
+use Rattle.cond_expr_dead.proofs.DeadLaws.{dead_holds_of_nothing}
+use Rattle.plain_answers_spec.specs.Choosing.{answered, choice_meets, chosen_cells}
+use Rattle.piece_ir_spec.specs.Pieces.{PlainPiece, out_trees, atom_columns, atom_rows}
+use Rattle.piece_ir_spec.specs.Pieces.{piece_answers, means, all_mean}
+use Rattle.piece_ir_spec.specs.Typed.{IsTyped, AllTyped, atom_kinds}
 use Rattle.piece_ir.specs.declared.piece.Piece.{Piece}
 use Rattle.piece_ir.specs.Shown.{piece_of, shown_pieces}
 use Rattle.piece_prune.specs.DeadPieces.{IsDeadPiece, AreLiving, none_left, a_dead_one}

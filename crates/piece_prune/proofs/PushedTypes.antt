@@ -4,8 +4,8 @@ use Rattle.std.proofs.Common.{subst, ◌∙◌, inl, inr}
 use Rattle.std.specs.Prelude.{◌==◌}
 use Rattle.std.specs.List.{list_all}
 use Rattle.std.proofs.lemmas.Bool.{and_parts, and_from, eqb-true, eq-eqb, cond-true}
-use Rattle.relations.specs.Sets.{In}
-use Rattle.relations.proofs.SetLaws.{from_map, from_filter}
+use Rattle.relations_spec.specs.Sets.{In}
+use Rattle.relations_spec.proofs.SetLaws.{from_map, from_filter}
 use Rattle.prima_base.specs.Columns.{Column}
 use Rattle.cond_expr.specs.declared.expr.ColRef.{ColRef}
 use Rattle.cond_expr.specs.declared.expr.Whose.{Whose}
@@ -16,16 +16,16 @@ use Rattle.cond_expr.specs.Faults.{test_references}
 use Rattle.cond_expr.specs.Kinds.{Kinds, kind_of, is_typed, all_typed}
 use Rattle.cond_expr.specs.Parts.{parts}
 use Rattle.cond_expr.proofs.KindLaws.{typed_fill}
-use Rattle.smo_meaning.specs.OneRow.{own_kinds}
-use Rattle.smo_meaning.specs.Preconditions.{type_in}
-use Rattle.smo_meaning.proofs.TypeLaws.{own_atom}
+use Rattle.smo_ops_spec.specs.OneRow.{own_kinds}
+use Rattle.smo_ops_spec.specs.Preconditions.{type_in}
+use Rattle.smo_ops_spec.proofs.TypeLaws.{own_atom}
 use Rattle.cond_expr.specs.AtomColumns.{kinds_of_atoms}
-use Rattle.plain_answers.specs.Naming.{is_to, is_atom}
-use Rattle.plain_answers.specs.Pushing.{are_own, own_parts, as_first, pushed}
+use Rattle.plain_answers_spec.specs.Naming.{is_to, is_atom}
+use Rattle.plain_answers_spec.specs.Pushing.{are_own, own_parts, as_first, pushed}
 use Rattle.cond_expr.proofs.ReferenceLaws.{Each, test_within_each}
-use Rattle.piece_meaning.proofs.AtomKinds.{atom_kind, kinds_at}
-use Rattle.piece_meaning.proofs.KnownKinds.{typed_like}
-use Rattle.dead_conditions.proofs.DeadLaws.{part_typed}
+use Rattle.piece_ir_spec.proofs.AtomKinds.{atom_kind, kinds_at}
+use Rattle.piece_ir_spec.proofs.KnownKinds.{typed_like}
+use Rattle.cond_expr_dead.proofs.DeadLaws.{part_typed}
 
 all_typed_from : (of : Kinds) (ts : List Test) → ((t : Test) → In t ts → is_typed of t ≡ true)
     → all_typed of (tests_of ts) ≡ true

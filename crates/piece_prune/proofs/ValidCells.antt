@@ -5,8 +5,8 @@ use Rattle.std.specs.Prelude.{pos, Option, Some, None, is_some, ⊤}
 use Rattle.std.specs.Option.{unwrap_or}
 use Rattle.std.specs.FinMap.{get}
 use Rattle.std.proofs.lemmas.Int.{ints}
-use Rattle.relations.specs.Sets.{In}
-use Rattle.relations.specs.Choices.{Chosen}
+use Rattle.relations_spec.specs.Sets.{In}
+use Rattle.relations_spec.specs.Choices.{Chosen}
 use Rattle.prima_base.specs.declared.value.Value.TheVariants.{Int}
 use Rattle.prima_base.specs.declared.value.ColType.{ColType}
 use Rattle.prima_base.specs.Columns.{Column, IsValid, IsRow}
@@ -16,14 +16,14 @@ use Rattle.schema_catalog.specs.Databases.{cell, DatabaseEntry, Rows, Lost, Data
 use Rattle.cond_expr.specs.declared.expr.Whose.{Whose}
 use Rattle.cond_expr.specs.declared.expr.Whose.TheVariants.{Free, Alias, Atom}
 use Rattle.cond_expr.specs.Kinds.{Fits, value_kind}
-use Rattle.smo_meaning.specs.OneRow.{Row}
-use Rattle.smo_meaning.specs.Effects.{rows_under}
-use Rattle.smo_meaning.specs.ValidValues.{IsValidDatabase, EntryHolds, AreValues}
-use Rattle.smo_meaning.proofs.NameLaws.{type_of, cell_typed}
-use Rattle.plain_answers.specs.Choosing.{chosen_cell, chosen_cells}
-use Rattle.piece_meaning.specs.Pieces.{atom_columns, atom_rows}
-use Rattle.piece_meaning.specs.Typed.{atom_kinds}
-use Rattle.piece_meaning.proofs.AtomKinds.{atom_kind, kinds_at, known_atom}
+use Rattle.smo_ops_spec.specs.OneRow.{Row}
+use Rattle.smo_ops_spec.specs.Effects.{rows_under}
+use Rattle.smo_ops_spec.specs.ValidValues.{IsValidDatabase, EntryHolds, AreValues}
+use Rattle.smo_ops_spec.proofs.NameLaws.{type_of, cell_typed}
+use Rattle.plain_answers_spec.specs.Choosing.{chosen_cell, chosen_cells}
+use Rattle.piece_ir_spec.specs.Pieces.{atom_columns, atom_rows}
+use Rattle.piece_ir_spec.specs.Typed.{atom_kinds}
+use Rattle.piece_ir_spec.proofs.AtomKinds.{atom_kind, kinds_at, known_atom}
 
 no_number : IsValid (Int (pos 0))
 no_number = (omega (arith, ints), omega (arith, ints))

@@ -2,9 +2,9 @@
 use Rattle.std.specs.Prelude.{List, [], ◌∷◌, Bool, true, false, not}
 use Rattle.schema_catalog.specs.Tables.{Tables}
 use Rattle.cond_expr.specs.Parts.{IsDead}
-use Rattle.dead_conditions.specs.Tried.{is_killed}
-use Rattle.piece_meaning.specs.Pieces.{PlainPiece}
-use Rattle.piece_meaning.specs.Typed.{IsTyped, atom_kinds}
+use Rattle.cond_expr_dead.specs.Tried.{is_killed}
+use Rattle.piece_ir_spec.specs.Pieces.{PlainPiece}
+use Rattle.piece_ir_spec.specs.Typed.{IsTyped, atom_kinds}
 
 -- A top-level part of its condition is FALSE, or for some column of some atom no value of the
 -- column's type meets all the top-level parts that compare just this column with a constant.

@@ -4,11 +4,11 @@ ghost use Rattle.schema_catalog.specs.Tables.{Tables};
 ghost use Rattle.schema_catalog.specs.Databases.{Database};
 ghost use Rattle.cond_expr.specs.Trees.{Test};
 ghost use Rattle.cond_expr.specs.Kinds.{is_typed};
-ghost use Rattle.smo_meaning.specs.OneRow.{own_kinds};
-ghost use Rattle.smo_meaning.specs.ValidValues.{IsValidDatabase};
+ghost use Rattle.smo_ops_spec.specs.OneRow.{own_kinds};
+ghost use Rattle.smo_ops_spec.specs.ValidValues.{IsValidDatabase};
 ghost use Rattle.cond_expr.specs.AtomColumns.{kinds_of_atoms};
-ghost use Rattle.plain_answers.specs.Pushing.{pushed};
-ghost use Rattle.piece_meaning.specs.Pieces.{PlainPiece, means, all_mean};
+ghost use Rattle.plain_answers_spec.specs.Pushing.{pushed};
+ghost use Rattle.piece_ir_spec.specs.Pieces.{PlainPiece, means, all_mean};
 ghost use Rattle.piece_prune.specs.DeadPieces.{IsDeadPiece, AreLiving};
 
 /// Over every database whose values are of their columns' types, in range and valid, a dead piece

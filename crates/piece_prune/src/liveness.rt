@@ -1,9 +1,9 @@
 ghost use Rattle.std.specs.Prelude.{◌≡◌, ◌↔◌, not, IsTrue};
-ghost use Rattle.piece_meaning.specs.Typed.{IsTyped, AllTyped};
+ghost use Rattle.piece_ir_spec.specs.Typed.{IsTyped, AllTyped};
 ghost use Rattle.piece_ir.specs.Shown.{piece_of, shown_pieces};
 ghost use Rattle.piece_prune.specs.DeadPieces.{IsDeadPiece, AreLiving, Decides, lives};
 
-use dead_conditions::is_dead as is_dead_condition;
+use cond_expr_dead::is_dead as is_dead_condition;
 use piece_ir::Piece;
 use schema_catalog::Schema;
 

@@ -7,9 +7,9 @@
 use disk_model::{Disk, SureDisk};
 use prima_base::NoMemory;
 use prima_io::{Sink, Source};
-use program_words::asked;
 use rewrite_rules::{Rule, RuleBook, push_every_rule};
 use script_cli::{FileDisk, ReaderSource, Status, Word, WriterSink, run};
+use script_cli_arguments::asked;
 use std::alloc::Global;
 use std::process::ExitCode;
 use std::{env, io};

@@ -1,6 +1,6 @@
 -- Valid values, the columns of a table, and the relations that fit them.
 use Rattle.std.specs.Prelude.{◌≡◌, ℕ, ◌^◌, ◌-◌, pos, neg_ℤ, ◌≤ℤ◌, Bool, true, false, List, [], ◌∷◌}
-use Rattle.relations.specs.Sets.{In, Ascends}
+use Rattle.relations_spec.specs.Sets.{In, Ascends}
 use Rattle.prima_base.specs.Bytes.{IsTxt}
 use Rattle.prima_base.specs.Order.{row_cmp, bytes_cmp}
 use Rattle.prima_base.specs.declared.value.Value.{Value}

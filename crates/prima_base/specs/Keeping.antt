@@ -1,8 +1,8 @@
 -- Which entries of a listing are kept, by their periods.
 use Rattle.std.specs.Prelude.{ℕ, ◌-◌, ◌==◌, ◌&&◌, ◌||◌, Bool, nat_le, nat_lt, List, if◌then◌else◌}
 use Rattle.std.specs.List.{filter, list_all}
-use Rattle.relations.specs.Spans.{Span, covers, forever}
-use Rattle.relations.specs.Timed.{Entry}
+use Rattle.relations_spec.specs.Spans.{Span, covers, forever}
+use Rattle.relations_spec.specs.Timed.{Entry}
 use Rattle.prima_base.specs.declared.keep.Keep.{Keep}
 use Rattle.prima_base.specs.declared.keep.Keep.TheVariants.{Starting, Ending, Lasting, Covering}
 use Rattle.prima_base.specs.declared.keep.Keep.TheVariants.{Overlapping}

@@ -12,7 +12,7 @@ use Rattle.std.specs.FinMap.{slice_cmp-IsAntisymmetric}
 use Rattle.std.proofs.lemmas.Cmp.{int_cmp_total, eq_by_cmp_equiv, tied_itself}
 use Rattle.prima_base.specs.declared.value.Value.{Value}
 use Rattle.prima_base.specs.declared.value.Value.TheVariants.{Int, Text}
-use Rattle.relations.specs.Sets.{IsExact}
+use Rattle.relations_spec.specs.Sets.{IsExact}
 use Rattle.prima_base.specs.Order.{value_cmp, row_cmp, bytes_cmp, same, value_eq, shown}
 
 pub value_total : IsTotalOrder value_cmp

@@ -1,4 +1,4 @@
-ghost use Rattle.relations.specs.Spans.{covers, common};
+ghost use Rattle.relations_spec.specs.Spans.{covers, common};
 ghost use Rattle.std.specs.Prelude.{◌≡◌, ℕ, false, ◌&&◌, IfNone, ◌<◌, ◌↔◌, max, IsSome, IfSome};
 
 use std::marker::Model;
@@ -15,7 +15,7 @@ pub struct Period {
 
 impl Model for Period {
     ghost use Rattle.std.specs.Prelude.{◌<◌};
-    ghost use Rattle.relations.specs.Spans.{Span};
+    ghost use Rattle.relations_spec.specs.Spans.{Span};
 
     ghost Value = { Span };
 

@@ -1,5 +1,5 @@
 ghost use Rattle.std.specs.Prelude.{◌≡◌, IfOk};
-ghost use Rattle.relations.specs.Sets.{IsExact};
+ghost use Rattle.relations_spec.specs.Sets.{IsExact};
 ghost use Rattle.prima_base.specs.Order.{row_cmp};
 
 use crate::{NoMemory, Value};

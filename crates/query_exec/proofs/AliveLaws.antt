@@ -4,20 +4,20 @@ use Rattle.std.proofs.Common.{sym, ap, subst, ◌∙◌, inl, inr, arith}
 use Rattle.std.specs.List.{filter}
 use Rattle.std.specs.Prelude.{◌⊎◌}
 use Rattle.std.proofs.lemmas.List.Elements.{filter-append}
-use Rattle.relations.specs.Sets.{In}
-use Rattle.relations.proofs.SetLaws.{in_append, from_map, from_flat_map}
-use Rattle.smo_types.specs.Commands.{PlainVersion}
-use Rattle.smo_meaning.specs.Past.{no_tables, tables_from}
-use Rattle.plain_answers.specs.Reading.{Read}
+use Rattle.relations_spec.specs.Sets.{In}
+use Rattle.relations_spec.proofs.SetLaws.{in_append, from_map, from_flat_map}
+use Rattle.smo_ops_types.specs.Commands.{PlainVersion}
+use Rattle.smo_ops_spec.specs.Past.{no_tables, tables_from}
+use Rattle.plain_answers_spec.specs.Reading.{Read}
 use Rattle.version_groups.specs.Groups.{Kept}
-use Rattle.piece_meaning.specs.Pieces.{PlainPiece}
-use Rattle.piece_meaning.specs.Rules.{Book}
+use Rattle.piece_ir_spec.specs.Pieces.{PlainPiece}
+use Rattle.piece_ir_spec.specs.Rules.{Book}
 use Rattle.piece_ir.specs.Shown.{shown_pieces}
 use Rattle.piece_prune.specs.DeadPieces.{IsDeadPiece, AreLiving, none_left, a_dead_one}
 use Rattle.piece_prune.specs.DeadPieces.{a_living_one, lives}
-use Rattle.piece_texts.specs.ExplainedPieces.{PlainExplained}
-use Rattle.rewrite_chains.specs.Beginnings.{first_piece}
-use Rattle.rewrite_chains.specs.Chains.{unfolded_to}
+use Rattle.piece_ir.specs.ExplainedPieces.{PlainExplained}
+use Rattle.piece_ir_spec.specs.Beginnings.{first_piece}
+use Rattle.piece_ir_spec.specs.Chains.{unfolded_to}
 use Rattle.period_split.specs.Splitting.{Part}
 use Rattle.join_exec.specs.Pieces.{piece_reads}
 use Rattle.query_exec.specs.declared.part_piece.PartPieces.{PartPieces}

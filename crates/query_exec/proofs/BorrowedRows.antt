@@ -3,11 +3,11 @@ use Rattle.std.proofs.Common.{◌≡◌, ◌<◌, ◌+◌, ℕ, zero, suc, Bool,
 use Rattle.std.proofs.Common.{◌++◌, map, length, get_or, drop, refl, sym, ap, ◌∙◌, subst}
 use Rattle.std.proofs.Common.{inl, inr, arith}
 use Rattle.std.specs.Prelude.{Option, ◌⊎◌}
-use Rattle.relations.specs.Sets.{In, set_of}
-use Rattle.relations.specs.Spans.{Span, covers}
-use Rattle.relations.proofs.Held.{in_at, covers_is}
-use Rattle.relations.proofs.SetLaws.{in_left, in_right, in_append, in_map, from_map, in_flat_map}
-use Rattle.relations.proofs.SetLaws.{from_flat_map, from_set}
+use Rattle.relations_spec.specs.Sets.{In, set_of}
+use Rattle.relations_spec.specs.Spans.{Span, covers}
+use Rattle.relations_spec.proofs.Held.{in_at, covers_is}
+use Rattle.relations_spec.proofs.SetLaws.{in_left, in_right, in_append, in_map, from_map, in_flat_map}
+use Rattle.relations_spec.proofs.SetLaws.{from_flat_map, from_set}
 use Rattle.prima_base.specs.declared.value.Val.{Val}
 use Rattle.prima_base.specs.declared.timed_row.TimedRow.{TimedRow}
 use Rattle.prima_base.specs.Order.{shown, row_cmp}
@@ -21,32 +21,32 @@ use Rattle.cond_expr.specs.AtomColumns.{columns_at}
 use Rattle.cond_expr.specs.Kinds.{Kinds}
 use Rattle.cond_expr.specs.Trees.{Tree, Test}
 use Rattle.prima_base.specs.declared.value.ColType.{ColType}
-use Rattle.smo_types.specs.Commands.{PlainVersion}
-use Rattle.smo_meaning.specs.OneRow.{Row, Relation}
-use Rattle.smo_meaning.specs.Past.{Past, no_tables, tables_from, tables_of}
-use Rattle.timed_choices.specs.BorrowedOutputs.{EachRow, BorrowedValues, all_values, RowBorrows}
-use Rattle.timed_choices.specs.BorrowedOutputs.{RowsBorrow, is_plain}
-use Rattle.timed_choices.specs.BorrowedOutputs.{StaysBorrowed, AllStayBorrowed}
-use Rattle.timed_choices.proofs.BorrowedLaws.{each_both, each_member, all_members}
+use Rattle.smo_ops_types.specs.Commands.{PlainVersion}
+use Rattle.smo_ops_spec.specs.OneRow.{Row, Relation}
+use Rattle.smo_ops_spec.specs.Past.{Past, no_tables, tables_from, tables_of}
+use Rattle.join_exec_spec.specs.BorrowedOutputs.{EachRow, BorrowedValues, all_values, RowBorrows}
+use Rattle.join_exec_spec.specs.BorrowedOutputs.{RowsBorrow, is_plain}
+use Rattle.join_exec_spec.specs.BorrowedOutputs.{StaysBorrowed, AllStayBorrowed}
+use Rattle.join_exec_spec.proofs.BorrowedLaws.{each_both, each_member, all_members}
 use Rattle.coalesce.specs.Joining.{HaveValuesOf}
-use Rattle.joining.specs.declared.atom.Atom.{Atom}
-use Rattle.joining.specs.Atoms.{AtomsBorrow}
-use Rattle.version_ways.specs.Migration.{migrated}
+use Rattle.join_exec_engine.specs.declared.atom.Atom.{Atom}
+use Rattle.join_exec_engine.specs.Atoms.{AtomsBorrow}
+use Rattle.smo_ops_versions_spec.specs.Migration.{migrated}
 use Rattle.version_groups.specs.Groups.{Kept, versions_in}
-use Rattle.plain_answers.specs.Branches.{Item, PlainBranch, branch_answers}
-use Rattle.plain_answers.specs.Reading.{Read}
-use Rattle.piece_meaning.specs.Pieces.{PlainPiece, out_names, out_trees}
-use Rattle.piece_meaning.specs.Rules.{Book, IsValidBook}
-use Rattle.piece_meaning.specs.Typed.{atom_kinds, typed_names}
+use Rattle.plain_answers_spec.specs.Branches.{Item, PlainBranch, branch_answers}
+use Rattle.plain_answers_spec.specs.Reading.{Read}
+use Rattle.piece_ir_spec.specs.Pieces.{PlainPiece, out_names, out_trees}
+use Rattle.piece_ir_spec.specs.Rules.{Book, IsValidBook}
+use Rattle.piece_ir_spec.specs.Typed.{atom_kinds, typed_names}
 use Rattle.piece_ir.specs.Shown.{shown_pieces}
-use Rattle.piece_texts.specs.ExplainedPieces.{PlainExplained}
-use Rattle.rewrite_chains.specs.Beginnings.{first_piece, own_column}
-use Rattle.rewrite_chains.specs.Chains.{unfolded_to}
-use Rattle.rewrite_chains.proofs.ReadMoments.{table_output}
+use Rattle.piece_ir.specs.ExplainedPieces.{PlainExplained}
+use Rattle.piece_ir_spec.specs.Beginnings.{first_piece, own_column}
+use Rattle.piece_ir_spec.specs.Chains.{unfolded_to}
+use Rattle.piece_ir_spec.proofs.ReadMoments.{table_output}
 use Rattle.period_split.specs.Splitting.{Part}
-use Rattle.query_types.specs.Branches.{branch_of, branches_of}
-use Rattle.query_types.specs.declared.branch.Branch.{Branch}
-use Rattle.query_types.specs.Queries.{PlainQuery}
+use Rattle.temporal_lang_types.specs.Branches.{branch_of, branches_of}
+use Rattle.temporal_lang_types.specs.declared.branch.Branch.{Branch}
+use Rattle.temporal_lang_types.specs.Queries.{PlainQuery}
 use Rattle.query_exec.specs.declared.part_piece.PartPieces.{PartPieces}
 use Rattle.query_exec.specs.declared.route.Route.{Route}
 use Rattle.query_exec.specs.Borrowed.{BorrowedByBranch, SparesRow, Spares, AllSpare, IsAnswered}

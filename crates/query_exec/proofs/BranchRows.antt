@@ -5,29 +5,29 @@ use Rattle.std.proofs.Common.{arith}
 use Rattle.std.specs.Prelude.{◌⊎◌}
 use Rattle.std.specs.List.{flat_map}
 use Rattle.std.proofs.lemmas.List.{map-append, length-map, length-take-le}
-use Rattle.relations.specs.Sets.{In, set_of}
-use Rattle.relations.specs.Timed.{Entry, at}
-use Rattle.relations.proofs.SetLaws.{in_left, in_right, in_append, in_set, from_set, in_flat_map}
-use Rattle.relations.proofs.SetLaws.{from_flat_map, one_list, set_ascends}
-use Rattle.relations.proofs.Held.{in_at, at_ascends}
+use Rattle.relations_spec.specs.Sets.{In, set_of}
+use Rattle.relations_spec.specs.Timed.{Entry, at}
+use Rattle.relations_spec.proofs.SetLaws.{in_left, in_right, in_append, in_set, from_set, in_flat_map}
+use Rattle.relations_spec.proofs.SetLaws.{from_flat_map, one_list, set_ascends}
+use Rattle.relations_spec.proofs.Held.{in_at, at_ascends}
 use Rattle.prima_base.specs.declared.timed_row.TimedRow.{TimedRow}
 use Rattle.prima_base.specs.Order.{row_cmp}
 use Rattle.prima_base.specs.OrderLaws.{row_exact}
 use Rattle.prima_base.specs.Timed.{entries_of, rows_at}
 use Rattle.schema_catalog.specs.Tables.{Tables}
 use Rattle.schema_catalog.specs.Databases.{Database}
-use Rattle.smo_types.specs.Commands.{PlainVersion}
-use Rattle.smo_meaning.specs.OneRow.{Row, Relation}
-use Rattle.plain_answers.specs.Branches.{PlainBranch, branch_answers, plain}
-use Rattle.plain_answers.specs.Pushing.{pushed_reads}
-use Rattle.plain_answers.specs.Reading.{answers_read}
-use Rattle.plain_answers.proofs.ReadLaws.{same_plain}
-use Rattle.plain_answers.proofs.PushedParts.{is_pushed}
-use Rattle.query_types.specs.Branches.{branch_of, branches_of}
-use Rattle.query_types.specs.declared.branch.Branch.{Branch}
-use Rattle.query_pieces.proofs.Gatherings.{of_either, of_first, of_second}
-use Rattle.piece_meaning.specs.Rules.{Book}
-use Rattle.piece_texts.specs.ExplainedPieces.{PlainExplained}
+use Rattle.smo_ops_types.specs.Commands.{PlainVersion}
+use Rattle.smo_ops_spec.specs.OneRow.{Row, Relation}
+use Rattle.plain_answers_spec.specs.Branches.{PlainBranch, branch_answers, plain}
+use Rattle.plain_answers_spec.specs.Pushing.{pushed_reads}
+use Rattle.plain_answers_spec.specs.Reading.{answers_read}
+use Rattle.plain_answers_spec.proofs.ReadLaws.{same_plain}
+use Rattle.plain_answers_spec.proofs.PushedParts.{is_pushed}
+use Rattle.temporal_lang_types.specs.Branches.{branch_of, branches_of}
+use Rattle.temporal_lang_types.specs.declared.branch.Branch.{Branch}
+use Rattle.query_pieces_spec.proofs.Gatherings.{of_either, of_first, of_second}
+use Rattle.piece_ir_spec.specs.Rules.{Book}
+use Rattle.piece_ir.specs.ExplainedPieces.{PlainExplained}
 use Rattle.period_split.specs.Splitting.{Part}
 use Rattle.query_exec.specs.declared.route.Route.{Route}
 use Rattle.query_exec.specs.Accepted.{MayBranch, MayBranches}

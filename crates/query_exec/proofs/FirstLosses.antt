@@ -3,18 +3,18 @@ use Rattle.std.proofs.Common.{◌≡◌, ◌+◌, ◌<◌, ◌≤◌, ℕ, zero,
 use Rattle.std.proofs.Common.{get_or, take, take_all, refl, sym, ap, subst, ◌∙◌, inl, inr, arith}
 use Rattle.std.specs.Prelude.{◌⊎◌, Option, Some, None}
 use Rattle.std.specs.Option.{option_or}
-use Rattle.relations.specs.Sets.{In}
-use Rattle.relations.specs.Spans.{Span, covers, forever}
+use Rattle.relations_spec.specs.Sets.{In}
+use Rattle.relations_spec.specs.Spans.{Span, covers, forever}
 use Rattle.std.proofs.lemmas.List.{length-map}
-use Rattle.smo_types.specs.Commands.{PlainVersion, version_of}
+use Rattle.smo_ops_types.specs.Commands.{PlainVersion, version_of}
 use Rattle.version_groups.specs.Groups.{Kept, versions_in}
-use Rattle.smo_meaning.specs.Losses.{Loss}
-use Rattle.smo_meaning.specs.Past.{Past, version_at}
-use Rattle.query_types.specs.Queries.{PlainQuery, slice_of}
-use Rattle.query_meaning.specs.Losing.{first_lost}
-use Rattle.query_meaning.proofs.FirstLaws.{no_loss}
-use Rattle.query_pieces.specs.Piecewise.{loss_from, IsAskedOf}
-use Rattle.query_pieces.proofs.LeastLoss.{none_before, least_lost}
+use Rattle.smo_ops_spec.specs.Losses.{Loss}
+use Rattle.smo_ops_spec.specs.Past.{Past, version_at}
+use Rattle.temporal_lang_types.specs.Queries.{PlainQuery, slice_of}
+use Rattle.temporal_lang_spec.specs.Losing.{first_lost}
+use Rattle.temporal_lang_spec.proofs.FirstLaws.{no_loss}
+use Rattle.query_pieces_spec.specs.Piecewise.{loss_from, IsAskedOf}
+use Rattle.query_pieces_spec.proofs.LeastLoss.{none_before, least_lost}
 use Rattle.period_split.specs.Splitting.{Part, AscendFrom, HasMoment, split_by}
 use Rattle.query_exec.specs.Losing.{first_among, AllUpTo}
 use Rattle.query_exec.proofs.RouteLaws.{later_than, covers_start, asked_of, of_asked, is_own}

@@ -4,9 +4,9 @@ use Rattle.std.proofs.Common.{◌≡◌, ◌+◌, ℕ, Bool, true, false, cond, 
 use Rattle.std.proofs.Common.{sym, ap, subst, ◌∙◌, inl, inr}
 use Rattle.std.specs.Prelude.{◌==◌, not, None, if◌then◌else◌}
 use Rattle.std.specs.FinMap.{get}
-use Rattle.relations.specs.Sets.{In}
-use Rattle.relations.specs.Spans.{Span}
-use Rattle.relations.proofs.SetLaws.{in_append, from_map, from_flat_map, from_filter}
+use Rattle.relations_spec.specs.Sets.{In}
+use Rattle.relations_spec.specs.Spans.{Span}
+use Rattle.relations_spec.proofs.SetLaws.{in_append, from_map, from_flat_map, from_filter}
 use Rattle.prima_base.specs.Columns.{IsValid}
 use Rattle.schema_catalog.specs.Tables.{Tables}
 use Rattle.cond_expr.specs.declared.expr.Whose.{Whose}
@@ -14,36 +14,36 @@ use Rattle.cond_expr.specs.declared.expr.Whose.TheVariants.{Free, Alias, Atom}
 use Rattle.cond_expr.specs.Trees.{Tree, column, Test, always, fill_test}
 use Rattle.cond_expr.specs.Faults.{test_references}
 use Rattle.cond_expr.specs.Parts.{parts, Bound}
-use Rattle.smo_types.specs.Commands.{PlainVersion}
-use Rattle.smo_meaning.specs.ValidPast.{IsPast}
-use Rattle.smo_meaning.specs.Past.{Past, no_tables, tables_from, tables_of, version_at}
-use Rattle.version_ways.specs.LostNames.{lost_names}
+use Rattle.smo_ops_types.specs.Commands.{PlainVersion}
+use Rattle.smo_ops_spec.specs.ValidPast.{IsPast}
+use Rattle.smo_ops_spec.specs.Past.{Past, no_tables, tables_from, tables_of, version_at}
+use Rattle.smo_ops_versions_spec.specs.LostNames.{lost_names}
 use Rattle.version_groups.proofs.OwnMoments.{own_version}
-use Rattle.plain_answers.specs.Branches.{Item, PlainBranch}
-use Rattle.plain_answers.specs.Naming.{all_references}
-use Rattle.plain_answers.specs.Pushing.{are_own, own_parts, as_first, pushed, pushed_from}
-use Rattle.plain_answers.specs.Pushing.{pushed_reads}
-use Rattle.plain_answers.specs.Reading.{Read}
-use Rattle.dead_conditions.specs.Tried.{HaveValidLimits, is_killed}
-use Rattle.dead_conditions.proofs.BoundLaws.{IsBound, on_left, on_right, bound_is}
-use Rattle.dead_conditions.proofs.DeadLaws.{killed_is_dead, dead_is_killed}
-use Rattle.piece_meaning.specs.Constants.{ValidInTree, ValidInTest, ValidInPiece, ValidInVersions}
-use Rattle.piece_meaning.specs.Pieces.{PlainPiece}
-use Rattle.piece_meaning.specs.Rules.{Book, IsValidBook}
-use Rattle.piece_meaning.specs.Typed.{IsTyped, atom_kinds}
-use Rattle.piece_meaning.proofs.ValidConstants.{for_atoms_valid, fill_test_valid, part_valid}
-use Rattle.piece_meaning.proofs.ValidConstants.{tests_valid}
+use Rattle.plain_answers_spec.specs.Branches.{Item, PlainBranch}
+use Rattle.plain_answers_spec.specs.Naming.{all_references}
+use Rattle.plain_answers_spec.specs.Pushing.{are_own, own_parts, as_first, pushed, pushed_from}
+use Rattle.plain_answers_spec.specs.Pushing.{pushed_reads}
+use Rattle.plain_answers_spec.specs.Reading.{Read}
+use Rattle.cond_expr_dead.specs.Tried.{HaveValidLimits, is_killed}
+use Rattle.cond_expr_dead.proofs.BoundLaws.{IsBound, on_left, on_right, bound_is}
+use Rattle.cond_expr_dead.proofs.DeadLaws.{killed_is_dead, dead_is_killed}
+use Rattle.piece_ir_spec.specs.Constants.{ValidInTree, ValidInTest, ValidInPiece, ValidInVersions}
+use Rattle.piece_ir_spec.specs.Pieces.{PlainPiece}
+use Rattle.piece_ir_spec.specs.Rules.{Book, IsValidBook}
+use Rattle.piece_ir_spec.specs.Typed.{IsTyped, atom_kinds}
+use Rattle.piece_ir_spec.proofs.ValidConstants.{for_atoms_valid, fill_test_valid, part_valid}
+use Rattle.piece_ir_spec.proofs.ValidConstants.{tests_valid}
 use Rattle.piece_prune.specs.DeadPieces.{IsDeadPiece, lives}
-use Rattle.piece_texts.specs.ExplainedPieces.{PlainExplained}
-use Rattle.rewrite_chains.specs.Beginnings.{IsQuestion, first_piece}
-use Rattle.rewrite_chains.specs.Chains.{unfolded_to}
-use Rattle.rewrite_chains.specs.Reading.{AreQuestions, Suffices}
-use Rattle.rewrite_chains.proofs.ReadMoments.{table_typed, table_valid}
-use Rattle.query_meaning.specs.Accepted.{fault_of_query}
-use Rattle.query_meaning.specs.Atoms.{Source, sources_of, to_atoms, branch_with_atoms, with_atoms}
-use Rattle.query_types.specs.Queries.{PlainQuery, slice_of}
-use Rattle.query_pieces.specs.Piecewise.{asked_branches, IsAskedOf}
-use Rattle.query_pieces.proofs.ReadByPieces.{pushed_enough, items_kept}
+use Rattle.piece_ir.specs.ExplainedPieces.{PlainExplained}
+use Rattle.piece_ir_spec.specs.Beginnings.{IsQuestion, first_piece}
+use Rattle.piece_ir_spec.specs.Chains.{unfolded_to}
+use Rattle.piece_ir_spec.specs.Reading.{AreQuestions, Suffices}
+use Rattle.piece_ir_spec.proofs.ReadMoments.{table_typed, table_valid}
+use Rattle.temporal_lang_spec.specs.Accepted.{fault_of_query}
+use Rattle.temporal_lang_spec.specs.Atoms.{Source, sources_of, to_atoms, branch_with_atoms, with_atoms}
+use Rattle.temporal_lang_types.specs.Queries.{PlainQuery, slice_of}
+use Rattle.query_pieces_spec.specs.Piecewise.{asked_branches, IsAskedOf}
+use Rattle.query_pieces_spec.proofs.ReadByPieces.{pushed_enough, items_kept}
 use Rattle.period_split.specs.Splitting.{Part, split_by}
 use Rattle.period_split.proofs.PartLaws.{split_ascends}
 use Rattle.query_exec.specs.Constants.{ValidInQuery}

@@ -3,9 +3,9 @@ use Rattle.std.proofs.Common.{◌≡◌, ◌+◌, ◌<◌, ◌≤◌, ℕ, true,
 use Rattle.std.proofs.Common.{take, drop, refl, sym, ap, subst, ◌∙◌, append_assoc, append-nil}
 use Rattle.std.proofs.Common.{arith}
 use Rattle.std.proofs.lemmas.List.{length-map, length-take-le}
-use Rattle.relations.specs.Sets.{set_of}
-use Rattle.relations.specs.Spans.{covers}
-use Rattle.relations.specs.Listing.{IsListing}
+use Rattle.relations_spec.specs.Sets.{set_of}
+use Rattle.relations_spec.specs.Spans.{covers}
+use Rattle.relations_spec.specs.Listing.{IsListing}
 use Rattle.prima_base.specs.Columns.{Column, names_of}
 use Rattle.prima_base.specs.Timed.{rows_at, entries_of}
 use Rattle.prima_base.specs.Order.{row_cmp}
@@ -13,30 +13,30 @@ use Rattle.prima_base.specs.declared.timed_row.TimedRow.{TimedRow}
 use Rattle.cond_expr.specs.declared.expr.ColRef.{ColRef}
 use Rattle.cond_expr.specs.declared.expr.Column.{Column as AtomColumn}
 use Rattle.cond_expr.specs.Trees.{Tree, Test}
-use Rattle.smo_types.specs.Commands.{PlainVersion}
-use Rattle.smo_meaning.specs.Effects.{columns_of}
-use Rattle.smo_meaning.specs.Making.{named}
-use Rattle.smo_meaning.specs.OneRow.{Relation}
-use Rattle.smo_meaning.proofs.NextSchemas.{ordered_columns}
+use Rattle.smo_ops_types.specs.Commands.{PlainVersion}
+use Rattle.smo_ops_spec.specs.Effects.{columns_of}
+use Rattle.smo_ops_spec.specs.Making.{named}
+use Rattle.smo_ops_spec.specs.OneRow.{Relation}
+use Rattle.smo_ops_spec.proofs.NextSchemas.{ordered_columns}
 use Rattle.schema_catalog.specs.Tables.{Tables}
-use Rattle.smo_meaning.specs.Past.{Past, no_tables, tables_from, tables_of}
-use Rattle.version_ways.specs.Migration.{migrated}
-use Rattle.version_ways.proofs.WayDatabases.{valid_at}
+use Rattle.smo_ops_spec.specs.Past.{Past, no_tables, tables_from, tables_of}
+use Rattle.smo_ops_versions_spec.specs.Migration.{migrated}
+use Rattle.smo_ops_versions_spec.proofs.WayDatabases.{valid_at}
 use Rattle.version_groups.specs.Groups.{Kept, versions_in}
 use Rattle.version_groups.specs.Representation.{Represents}
-use Rattle.plain_answers.specs.Choosing.{answers_over}
+use Rattle.plain_answers_spec.specs.Choosing.{answers_over}
 use Rattle.cond_expr.specs.AtomColumns.{columns_at}
-use Rattle.plain_answers.specs.Branches.{Item, PlainBranch, item_columns, item_rows, branch_answers}
-use Rattle.plain_answers.specs.Naming.{all_references}
-use Rattle.plain_answers.specs.Pushing.{pushed_from, pushed_reads}
-use Rattle.plain_answers.specs.Reading.{Read, read_columns, read_rows}
-use Rattle.piece_meaning.specs.Rules.{Book}
-use Rattle.piece_texts.specs.ExplainedPieces.{PlainExplained}
-use Rattle.timed_choices.specs.Fitting.{Fit, AreOwn}
+use Rattle.plain_answers_spec.specs.Branches.{Item, PlainBranch, item_columns, item_rows, branch_answers}
+use Rattle.plain_answers_spec.specs.Naming.{all_references}
+use Rattle.plain_answers_spec.specs.Pushing.{pushed_from, pushed_reads}
+use Rattle.plain_answers_spec.specs.Reading.{Read, read_columns, read_rows}
+use Rattle.piece_ir_spec.specs.Rules.{Book}
+use Rattle.piece_ir.specs.ExplainedPieces.{PlainExplained}
+use Rattle.join_exec_spec.specs.Fitting.{Fit, AreOwn}
 use Rattle.join_exec.proofs.LeftNames.{names_left}
-use Rattle.rewrite_chains.specs.Beginnings.{IsQuestion}
-use Rattle.joining.specs.declared.atom.Atom.{Atom}
-use Rattle.joining.specs.Atoms.{atom_rows, IsNumbered, AreNumbered, HaveAtoms}
+use Rattle.piece_ir_spec.specs.Beginnings.{IsQuestion}
+use Rattle.join_exec_engine.specs.declared.atom.Atom.{Atom}
+use Rattle.join_exec_engine.specs.Atoms.{atom_rows, IsNumbered, AreNumbered, HaveAtoms}
 use Rattle.period_split.specs.Splitting.{Part}
 use Rattle.query_exec.specs.declared.route.Route.{Route}
 use Rattle.query_exec.specs.Accepted.{IsRead, AreRead, MayItems}

@@ -3,8 +3,8 @@ use Rattle.std.proofs.Common.{◌≡◌, ◌+◌, ◌<◌, ℕ, zero, suc, List,
 use Rattle.std.proofs.Common.{take, drop, sym, ap, subst, ◌∙◌, inl, inr, arith}
 use Rattle.std.proofs.lemmas.List.{drop_more, take_more}
 use Rattle.std.specs.Prelude.{◌⊎◌}
-use Rattle.relations.specs.Sets.{In}
-use Rattle.relations.proofs.SetLaws.{in_append}
+use Rattle.relations_spec.specs.Sets.{In}
+use Rattle.relations_spec.proofs.SetLaws.{in_append}
 
 module _ {X : Type 0} (xs : List X) (i : ℕ) (x : X) (l : i < length xs)
     (e : x ≡ get_or xs i x) where

@@ -6,7 +6,7 @@ use Rattle.std.proofs.lemmas.List.Elements.{filter-append}
 use Rattle.std.proofs.lemmas.Bool.{cond-true, cond-false}
 use Rattle.std.proofs.lemmas.List.{map-append}
 use Rattle.schema_catalog.specs.Tables.{Tables}
-use Rattle.piece_meaning.specs.Pieces.{PlainPiece}
+use Rattle.piece_ir_spec.specs.Pieces.{PlainPiece}
 use Rattle.piece_ir.specs.Shown.{piece_of, shown_pieces}
 use Rattle.piece_ir.specs.declared.piece.Piece.{Piece}
 use Rattle.piece_prune.specs.DeadPieces.{IsDeadPiece, AreLiving, none_left, a_dead_one}

@@ -3,25 +3,25 @@ use Rattle.std.proofs.Common.{◌≡◌, ◌+◌, ◌<◌, ℕ, true, false, Lis
 use Rattle.std.proofs.Common.{take, drop, sym, ap, subst, ◌∙◌, inl, inr}
 use Rattle.std.specs.Prelude.{◌⊎◌}
 use Rattle.std.proofs.lemmas.List.{map-append}
-use Rattle.relations.specs.Sets.{In}
-use Rattle.relations.specs.Spans.{Span, covers}
-use Rattle.relations.specs.Timed.{Entry, at}
-use Rattle.relations.proofs.SetLaws.{one_list}
-use Rattle.relations.proofs.Held.{in_at, at_ascends}
+use Rattle.relations_spec.specs.Sets.{In}
+use Rattle.relations_spec.specs.Spans.{Span, covers}
+use Rattle.relations_spec.specs.Timed.{Entry, at}
+use Rattle.relations_spec.proofs.SetLaws.{one_list}
+use Rattle.relations_spec.proofs.Held.{in_at, at_ascends}
 use Rattle.prima_base.specs.declared.timed_row.TimedRow.{TimedRow}
 use Rattle.prima_base.specs.Order.{row_cmp}
 use Rattle.prima_base.specs.OrderLaws.{row_exact}
 use Rattle.prima_base.specs.Timed.{entry_of, entries_of, rows_at}
 use Rattle.schema_catalog.specs.Tables.{Tables}
 use Rattle.schema_catalog.specs.Databases.{Database}
-use Rattle.smo_meaning.specs.OneRow.{Row, Relation}
+use Rattle.smo_ops_spec.specs.OneRow.{Row, Relation}
 use Rattle.version_groups.specs.Groups.{Kept}
-use Rattle.piece_meaning.specs.Pieces.{means, all_mean}
+use Rattle.piece_ir_spec.specs.Pieces.{means, all_mean}
 use Rattle.piece_ir.specs.Shown.{piece_of, shown_pieces}
 use Rattle.piece_ir.specs.declared.piece.Piece.{Piece}
-use Rattle.query_pieces.specs.Gathering.{IsGathered}
-use Rattle.query_pieces.proofs.Gatherings.{of_either, more_gathered}
-use Rattle.query_pieces.proofs.RunPieces.{one_more_run}
+use Rattle.query_pieces_spec.specs.Gathering.{IsGathered}
+use Rattle.query_pieces_spec.proofs.Gatherings.{of_either, more_gathered}
+use Rattle.query_pieces_spec.proofs.RunPieces.{one_more_run}
 use Rattle.join_exec.specs.Pieces.{piece_reads}
 use Rattle.query_exec.specs.Reads.{pieces_read}
 use Rattle.query_exec.proofs.ListSteps.{left_is, taken_is}

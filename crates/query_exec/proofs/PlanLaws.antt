@@ -5,29 +5,29 @@ use Rattle.std.specs.Prelude.{◌⊎◌, None}
 use Rattle.std.specs.FinMap.{get}
 use Rattle.std.specs.List.{filter}
 use Rattle.std.proofs.lemmas.List.{map-append, reverse-append}
-use Rattle.relations.specs.Sets.{In}
-use Rattle.relations.specs.Spans.{Span, covers}
-use Rattle.relations.proofs.SetLaws.{in_append}
+use Rattle.relations_spec.specs.Sets.{In}
+use Rattle.relations_spec.specs.Spans.{Span, covers}
+use Rattle.relations_spec.proofs.SetLaws.{in_append}
 use Rattle.schema_catalog.specs.Tables.{Tables}
 use Rattle.schema_catalog.specs.Databases.{IsDatabase}
-use Rattle.smo_types.specs.Commands.{PlainVersion}
-use Rattle.smo_meaning.specs.Past.{Past, no_tables, tables_from, tables_of, version_at, database_at}
-use Rattle.version_ways.specs.LostNames.{lost_names}
+use Rattle.smo_ops_types.specs.Commands.{PlainVersion}
+use Rattle.smo_ops_spec.specs.Past.{Past, no_tables, tables_from, tables_of, version_at, database_at}
+use Rattle.smo_ops_versions_spec.specs.LostNames.{lost_names}
 use Rattle.version_groups.specs.Groups.{Kept, versions_in}
 use Rattle.version_groups.specs.Representation.{Represents, IsInForce}
 use Rattle.version_groups.proofs.OwnMoments.{own_version}
-use Rattle.plain_answers.specs.Reading.{Read}
-use Rattle.piece_meaning.specs.Pieces.{PlainPiece, all_mean}
-use Rattle.piece_meaning.specs.Typed.{AllTyped}
-use Rattle.piece_meaning.specs.Rules.{Book, IsValidBook}
+use Rattle.plain_answers_spec.specs.Reading.{Read}
+use Rattle.piece_ir_spec.specs.Pieces.{PlainPiece, all_mean}
+use Rattle.piece_ir_spec.specs.Typed.{AllTyped}
+use Rattle.piece_ir_spec.specs.Rules.{Book, IsValidBook}
 use Rattle.piece_ir.specs.Shown.{shown_pieces}
 use Rattle.piece_prune.specs.DeadPieces.{AreLiving, none_left, a_dead_one, a_living_one, lives}
 use Rattle.piece_prune.proofs.Pruned.{mean_the_same}
-use Rattle.rewrite_chains.specs.Beginnings.{first_piece}
-use Rattle.rewrite_chains.specs.Chains.{unfolded_to}
-use Rattle.rewrite_chains.specs.UnfoldedPieces.{StandFor}
-use Rattle.rewrite_chains.proofs.StaysLost.{none_forward}
-use Rattle.rewrite_chains.proofs.UnfoldedPieceLaws.{stand_typed}
+use Rattle.piece_ir_spec.specs.Beginnings.{first_piece}
+use Rattle.piece_ir_spec.specs.Chains.{unfolded_to}
+use Rattle.piece_ir_spec.specs.UnfoldedPieces.{StandFor}
+use Rattle.piece_ir_spec.proofs.StaysLost.{none_forward}
+use Rattle.piece_ir_spec.proofs.UnfoldedPieceLaws.{stand_typed}
 use Rattle.period_split.specs.Splitting.{Part}
 use Rattle.query_exec.specs.declared.part_piece.PartPieces.{PartPieces}
 use Rattle.query_exec.specs.declared.route.Route.{Route}

@@ -4,22 +4,22 @@ use Rattle.std.proofs.Common.{length, reverse, refl, sym, ap, subst, ◌∙◌, 
 use Rattle.std.specs.Prelude.{◌⊎◌, ◌↔◌, ◌&&◌, nat_lt}
 use Rattle.std.proofs.lemmas.Bool.Decides.{nat_tests}
 use Rattle.std.proofs.lemmas.List.{append-nil, reverse-append}
-use Rattle.relations.specs.Sets.{In}
-use Rattle.relations.specs.Spans.{Span, covers, forever}
-use Rattle.relations.specs.Timed.{Entry, at}
-use Rattle.relations.specs.Listing.{IsListing}
-use Rattle.relations.proofs.ListingLaws.{listing_same}
+use Rattle.relations_spec.specs.Sets.{In}
+use Rattle.relations_spec.specs.Spans.{Span, covers, forever}
+use Rattle.relations_spec.specs.Timed.{Entry, at}
+use Rattle.relations_spec.specs.Listing.{IsListing}
+use Rattle.relations_spec.proofs.ListingLaws.{listing_same}
 use Rattle.prima_base.specs.Order.{row_cmp}
-use Rattle.smo_meaning.specs.OneRow.{Row, Relation}
-use Rattle.smo_meaning.specs.Past.{Past}
-use Rattle.plain_answers.specs.Reading.{Read}
-use Rattle.relations.proofs.SetLaws.{in_append, in_map, from_filter}
-use Rattle.smo_types.specs.Commands.{PlainVersion}
-use Rattle.smo_meaning.specs.InForce.{in_force}
-use Rattle.query_types.specs.Queries.{PlainQuery, slice_of}
-use Rattle.query_pieces.specs.Gathering.{HasMoment, IsGathered}
-use Rattle.query_pieces.proofs.Gatherings.{all_gathered}
-use Rattle.query_pieces.specs.Piecewise.{IsAskedOf}
+use Rattle.smo_ops_spec.specs.OneRow.{Row, Relation}
+use Rattle.smo_ops_spec.specs.Past.{Past}
+use Rattle.plain_answers_spec.specs.Reading.{Read}
+use Rattle.relations_spec.proofs.SetLaws.{in_append, in_map, from_filter}
+use Rattle.smo_ops_types.specs.Commands.{PlainVersion}
+use Rattle.smo_ops_spec.specs.InForce.{in_force}
+use Rattle.temporal_lang_types.specs.Queries.{PlainQuery, slice_of}
+use Rattle.query_pieces_spec.specs.Gathering.{HasMoment, IsGathered}
+use Rattle.query_pieces_spec.proofs.Gatherings.{all_gathered}
+use Rattle.query_pieces_spec.specs.Piecewise.{IsAskedOf}
 use Rattle.period_split.specs.Splitting.{Part, split_by, AscendFrom, HasMoment as HasPart}
 use Rattle.period_split.proofs.PartLaws.{from_split}
 use Rattle.query_exec.specs.declared.route.Route.{Route}

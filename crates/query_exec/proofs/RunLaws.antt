@@ -5,30 +5,30 @@ use Rattle.std.specs.Prelude.{◌⊎◌, Option}
 use Rattle.std.proofs.Math.Seq.{take-add}
 use Rattle.std.proofs.lemmas.Bool.{cases_lt}
 use Rattle.std.proofs.lemmas.List.{map-append, take-append-drop}
-use Rattle.relations.specs.Sets.{In, set_of}
-use Rattle.relations.specs.Spans.{Span, covers}
-use Rattle.relations.specs.Timed.{Entry, at}
-use Rattle.relations.proofs.SetLaws.{from_map, in_left, in_right, in_append}
-use Rattle.relations.proofs.Held.{covers_is}
+use Rattle.relations_spec.specs.Sets.{In, set_of}
+use Rattle.relations_spec.specs.Spans.{Span, covers}
+use Rattle.relations_spec.specs.Timed.{Entry, at}
+use Rattle.relations_spec.proofs.SetLaws.{from_map, in_left, in_right, in_append}
+use Rattle.relations_spec.proofs.Held.{covers_is}
 use Rattle.prima_base.specs.Order.{row_cmp}
 use Rattle.prima_base.specs.Columns.{Column}
-use Rattle.smo_types.specs.Commands.{PlainVersion}
-use Rattle.smo_meaning.specs.OneRow.{Row, Relation}
-use Rattle.smo_meaning.specs.Past.{Past, tables_of, database_at}
+use Rattle.smo_ops_types.specs.Commands.{PlainVersion}
+use Rattle.smo_ops_spec.specs.OneRow.{Row, Relation}
+use Rattle.smo_ops_spec.specs.Past.{Past, tables_of, database_at}
 use Rattle.cond_expr.specs.declared.expr.ColRef.{ColRef}
 use Rattle.cond_expr.specs.declared.expr.Column.{Column as AtomColumn}
-use Rattle.timed_choices.specs.BorrowedOutputs.{BorrowedValues}
+use Rattle.join_exec_spec.specs.BorrowedOutputs.{BorrowedValues}
 use Rattle.history_store.specs.Store.{Store}
-use Rattle.version_tables.specs.NewestTables.{rows_stored}
+use Rattle.version_groups_tables.specs.NewestTables.{rows_stored}
 use Rattle.version_groups.specs.Groups.{Kept, versions_in, table_in}
 use Rattle.version_groups.specs.Representation.{Represents, IsInForce}
-use Rattle.plain_answers.specs.Choosing.{answers_over}
-use Rattle.plain_answers.specs.Naming.{all_references, names_at}
-use Rattle.piece_meaning.specs.Pieces.{PlainPiece, out_trees, means, all_mean}
-use Rattle.piece_meaning.specs.Typed.{AllTyped}
+use Rattle.plain_answers_spec.specs.Choosing.{answers_over}
+use Rattle.plain_answers_spec.specs.Naming.{all_references, names_at}
+use Rattle.piece_ir_spec.specs.Pieces.{PlainPiece, out_trees, means, all_mean}
+use Rattle.piece_ir_spec.specs.Typed.{AllTyped}
 use Rattle.piece_ir.specs.Shown.{piece_of, shown_pieces}
 use Rattle.piece_ir.specs.declared.piece.Piece.{Piece}
-use Rattle.query_pieces.specs.Gathering.{HasMoment, IsGathered}
+use Rattle.query_pieces_spec.specs.Gathering.{HasMoment, IsGathered}
 use Rattle.join_exec.specs.Pieces.{columns_stored, stored_columns, stored_rows, stored_meaning}
 use Rattle.join_exec.specs.Pieces.{reads_stored, atoms_read, piece_reads}
 use Rattle.join_exec.proofs.PieceAtoms.{meaning_shown}

@@ -6,32 +6,32 @@ use Rattle.std.specs.Prelude.{cond, Option, Some, None}
 use Rattle.std.specs.List.{filter}
 use Rattle.std.specs.FinMap.{get}
 use Rattle.std.proofs.lemmas.List.{length-map}
-use Rattle.relations.specs.Sets.{In, Ascends}
-use Rattle.relations.specs.Spans.{Span}
-use Rattle.relations.specs.Timed.{Entry}
-use Rattle.relations.specs.Listing.{IsListing}
-use Rattle.relations.proofs.SetLaws.{from_set, from_map, from_filter, set_ascends}
+use Rattle.relations_spec.specs.Sets.{In, Ascends}
+use Rattle.relations_spec.specs.Spans.{Span}
+use Rattle.relations_spec.specs.Timed.{Entry}
+use Rattle.relations_spec.specs.Listing.{IsListing}
+use Rattle.relations_spec.proofs.SetLaws.{from_set, from_map, from_filter, set_ascends}
 use Rattle.prima_base.specs.Order.{row_cmp}
 use Rattle.prima_base.specs.OrderLaws.{row_exact}
 use Rattle.prima_base.specs.Columns.{Column, IsValid}
 use Rattle.schema_catalog.specs.Databases.{DatabaseEntry as Stored, Rows, Lost, IsDatabase, cell}
 use Rattle.cond_expr.proofs.ConstantLaws.{small_number}
-use Rattle.smo_meaning.specs.Effects.{columns_of, rows_under}
-use Rattle.smo_meaning.specs.ValidPast.{IsPast}
-use Rattle.smo_meaning.specs.ValidValues.{PastHolds, AreValues, HoldValues, EntryHolds}
-use Rattle.smo_meaning.specs.Making.{named}
-use Rattle.smo_meaning.specs.OneRow.{Row, Relation, same, meets}
-use Rattle.smo_meaning.specs.Past.{Past, tables_of, version_at, database_at}
-use Rattle.version_ways.specs.Migration.{migrated, migrated_from}
-use Rattle.version_ways.proofs.WayValues.{way_values}
-use Rattle.plain_answers.specs.Reading.{Read, read_of}
-use Rattle.piece_meaning.specs.Pieces.{PlainPiece, all_mean}
-use Rattle.piece_meaning.specs.Rules.{Book, IsValidBook}
-use Rattle.rewrite_chains.specs.Beginnings.{IsQuestion}
-use Rattle.rewrite_chains.specs.UnfoldedPieces.{StandFor}
-use Rattle.rewrite_chains.proofs.ReadMoments.{table_means}
-use Rattle.timed_choices.specs.Fitting.{Fit}
-use Rattle.timed_choices.specs.Keeping.{IsValidRow}
+use Rattle.smo_ops_spec.specs.Effects.{columns_of, rows_under}
+use Rattle.smo_ops_spec.specs.ValidPast.{IsPast}
+use Rattle.smo_ops_spec.specs.ValidValues.{PastHolds, AreValues, HoldValues, EntryHolds}
+use Rattle.smo_ops_spec.specs.Making.{named}
+use Rattle.smo_ops_spec.specs.OneRow.{Row, Relation, same, meets}
+use Rattle.smo_ops_spec.specs.Past.{Past, tables_of, version_at, database_at}
+use Rattle.smo_ops_versions_spec.specs.Migration.{migrated, migrated_from}
+use Rattle.smo_ops_versions_spec.proofs.WayValues.{way_values}
+use Rattle.plain_answers_spec.specs.Reading.{Read, read_of}
+use Rattle.piece_ir_spec.specs.Pieces.{PlainPiece, all_mean}
+use Rattle.piece_ir_spec.specs.Rules.{Book, IsValidBook}
+use Rattle.piece_ir_spec.specs.Beginnings.{IsQuestion}
+use Rattle.piece_ir_spec.specs.UnfoldedPieces.{StandFor}
+use Rattle.piece_ir_spec.proofs.ReadMoments.{table_means}
+use Rattle.join_exec_spec.specs.Fitting.{Fit}
+use Rattle.join_exec_spec.specs.Keeping.{IsValidRow}
 use Rattle.query_exec.specs.Questions.{table_read}
 
 -- the pieces that stand at the version in force mean what is read of the table

@@ -1,6 +1,6 @@
 -- Numbers that are added up.
 use Rattle.std.proofs.Common.{◌≡◌, ◌+◌, ◌≤◌, ℕ, inl, inr, List, [], ◌∷◌, ◌++◌, ap, arith}
-use Rattle.relations.specs.Sets.{In}
+use Rattle.relations_spec.specs.Sets.{In}
 use Rattle.query_exec.specs.Totals.{total}
 
 module _ {X : Type 0} (f : X → ℕ) where

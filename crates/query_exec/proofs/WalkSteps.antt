@@ -3,21 +3,21 @@ use Rattle.std.proofs.Common.{◌≡◌, ◌+◌, ◌<◌, ◌≤◌, ℕ, true,
 use Rattle.std.proofs.Common.{subst, inl, inr, arith}
 use Rattle.std.specs.Prelude.{None}
 use Rattle.std.specs.FinMap.{get}
-use Rattle.relations.specs.Sets.{In}
-use Rattle.relations.specs.Spans.{covers}
+use Rattle.relations_spec.specs.Sets.{In}
+use Rattle.relations_spec.specs.Spans.{covers}
 use Rattle.version_groups.specs.Groups.{Kept, versions_in}
 use Rattle.version_groups.specs.Representation.{Represents, IsInForce}
 use Rattle.version_groups.proofs.OwnMoments.{own_version}
-use Rattle.smo_types.specs.Commands.{PlainVersion}
-use Rattle.smo_meaning.specs.Past.{Past, no_tables, tables_from, tables_of, database_at}
-use Rattle.version_ways.specs.LostNames.{lost_names}
-use Rattle.plain_answers.specs.Reading.{Read}
-use Rattle.piece_meaning.specs.Pieces.{PlainPiece, all_mean}
-use Rattle.piece_meaning.specs.Typed.{AllTyped}
-use Rattle.piece_meaning.specs.Rules.{Book, IsValidBook}
-use Rattle.rewrite_chains.specs.UnfoldedPieces.{MayBeAsked, StandFor}
-use Rattle.rewrite_chains.proofs.UnfoldedPieceLaws.{stand_typed}
-use Rattle.rewrite_chains.proofs.StaysLost.{none_forward}
+use Rattle.smo_ops_types.specs.Commands.{PlainVersion}
+use Rattle.smo_ops_spec.specs.Past.{Past, no_tables, tables_from, tables_of, database_at}
+use Rattle.smo_ops_versions_spec.specs.LostNames.{lost_names}
+use Rattle.plain_answers_spec.specs.Reading.{Read}
+use Rattle.piece_ir_spec.specs.Pieces.{PlainPiece, all_mean}
+use Rattle.piece_ir_spec.specs.Typed.{AllTyped}
+use Rattle.piece_ir_spec.specs.Rules.{Book, IsValidBook}
+use Rattle.piece_ir_spec.specs.UnfoldedPieces.{MayBeAsked, StandFor}
+use Rattle.piece_ir_spec.proofs.UnfoldedPieceLaws.{stand_typed}
+use Rattle.piece_ir_spec.proofs.StaysLost.{none_forward}
 use Rattle.rewrite.specs.WalkedPieces.{LeadsAway, AreAway}
 use Rattle.period_split.specs.Splitting.{Part, AscendFrom}
 use Rattle.query_exec.specs.declared.route.Route.{Route}

@@ -5,44 +5,44 @@ use Rattle.std.proofs.Common.{ap, subst, ◌∙◌, inl, inr, arith}
 use Rattle.std.specs.Prelude.{None, ◌↔◌}
 use Rattle.std.specs.FinMap.{get}
 use Rattle.std.proofs.lemmas.List.{length-map}
-use Rattle.relations.specs.Sets.{In}
-use Rattle.relations.specs.Spans.{Span, covers, forever}
-use Rattle.relations.specs.Timed.{Entry}
-use Rattle.relations.specs.Listing.{IsListing}
-use Rattle.relations.proofs.ListingLaws.{listing_same}
+use Rattle.relations_spec.specs.Sets.{In}
+use Rattle.relations_spec.specs.Spans.{Span, covers, forever}
+use Rattle.relations_spec.specs.Timed.{Entry}
+use Rattle.relations_spec.specs.Listing.{IsListing}
+use Rattle.relations_spec.proofs.ListingLaws.{listing_same}
 use Rattle.prima_base.specs.Order.{row_cmp}
 use Rattle.prima_base.specs.Keeping.{kept}
 use Rattle.prima_base.specs.declared.refusal.Refusal.TheVariants.{TooMany}
 use Rattle.prima_base.specs.declared.refusal.What.{What}
 use Rattle.cond_expr.specs.Trees.{Tree, Test}
-use Rattle.smo_types.specs.Commands.{PlainVersion}
-use Rattle.smo_meaning.specs.ValidPast.{IsPast}
-use Rattle.smo_meaning.specs.OneRow.{Row, Relation}
-use Rattle.smo_meaning.specs.Past.{Past, tables_of, version_at}
-use Rattle.smo_meaning.proofs.Firsts.{none_of_first, none_mapped}
-use Rattle.version_ways.specs.LostNames.{lost_names}
-use Rattle.version_ways.specs.Migration.{migrated}
+use Rattle.smo_ops_types.specs.Commands.{PlainVersion}
+use Rattle.smo_ops_spec.specs.ValidPast.{IsPast}
+use Rattle.smo_ops_spec.specs.OneRow.{Row, Relation}
+use Rattle.smo_ops_spec.specs.Past.{Past, tables_of, version_at}
+use Rattle.smo_ops_spec.proofs.Firsts.{none_of_first, none_mapped}
+use Rattle.smo_ops_versions_spec.specs.LostNames.{lost_names}
+use Rattle.smo_ops_versions_spec.specs.Migration.{migrated}
 use Rattle.version_groups.specs.Groups.{Kept, versions_in}
 use Rattle.version_groups.specs.Representation.{Represents}
 use Rattle.version_groups.proofs.OwnMoments.{own_version}
-use Rattle.plain_answers.specs.Branches.{Item, PlainBranch, plain}
-use Rattle.plain_answers.specs.Naming.{all_references}
-use Rattle.plain_answers.specs.Pushing.{pushed_from, pushed_reads}
-use Rattle.piece_meaning.specs.Rules.{Book, IsValidBook}
-use Rattle.rewrite_chains.specs.Reading.{AreQuestions, Suffices}
-use Rattle.query_types.specs.Branches.{branch_of, branches_of}
-use Rattle.query_types.specs.declared.branch.Branch.{Branch}
-use Rattle.query_types.specs.Queries.{PlainQuery, slice_of, IsLasting}
-use Rattle.query_meaning.specs.Atoms.{branch_with_atoms, branches_with_atoms}
-use Rattle.query_meaning.specs.Losing.{first_lost}
-use Rattle.query_meaning.specs.Checking.{excess_of, excess_fault, query_tests}
-use Rattle.query_meaning.specs.Accepted.{version_fault, loss_fault}
-use Rattle.query_meaning.specs.Resolved.{HaveFew, AllSmall}
-use Rattle.query_meaning.proofs.BranchLaws.{query_small, still_few}
-use Rattle.query_meaning.specs.Answers.{asked_at, answer}
-use Rattle.query_pieces.specs.Piecewise.{asked_branches, IsAskedOf}
-use Rattle.query_pieces.proofs.ReadByPieces.{is_lasting, pushed_enough, items_kept, asked_is}
-use Rattle.query_pieces.proofs.ReadByPieces.{answer_is}
+use Rattle.plain_answers_spec.specs.Branches.{Item, PlainBranch, plain}
+use Rattle.plain_answers_spec.specs.Naming.{all_references}
+use Rattle.plain_answers_spec.specs.Pushing.{pushed_from, pushed_reads}
+use Rattle.piece_ir_spec.specs.Rules.{Book, IsValidBook}
+use Rattle.piece_ir_spec.specs.Reading.{AreQuestions, Suffices}
+use Rattle.temporal_lang_types.specs.Branches.{branch_of, branches_of}
+use Rattle.temporal_lang_types.specs.declared.branch.Branch.{Branch}
+use Rattle.temporal_lang_types.specs.Queries.{PlainQuery, slice_of, IsLasting}
+use Rattle.temporal_lang_spec.specs.Atoms.{branch_with_atoms, branches_with_atoms}
+use Rattle.temporal_lang_spec.specs.Losing.{first_lost}
+use Rattle.temporal_lang_spec.specs.Checking.{excess_of, excess_fault, query_tests}
+use Rattle.temporal_lang_spec.specs.Accepted.{version_fault, loss_fault}
+use Rattle.temporal_lang_spec.specs.Resolved.{HaveFew, AllSmall}
+use Rattle.temporal_lang_spec.proofs.BranchLaws.{query_small, still_few}
+use Rattle.temporal_lang_spec.specs.Answers.{asked_at, answer}
+use Rattle.query_pieces_spec.specs.Piecewise.{asked_branches, IsAskedOf}
+use Rattle.query_pieces_spec.proofs.ReadByPieces.{is_lasting, pushed_enough, items_kept, asked_is}
+use Rattle.query_pieces_spec.proofs.ReadByPieces.{answer_is}
 use Rattle.period_split.specs.Splitting.{Part, split_by}
 use Rattle.query_exec.specs.declared.route.Route.{Route}
 use Rattle.query_exec.specs.Accepted.{IsQueryAccepted, MayItems, MayBranches}

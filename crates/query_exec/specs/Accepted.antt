@@ -1,24 +1,24 @@
 -- A query that is not refused, and what is read for it.
 use Rattle.std.specs.Prelude.{◌≡◌, ℕ, ◌+◌, ◌≤◌, true, List, [], ◌∷◌, length, None, ⊤}
-use Rattle.relations.specs.Spans.{covers}
+use Rattle.relations_spec.specs.Spans.{covers}
 use Rattle.prima_base.specs.Timed.{rows_at}
 use Rattle.prima_base.specs.Limits.{max_branch_tables}
 use Rattle.cond_expr.specs.declared.expr.ColRef.{ColRef}
 use Rattle.cond_expr.specs.Trees.{Test}
-use Rattle.smo_types.specs.Commands.{PlainVersion}
-use Rattle.smo_meaning.specs.Effects.{columns_of}
-use Rattle.smo_meaning.specs.Making.{named}
-use Rattle.smo_meaning.specs.Past.{Past, tables_of}
+use Rattle.smo_ops_types.specs.Commands.{PlainVersion}
+use Rattle.smo_ops_spec.specs.Effects.{columns_of}
+use Rattle.smo_ops_spec.specs.Making.{named}
+use Rattle.smo_ops_spec.specs.Past.{Past, tables_of}
 use Rattle.cond_expr.specs.AtomColumns.{columns_at}
-use Rattle.plain_answers.specs.Branches.{Item, PlainBranch}
-use Rattle.plain_answers.specs.Naming.{all_references}
-use Rattle.plain_answers.specs.Reading.{Read}
-use Rattle.query_types.specs.Queries.{PlainQuery}
-use Rattle.query_meaning.specs.Atoms.{with_atoms}
-use Rattle.query_meaning.specs.Accepted.{fault_of_query}
+use Rattle.plain_answers_spec.specs.Branches.{Item, PlainBranch}
+use Rattle.plain_answers_spec.specs.Naming.{all_references}
+use Rattle.plain_answers_spec.specs.Reading.{Read}
+use Rattle.temporal_lang_types.specs.Queries.{PlainQuery}
+use Rattle.temporal_lang_spec.specs.Atoms.{with_atoms}
+use Rattle.temporal_lang_spec.specs.Accepted.{fault_of_query}
 use Rattle.version_groups.specs.Groups.{Kept}
 use Rattle.version_groups.specs.Representation.{Represents}
-use Rattle.joining.specs.declared.atom.Atom.{Atom}
+use Rattle.join_exec_engine.specs.declared.atom.Atom.{Atom}
 use Rattle.query_exec.specs.declared.route.Route.{Route}
 use Rattle.query_exec.specs.Questions.{own_read, table_read}
 use Rattle.query_exec.specs.Routes.{MayBeRead}

@@ -1,24 +1,24 @@
 -- Which texts of an answer are borrowed by the stored tables: those of the outputs that are plain
 -- columns, but for the texts that a piece of their item computes.
 use Rattle.std.specs.Prelude.{◌≡◌, ℕ, ◌+◌, true, List, [], ◌∷◌, map, ◌⊎◌, ⊤}
-use Rattle.relations.specs.Sets.{In}
-use Rattle.relations.specs.Spans.{Span, covers}
+use Rattle.relations_spec.specs.Sets.{In}
+use Rattle.relations_spec.specs.Spans.{Span, covers}
 use Rattle.prima_base.specs.declared.timed_row.TimedRow.{TimedRow}
 use Rattle.prima_base.specs.declared.value.Val.{Val}
 use Rattle.prima_base.specs.Order.{shown}
 use Rattle.cond_expr.specs.declared.expr.Whose.TheVariants.{Atom}
 use Rattle.cond_expr.specs.declared.expr.Column.{Column}
 use Rattle.cond_expr.specs.Trees.{Tree}
-use Rattle.smo_meaning.specs.OneRow.{Row}
-use Rattle.smo_meaning.specs.Past.{Past, tables_of}
-use Rattle.version_ways.specs.Migration.{migrated}
+use Rattle.smo_ops_spec.specs.OneRow.{Row}
+use Rattle.smo_ops_spec.specs.Past.{Past, tables_of}
+use Rattle.smo_ops_versions_spec.specs.Migration.{migrated}
 use Rattle.version_groups.specs.Groups.{Kept, versions_in}
 use Rattle.join_exec.specs.Pieces.{stored_meaning}
-use Rattle.timed_choices.specs.BorrowedOutputs.{BorrowedValues, is_plain, StaysBorrowed}
-use Rattle.plain_answers.specs.Branches.{PlainBranch, branch_answers}
-use Rattle.query_types.specs.Queries.{PlainQuery}
-use Rattle.piece_meaning.specs.Pieces.{PlainPiece, out_trees}
-use Rattle.piece_texts.specs.ExplainedPieces.{PlainExplained}
+use Rattle.join_exec_spec.specs.BorrowedOutputs.{BorrowedValues, is_plain, StaysBorrowed}
+use Rattle.plain_answers_spec.specs.Branches.{PlainBranch, branch_answers}
+use Rattle.temporal_lang_types.specs.Queries.{PlainQuery}
+use Rattle.piece_ir_spec.specs.Pieces.{PlainPiece, out_trees}
+use Rattle.piece_ir.specs.ExplainedPieces.{PlainExplained}
 use Rattle.query_exec.specs.QueryPieces.{IsAlive}
 
 -- which values of columns are borrowed, of each branch by its number

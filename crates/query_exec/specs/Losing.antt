@@ -1,11 +1,11 @@
 -- The loss that is found first, part after part of a slice.
 use Rattle.std.specs.Prelude.{ℕ, ◌≤◌, List, [], ◌∷◌, Option, None, ⊤}
 use Rattle.std.specs.Option.{option_or}
-use Rattle.smo_types.specs.Commands.{PlainVersion}
-use Rattle.smo_meaning.specs.Losses.{Loss}
+use Rattle.smo_ops_types.specs.Commands.{PlainVersion}
+use Rattle.smo_ops_spec.specs.Losses.{Loss}
 use Rattle.period_split.specs.Splitting.{Part}
-use Rattle.query_types.specs.Queries.{PlainQuery}
-use Rattle.query_pieces.specs.Piecewise.{loss_from}
+use Rattle.temporal_lang_types.specs.Queries.{PlainQuery}
+use Rattle.query_pieces_spec.specs.Piecewise.{loss_from}
 
 -- the loss from the first of the parts' versions from which there is one
 abbrev pub first_among : List PlainVersion → PlainQuery → List Part → Option Loss

@@ -2,17 +2,17 @@
 -- dead.
 use Rattle.std.specs.Prelude.{◌≡◌, ℕ, List, [], ◌∷◌, map, ⊤}
 use Rattle.std.specs.List.{filter, flat_map}
-use Rattle.relations.specs.Spans.{Span}
-use Rattle.smo_types.specs.Commands.{PlainVersion}
-use Rattle.smo_meaning.specs.Past.{no_tables, tables_from}
-use Rattle.plain_answers.specs.Reading.{Read}
-use Rattle.piece_meaning.specs.Rules.{Book}
+use Rattle.relations_spec.specs.Spans.{Span}
+use Rattle.smo_ops_types.specs.Commands.{PlainVersion}
+use Rattle.smo_ops_spec.specs.Past.{no_tables, tables_from}
+use Rattle.plain_answers_spec.specs.Reading.{Read}
+use Rattle.piece_ir_spec.specs.Rules.{Book}
 use Rattle.piece_ir.specs.Shown.{shown_pieces}
 use Rattle.piece_prune.specs.DeadPieces.{AreLiving, lives}
-use Rattle.rewrite_chains.specs.Beginnings.{first_piece}
-use Rattle.rewrite_chains.specs.Chains.{unfolded_to}
+use Rattle.piece_ir_spec.specs.Beginnings.{first_piece}
+use Rattle.piece_ir_spec.specs.Chains.{unfolded_to}
 use Rattle.period_split.specs.Splitting.{Part}
-use Rattle.piece_texts.specs.ExplainedPieces.{PlainExplained}
+use Rattle.piece_ir.specs.ExplainedPieces.{PlainExplained}
 use Rattle.query_exec.specs.QueryPieces.{explained_in}
 use Rattle.query_exec.specs.declared.part_piece.PartPieces.{PartPieces}
 

@@ -3,21 +3,21 @@
 -- dead.
 use Rattle.std.specs.Prelude.{◌≡◌, ℕ, ◌+◌, ◌++◌, List, [], ◌∷◌, map}
 use Rattle.std.specs.List.{filter, flat_map}
-use Rattle.relations.specs.Sets.{In}
+use Rattle.relations_spec.specs.Sets.{In}
 use Rattle.cond_expr.specs.declared.expr.ColRef.{ColRef}
 use Rattle.cond_expr.specs.Trees.{Test}
-use Rattle.smo_types.specs.Commands.{PlainVersion}
-use Rattle.smo_meaning.specs.Past.{no_tables, tables_from}
-use Rattle.plain_answers.specs.Branches.{Item, PlainBranch}
-use Rattle.plain_answers.specs.Naming.{all_references}
-use Rattle.plain_answers.specs.Reading.{Read}
-use Rattle.piece_meaning.specs.Pieces.{PlainPiece}
-use Rattle.piece_meaning.specs.Rules.{Book}
+use Rattle.smo_ops_types.specs.Commands.{PlainVersion}
+use Rattle.smo_ops_spec.specs.Past.{no_tables, tables_from}
+use Rattle.plain_answers_spec.specs.Branches.{Item, PlainBranch}
+use Rattle.plain_answers_spec.specs.Naming.{all_references}
+use Rattle.plain_answers_spec.specs.Reading.{Read}
+use Rattle.piece_ir_spec.specs.Pieces.{PlainPiece}
+use Rattle.piece_ir_spec.specs.Rules.{Book}
 use Rattle.piece_prune.specs.DeadPieces.{IsDeadPiece, lives}
-use Rattle.piece_texts.specs.ExplainedPieces.{PlainExplained}
-use Rattle.rewrite_chains.specs.Beginnings.{first_piece}
-use Rattle.rewrite_chains.specs.Chains.{unfolded_to}
-use Rattle.query_types.specs.Queries.{PlainQuery, slice_of}
+use Rattle.piece_ir.specs.ExplainedPieces.{PlainExplained}
+use Rattle.piece_ir_spec.specs.Beginnings.{first_piece}
+use Rattle.piece_ir_spec.specs.Chains.{unfolded_to}
+use Rattle.temporal_lang_types.specs.Queries.{PlainQuery, slice_of}
 use Rattle.period_split.specs.Splitting.{Part, split_by}
 use Rattle.query_exec.specs.Questions.{own_read}
 

@@ -4,14 +4,14 @@ use Rattle.std.specs.Prelude.{ℕ, List}
 use Rattle.std.specs.FinMap.{get}
 use Rattle.cond_expr.specs.declared.expr.ColRef.{ColRef}
 use Rattle.cond_expr.specs.Trees.{Test}
-use Rattle.smo_meaning.specs.Effects.{columns_of, rows_under}
-use Rattle.smo_meaning.specs.OneRow.{Relation}
-use Rattle.smo_meaning.specs.Past.{Past, tables_of}
-use Rattle.version_ways.specs.Migration.{migrated}
-use Rattle.plain_answers.specs.Naming.{names_at}
-use Rattle.plain_answers.specs.Pushing.{pushed}
-use Rattle.plain_answers.specs.Reading.{Read, read_of}
-use Rattle.rewrite_chains.specs.Beginnings.{asking}
+use Rattle.smo_ops_spec.specs.Effects.{columns_of, rows_under}
+use Rattle.smo_ops_spec.specs.OneRow.{Relation}
+use Rattle.smo_ops_spec.specs.Past.{Past, tables_of}
+use Rattle.smo_ops_versions_spec.specs.Migration.{migrated}
+use Rattle.plain_answers_spec.specs.Naming.{names_at}
+use Rattle.plain_answers_spec.specs.Pushing.{pushed}
+use Rattle.plain_answers_spec.specs.Reading.{Read, read_of}
+use Rattle.piece_ir_spec.specs.Beginnings.{asking}
 
 -- of the table of an item, whose place in its branch this is: the columns that are named of it, of
 -- the rows that meet the condition that is pushed to it

@@ -1,9 +1,9 @@
 -- How many keys and entries are read for pieces.
 use Rattle.std.specs.Prelude.{ℕ, List}
 use Rattle.version_groups.specs.Groups.{Kept}
-use Rattle.piece_meaning.specs.Pieces.{PlainPiece}
+use Rattle.piece_ir_spec.specs.Pieces.{PlainPiece}
 use Rattle.piece_ir.specs.Shown.{shown_pieces}
-use Rattle.piece_texts.specs.ExplainedPieces.{PlainExplained}
+use Rattle.piece_ir.specs.ExplainedPieces.{PlainExplained}
 use Rattle.join_exec.specs.Pieces.{piece_reads}
 use Rattle.query_exec.specs.declared.part_piece.PartPieces.{PartPieces}
 use Rattle.query_exec.specs.Totals.{total}

@@ -4,15 +4,15 @@ use Rattle.std.specs.Prelude.{◌≡◌, ℕ, ◌+◌, ◌<◌, ◌≤◌, ◌++
 use Rattle.std.specs.Prelude.{reverse, None, ⊤, if◌then◌else◌}
 use Rattle.std.specs.List.{filter}
 use Rattle.std.specs.FinMap.{get}
-use Rattle.relations.specs.Sets.{In}
-use Rattle.relations.specs.Spans.{Span, covers, forever}
-use Rattle.smo_types.specs.Commands.{PlainVersion}
-use Rattle.version_ways.specs.LostNames.{lost_names}
+use Rattle.relations_spec.specs.Sets.{In}
+use Rattle.relations_spec.specs.Spans.{Span, covers, forever}
+use Rattle.smo_ops_types.specs.Commands.{PlainVersion}
+use Rattle.smo_ops_versions_spec.specs.LostNames.{lost_names}
 use Rattle.version_groups.specs.Representation.{IsInForce}
-use Rattle.plain_answers.specs.Reading.{Read}
-use Rattle.rewrite_chains.specs.UnfoldedPieces.{MayBeAsked}
+use Rattle.plain_answers_spec.specs.Reading.{Read}
+use Rattle.piece_ir_spec.specs.UnfoldedPieces.{MayBeAsked}
 use Rattle.rewrite.specs.WalkedPieces.{LeadsAway}
-use Rattle.query_pieces.specs.Gathering.{HasMoment}
+use Rattle.query_pieces_spec.specs.Gathering.{HasMoment}
 use Rattle.period_split.specs.Splitting.{Part, AscendFrom}
 use Rattle.query_exec.specs.declared.route.Route.{Route}
 

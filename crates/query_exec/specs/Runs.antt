@@ -1,16 +1,16 @@
 -- Runs: neighbouring parts of a slice that are read as one. Their pieces are the same, over
 -- versions that share what is stored of the tables of these pieces.
 use Rattle.std.specs.Prelude.{◌≡◌, ◌<◌, ◌≤◌, ℕ, true, List, ◌∷◌, length}
-use Rattle.relations.specs.Sets.{In}
-use Rattle.relations.specs.Spans.{Span, covers}
-use Rattle.smo_meaning.specs.OneRow.{Relation}
-use Rattle.smo_meaning.specs.Past.{Past, tables_of, database_at}
+use Rattle.relations_spec.specs.Sets.{In}
+use Rattle.relations_spec.specs.Spans.{Span, covers}
+use Rattle.smo_ops_spec.specs.OneRow.{Relation}
+use Rattle.smo_ops_spec.specs.Past.{Past, tables_of, database_at}
 use Rattle.version_groups.specs.Groups.{Kept, table_in}
 use Rattle.version_groups.specs.Representation.{IsInForce}
-use Rattle.piece_meaning.specs.Pieces.{PlainPiece, all_mean}
-use Rattle.piece_meaning.specs.Typed.{AllTyped}
+use Rattle.piece_ir_spec.specs.Pieces.{PlainPiece, all_mean}
+use Rattle.piece_ir_spec.specs.Typed.{AllTyped}
 use Rattle.piece_ir.specs.Shown.{shown_pieces}
-use Rattle.query_pieces.specs.Gathering.{HasMoment}
+use Rattle.query_pieces_spec.specs.Gathering.{HasMoment}
 use Rattle.query_exec.specs.declared.part_piece.PartPieces.{PartPieces}
 use Rattle.query_exec.specs.Planned.{planned_spans}
 

@@ -2,26 +2,26 @@
 
 ghost use Rattle.std.specs.Prelude.{◌≡◌, ℕ, ◌+◌, ◌≤◌, List, [], length, true, false, IfOk};
 ghost use Rattle.std.specs.List.{flat_map};
-ghost use Rattle.relations.specs.Sets.{set_of};
-ghost use Rattle.relations.specs.Spans.{covers};
+ghost use Rattle.relations_spec.specs.Sets.{set_of};
+ghost use Rattle.relations_spec.specs.Spans.{covers};
 ghost use Rattle.prima_base.specs.Order.{row_cmp};
 ghost use Rattle.prima_base.specs.Timed.{rows_at};
 ghost use Rattle.cond_expr.specs.References.{borrowed};
 ghost use Rattle.cond_expr.specs.Seen.{test};
-ghost use Rattle.smo_meaning.specs.Past.{Past, no_tables, tables_from, tables_of};
-ghost use Rattle.version_ways.specs.Migration.{migrated};
+ghost use Rattle.smo_ops_spec.specs.Past.{Past, no_tables, tables_from, tables_of};
+ghost use Rattle.smo_ops_versions_spec.specs.Migration.{migrated};
 ghost use Rattle.version_groups.specs.Groups.{versions_in};
 ghost use Rattle.version_groups.specs.Representation.{Represents};
-ghost use Rattle.plain_answers.specs.Branches.{branch_answers, plain};
-ghost use Rattle.query_types.specs.Branches.{branch_of, branches_of};
+ghost use Rattle.plain_answers_spec.specs.Branches.{branch_answers, plain};
+ghost use Rattle.temporal_lang_types.specs.Branches.{branch_of, branches_of};
 ghost use Rattle.rewrite.specs.Books.{meaning_of};
 ghost use Rattle.query_exec.specs.Accepted.{MayItems, MayBranch, MayBranches, AreRead};
 ghost use Rattle.query_exec.specs.Routes.{IsRoute};
-ghost use Rattle.piece_texts.specs.ExplainedPieces.{PlainExplained};
+ghost use Rattle.piece_ir.specs.ExplainedPieces.{PlainExplained};
 ghost use Rattle.query_exec.specs.QueryPieces.{items_pieces, branch_pieces, branches_pieces};
 ghost use Rattle.query_exec.specs.QueryPieces.{AreAlive, IsAlive};
-ghost use Rattle.timed_choices.specs.BorrowedOutputs.{AllStayBorrowed};
-ghost use Rattle.joining.specs.Atoms.{AtomsBorrow};
+ghost use Rattle.join_exec_spec.specs.BorrowedOutputs.{AllStayBorrowed};
+ghost use Rattle.join_exec_engine.specs.Atoms.{AtomsBorrow};
 ghost use Rattle.query_exec.specs.Borrowed.{BorrowedByBranch, AlwaysBorrowedBy, AllSpare};
 ghost use Rattle.query_exec.specs.Reads.{explained_read, reads_of};
 
@@ -29,14 +29,14 @@ use crate::item::read_item;
 use crate::piece::put_rows;
 use crate::route::Route;
 use cond_expr::{ColRef, Cond, gather_references};
-use joining::{Atom, answer_choices};
+use join_exec_engine::{Atom, answer_choices};
 use prima_base::{Name, NoMemory, Steps};
-use rule_book::{Rule, RuleBook};
+use prima_base_rows::TimedRows;
+use rewrite_rules_book::{Rule, RuleBook};
 use schema_catalog::Schema;
 use std::alloc::Global;
 use std::sync::ledger::Ledger;
 use temporal_lang::Branch;
-use timed_rows::TimedRows;
 use version_groups::Groups;
 
 // What is read of each item's table, as the atom that is its place.

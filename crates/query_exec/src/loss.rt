@@ -2,10 +2,10 @@
 
 ghost use Rattle.std.specs.Prelude.{◌≡◌, ◌≤◌, IfOk, None, length, take, vec_len};
 ghost use Rattle.std.specs.Option.{option_or};
-ghost use Rattle.smo_types.specs.Commands.{versions_of};
-ghost use Rattle.smo_meaning.specs.Past.{Past};
-ghost use Rattle.query_types.specs.Queries.{query_of, IsLasting};
-ghost use Rattle.query_meaning.specs.Losing.{first_lost};
+ghost use Rattle.smo_ops_types.specs.Commands.{versions_of};
+ghost use Rattle.smo_ops_spec.specs.Past.{Past};
+ghost use Rattle.temporal_lang_types.specs.Queries.{query_of, IsLasting};
+ghost use Rattle.temporal_lang_spec.specs.Losing.{first_lost};
 ghost use Rattle.version_groups.specs.Representation.{Represents};
 ghost use Rattle.period_split.specs.Splitting.{AscendFrom};
 ghost use Rattle.query_exec.specs.Losing.{first_among, AllUpTo};
@@ -14,7 +14,7 @@ use crate::route::ends_in_time;
 use period_split::split;
 use prima_base::{NoMemory, Period};
 use rewrite::first_lost;
-use smo_types::Versions;
+use smo_ops_types::Versions;
 use std::alloc::Global;
 use temporal_lang::{Query, slice};
 use version_groups::Groups;

@@ -2,10 +2,10 @@
 
 ghost use Rattle.std.specs.Prelude.{◌≡◌, ◌≤◌, ◌++◌, List, [], ◌∷◌, IfOk, OnOk, length};
 ghost use Rattle.std.specs.List.{filter};
-ghost use Rattle.smo_meaning.specs.Past.{no_tables, tables_from};
+ghost use Rattle.smo_ops_spec.specs.Past.{no_tables, tables_from};
 ghost use Rattle.version_groups.specs.Groups.{versions_in};
-ghost use Rattle.piece_meaning.specs.Typed.{IsTyped, AllTyped};
-ghost use Rattle.piece_meaning.specs.Pieces.{PlainPiece};
+ghost use Rattle.piece_ir_spec.specs.Typed.{IsTyped, AllTyped};
+ghost use Rattle.piece_ir_spec.specs.Pieces.{PlainPiece};
 ghost use Rattle.piece_ir.specs.Shown.{piece_of, shown_pieces};
 ghost use Rattle.piece_prune.specs.DeadPieces.{AreLiving, lives};
 

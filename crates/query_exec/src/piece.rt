@@ -4,29 +4,29 @@
 ghost use Rattle.std.specs.Prelude.{◌≡◌, ℕ, ◌+◌, ◌<◌, ◌≤◌, ◌++◌, List, [], ◌∷◌, true, false, IfOk};
 ghost use Rattle.std.specs.Prelude.{OnOk};
 ghost use Rattle.std.specs.Prelude.{length};
-ghost use Rattle.relations.specs.Sets.{In};
-ghost use Rattle.relations.specs.Spans.{Span, covers};
+ghost use Rattle.relations_spec.specs.Sets.{In};
+ghost use Rattle.relations_spec.specs.Spans.{Span, covers};
 ghost use Rattle.prima_base.specs.declared.timed_row.TimedRow.{TimedRow as OneRow};
 ghost use Rattle.prima_base.specs.Timed.{rows_at, entries_of};
-ghost use Rattle.smo_meaning.specs.OneRow.{Relation};
-ghost use Rattle.smo_meaning.specs.Past.{Past, tables_of};
+ghost use Rattle.smo_ops_spec.specs.OneRow.{Relation};
+ghost use Rattle.smo_ops_spec.specs.Past.{Past, tables_of};
 ghost use Rattle.version_groups.specs.Representation.{Represents};
-ghost use Rattle.piece_meaning.specs.Typed.{AllTyped};
+ghost use Rattle.piece_ir_spec.specs.Typed.{AllTyped};
 ghost use Rattle.piece_ir.specs.Shown.{shown_pieces};
-ghost use Rattle.query_pieces.specs.Gathering.{IsGathered};
+ghost use Rattle.query_pieces_spec.specs.Gathering.{IsGathered};
 ghost use Rattle.query_exec.specs.Runs.{IsMeant};
 ghost use Rattle.cond_expr.specs.declared.expr.Column.{Column as AtomColumn};
-ghost use Rattle.timed_choices.specs.BorrowedOutputs.{BorrowedValues, RowsBorrow};
+ghost use Rattle.join_exec_spec.specs.BorrowedOutputs.{BorrowedValues, RowsBorrow};
 ghost use Rattle.query_exec.specs.Borrowed.{AllPlainIn};
 ghost use Rattle.query_exec.specs.Reads.{pieces_read};
 
 use join_exec::run_piece;
 use piece_ir::Piece;
 use prima_base::{NoMemory, Period, Steps};
+use prima_base_rows::TimedRows;
 use std::alloc::Global;
 use std::mem;
 use std::sync::ledger::Ledger;
-use timed_rows::TimedRows;
 use version_groups::Groups;
 
 /// Puts rows after the others. The first are taken as they are, so that what is read of one table

@@ -1,19 +1,19 @@
 //! A query on any version, answered.
 
 ghost use Rattle.std.specs.Prelude.{◌≡◌, ◌+◌, ◌≤◌, List, IfOk, length};
-ghost use Rattle.relations.specs.Sets.{In};
-ghost use Rattle.relations.specs.Listing.{IsListing};
+ghost use Rattle.relations_spec.specs.Sets.{In};
+ghost use Rattle.relations_spec.specs.Listing.{IsListing};
 ghost use Rattle.prima_base.specs.Keeping.{kept};
 ghost use Rattle.prima_base.specs.Order.{row_cmp};
 ghost use Rattle.prima_base.specs.Timed.{entries_of};
-ghost use Rattle.smo_meaning.specs.Past.{Past};
-ghost use Rattle.query_meaning.specs.Answers.{asked_at, answer};
-ghost use Rattle.query_types.specs.Queries.{PlainQuery, query_of, slice_of, IsLasting};
+ghost use Rattle.smo_ops_spec.specs.Past.{Past};
+ghost use Rattle.temporal_lang_spec.specs.Answers.{asked_at, answer};
+ghost use Rattle.temporal_lang_types.specs.Queries.{PlainQuery, query_of, slice_of, IsLasting};
 ghost use Rattle.version_groups.specs.Groups.{versions_in};
 ghost use Rattle.version_groups.specs.Representation.{Represents};
 ghost use Rattle.rewrite.specs.Books.{meaning_of};
 ghost use Rattle.query_exec.specs.Accepted.{IsQueryAccepted, IsAnswerable};
-ghost use Rattle.piece_texts.specs.ExplainedPieces.{PlainExplained};
+ghost use Rattle.piece_ir.specs.ExplainedPieces.{PlainExplained};
 ghost use Rattle.query_exec.specs.Borrowed.{BorrowedByBranch, AreSpared, AreBorrowedBy};
 ghost use Rattle.query_exec.specs.QueryPieces.{ArePieces};
 ghost use Rattle.query_exec.specs.Reads.{explained_read, reads_of};
@@ -22,11 +22,11 @@ use crate::branch::answer_branches;
 use crate::route::{ends_in_time, route_of};
 use coalesce::coalesce_in_place;
 use prima_base::{NoMemory, Steps};
-use rule_book::{Rule, RuleBook};
+use prima_base_rows::TimedRows;
+use rewrite_rules_book::{Rule, RuleBook};
 use std::alloc::Global;
 use std::sync::ledger::Ledger;
 use temporal_lang::{Query, slice};
-use timed_rows::TimedRows;
 use version_groups::Groups;
 
 /// What a query lists, over all of history: each row with the longest periods of its slice in which

@@ -8,8 +8,8 @@ ghost use Rattle.query_exec.specs.Asked.{read_asked};
 
 use cond_expr::{ColRef, Cond};
 use join_exec::names_at;
+use piece_prune::pushed;
 use prima_base::{Name, NoMemory};
-use pushed_conditions::pushed;
 use std::alloc::Global;
 
 /// The rows of a table that meet a condition over its own columns, with some of these columns.

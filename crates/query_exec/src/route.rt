@@ -1,8 +1,8 @@
 //! A slice, split by versions, in the order in which they are walked to.
 
 ghost use Rattle.std.specs.Prelude.{◌≡◌, ◌≤◌, IfOk, length};
-ghost use Rattle.relations.specs.Spans.{forever};
-ghost use Rattle.smo_meaning.specs.Past.{Past};
+ghost use Rattle.relations_spec.specs.Spans.{forever};
+ghost use Rattle.smo_ops_spec.specs.Past.{Past};
 ghost use Rattle.version_groups.specs.Groups.{versions_in};
 ghost use Rattle.version_groups.specs.Representation.{Represents};
 ghost use Rattle.period_split.specs.Splitting.{split_by};

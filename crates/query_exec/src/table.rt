@@ -1,28 +1,28 @@
 //! A table of the asked version, read over a whole slice.
 
 ghost use Rattle.std.specs.Prelude.{◌≡◌, ℕ, ◌+◌, ◌≤◌, List, true, IfOk, map, length};
-ghost use Rattle.relations.specs.Sets.{In};
-ghost use Rattle.relations.specs.Spans.{covers};
-ghost use Rattle.relations.specs.Listing.{IsListing};
+ghost use Rattle.relations_spec.specs.Sets.{In};
+ghost use Rattle.relations_spec.specs.Spans.{covers};
+ghost use Rattle.relations_spec.specs.Listing.{IsListing};
 ghost use Rattle.prima_base.specs.Order.{row_cmp};
 ghost use Rattle.prima_base.specs.Timed.{entries_of};
 ghost use Rattle.prima_base.specs.declared.timed_row.TimedRow.{TimedRow as OneRow};
-ghost use Rattle.smo_meaning.specs.OneRow.{Relation};
-ghost use Rattle.smo_meaning.specs.Past.{Past, tables_of, database_at};
+ghost use Rattle.smo_ops_spec.specs.OneRow.{Relation};
+ghost use Rattle.smo_ops_spec.specs.Past.{Past, tables_of, database_at};
 ghost use Rattle.version_groups.specs.Groups.{versions_in};
 ghost use Rattle.version_groups.specs.Representation.{Represents};
-ghost use Rattle.piece_meaning.specs.Pieces.{all_mean};
-ghost use Rattle.piece_meaning.specs.Typed.{AllTyped};
+ghost use Rattle.piece_ir_spec.specs.Pieces.{all_mean};
+ghost use Rattle.piece_ir_spec.specs.Typed.{AllTyped};
 ghost use Rattle.piece_ir.specs.Shown.{shown_pieces};
 ghost use Rattle.rewrite.specs.Books.{meaning_of};
-ghost use Rattle.query_pieces.specs.Gathering.{IsGathered};
+ghost use Rattle.query_pieces_spec.specs.Gathering.{IsGathered};
 ghost use Rattle.query_exec.specs.Asked.{read_asked};
 ghost use Rattle.query_exec.specs.Questions.{table_read};
 ghost use Rattle.query_exec.specs.Planned.{ArePlanned, planned_spans};
-ghost use Rattle.piece_texts.specs.ExplainedPieces.{PlainExplained};
+ghost use Rattle.piece_ir.specs.ExplainedPieces.{PlainExplained};
 ghost use Rattle.query_exec.specs.QueryPieces.{table_pieces, AreAlive, IsAlive};
 ghost use Rattle.cond_expr.specs.declared.expr.Column.{Column as AtomColumn};
-ghost use Rattle.timed_choices.specs.BorrowedOutputs.{BorrowedValues, RowsBorrow};
+ghost use Rattle.join_exec_spec.specs.BorrowedOutputs.{BorrowedValues, RowsBorrow};
 ghost use Rattle.query_exec.specs.Borrowed.{IsPlainIn, AllPlainIn};
 ghost use Rattle.query_exec.specs.Routes.{IsOwn, IsRoute, MayBeRead};
 ghost use Rattle.query_exec.specs.Reads.{part_read, explained_read, reads_of};
@@ -37,10 +37,10 @@ use crate::run::run_of;
 use crate::walk::pieces_along;
 use coalesce::coalesce_in_place;
 use prima_base::{Name, NoMemory, Steps};
-use rule_book::{Rule, RuleBook};
+use prima_base_rows::TimedRows;
+use rewrite_rules_book::{Rule, RuleBook};
 use std::alloc::Global;
 use std::sync::ledger::Ledger;
-use timed_rows::TimedRows;
 use version_groups::Groups;
 
 /// The pieces of the table over each version of the slice, in the order of the versions. Each rule

@@ -1,7 +1,7 @@
 //! A table of the asked version, taken along the versions of a slice.
 
 ghost use Rattle.std.specs.Prelude.{IfOk};
-ghost use Rattle.smo_meaning.specs.Past.{Past};
+ghost use Rattle.smo_ops_spec.specs.Past.{Past};
 ghost use Rattle.version_groups.specs.Groups.{versions_in};
 ghost use Rattle.version_groups.specs.Representation.{Represents};
 ghost use Rattle.rewrite.specs.Books.{meaning_of};
@@ -13,7 +13,7 @@ use crate::part_piece::{PartPieces, part_pieces};
 use crate::question::Question;
 use prima_base::{Name, NoMemory, Period};
 use rewrite::Walk;
-use rule_book::{Rule, RuleBook};
+use rewrite_rules_book::{Rule, RuleBook};
 use std::alloc::Global;
 use version_groups::Groups;
 

@@ -4,29 +4,29 @@ use Rattle.std.proofs.Common.{length, get_or, drop-cons, add-one, append_assoc, 
 use Rattle.std.proofs.Common.{subst, ◌∙◌, arith}
 use Rattle.std.specs.Prelude.{◌==◌, true, false, Some, None, slice_get}
 use Rattle.std.proofs.lemmas.List.{map-append, take_all}
-use Rattle.relations.proofs.SetLaws.{in_map}
+use Rattle.relations_spec.proofs.SetLaws.{in_map}
 use Rattle.schema_catalog.specs.Tables.{Tables}
-use Rattle.smo_types.specs.Operators.{Operator, operator_of, operators_of}
-use Rattle.smo_types.specs.declared.op.Op.{Op}
-use Rattle.smo_types.specs.declared.version.Version.{Version}
-use Rattle.smo_types.specs.Commands.{PlainVersion, version_of}
-use Rattle.smo_meaning.specs.After.{op_fault, schema_after, IsValid, HaveFewNodes}
-use Rattle.smo_meaning.specs.Inverses.{inverse_fault, schema_after_each, AllOperatorsAccepted}
-use Rattle.smo_meaning.specs.Past.{no_tables, tables_from}
-use Rattle.smo_meaning.specs.ValidPast.{AreVersions}
-use Rattle.smo_meaning.proofs.CountedOperators.{counted_inverse}
-use Rattle.smo_meaning.proofs.ValidInverses.{accepted_leads_back}
-use Rattle.smo_meaning.proofs.NextSchemas.{next_is_valid}
-use Rattle.version_ways.proofs.VersionSteps.{Leads, leads}
-use Rattle.version_ways.proofs.WayDatabases.{valid_at}
-use Rattle.piece_meaning.specs.Pieces.{PlainPiece}
-use Rattle.piece_meaning.specs.Typed.{IsTyped, AllTyped}
-use Rattle.piece_meaning.specs.Rules.{Book, IsValidBook}
+use Rattle.smo_ops_types.specs.Operators.{Operator, operator_of, operators_of}
+use Rattle.smo_ops_types.specs.declared.op.Op.{Op}
+use Rattle.smo_ops_types.specs.declared.version.Version.{Version}
+use Rattle.smo_ops_types.specs.Commands.{PlainVersion, version_of}
+use Rattle.smo_ops_spec.specs.After.{op_fault, schema_after, IsValid, HaveFewNodes}
+use Rattle.smo_ops_spec.specs.Inverses.{inverse_fault, schema_after_each, AllOperatorsAccepted}
+use Rattle.smo_ops_spec.specs.Past.{no_tables, tables_from}
+use Rattle.smo_ops_spec.specs.ValidPast.{AreVersions}
+use Rattle.smo_ops_spec.proofs.CountedOperators.{counted_inverse}
+use Rattle.smo_ops_spec.proofs.ValidInverses.{accepted_leads_back}
+use Rattle.smo_ops_spec.proofs.NextSchemas.{next_is_valid}
+use Rattle.smo_ops_versions_spec.proofs.VersionSteps.{Leads, leads}
+use Rattle.smo_ops_versions_spec.proofs.WayDatabases.{valid_at}
+use Rattle.piece_ir_spec.specs.Pieces.{PlainPiece}
+use Rattle.piece_ir_spec.specs.Typed.{IsTyped, AllTyped}
+use Rattle.piece_ir_spec.specs.Rules.{Book, IsValidBook}
 use Rattle.piece_ir.specs.Shown.{piece_of, shown_pieces}
 use Rattle.piece_ir.specs.declared.piece.Piece.{Piece}
-use Rattle.rewrite_chains.specs.Chains.{through, through_each, through_operator, through_inverse}
-use Rattle.rewrite_chains.specs.Chains.{to_previous, to_next}
-use Rattle.rewrite_chains.proofs.ChainSteps.{all_typed}
+use Rattle.piece_ir_spec.specs.Chains.{through, through_each, through_operator, through_inverse}
+use Rattle.piece_ir_spec.specs.Chains.{to_previous, to_next}
+use Rattle.piece_ir_spec.proofs.ChainSteps.{all_typed}
 use Rattle.rewrite.proofs.Places.{version_at_place, in_at}
 
 -- ---- one operator

@@ -13,17 +13,17 @@ use Rattle.std.specs.FinMap.{nat_cmp-IsAntisymmetric}
 use Rattle.std.specs.Cmp.Lexicographic.{nat_list_cmp_total}
 use Rattle.prima_base.specs.Order.{bytes_cmp}
 use Rattle.schema_catalog.specs.Tables.{Tables}
-use Rattle.smo_types.specs.declared.op.Op.{Op}
-use Rattle.smo_types.specs.declared.version.Version.{Version}
-use Rattle.smo_types.specs.Operators.{Operator, operator_of, operators_of}
-use Rattle.smo_types.specs.Commands.{version_of}
-use Rattle.smo_meaning.specs.Past.{no_tables, tables_from}
-use Rattle.smo_meaning.specs.Losses.{Loss, first_loss}
-use Rattle.version_ways.specs.Ways.{over_each, back_over, back_over_version, from_next}
-use Rattle.version_ways.specs.LostNames.{Losses, of_losses}
-use Rattle.query_types.specs.declared.branch.Branch.{Branch}
-use Rattle.query_types.specs.Branches.{branch_of, branches_of}
-use Rattle.query_meaning.specs.Losing.{branch_tables, query_tables}
+use Rattle.smo_ops_types.specs.declared.op.Op.{Op}
+use Rattle.smo_ops_types.specs.declared.version.Version.{Version}
+use Rattle.smo_ops_types.specs.Operators.{Operator, operator_of, operators_of}
+use Rattle.smo_ops_types.specs.Commands.{version_of}
+use Rattle.smo_ops_spec.specs.Past.{no_tables, tables_from}
+use Rattle.smo_ops_spec.specs.Losses.{Loss, first_loss}
+use Rattle.smo_ops_versions_spec.specs.Ways.{over_each, back_over, back_over_version, from_next}
+use Rattle.smo_ops_versions_spec.specs.LostNames.{Losses, of_losses}
+use Rattle.temporal_lang_types.specs.declared.branch.Branch.{Branch}
+use Rattle.temporal_lang_types.specs.Branches.{branch_of, branches_of}
+use Rattle.temporal_lang_spec.specs.Losing.{branch_tables, query_tables}
 use Rattle.rewrite.proofs.Places.{version_at_place}
 
 module _ {X : Type 0} where

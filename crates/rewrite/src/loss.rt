@@ -2,15 +2,15 @@ ghost use Rattle.std.specs.Prelude.{◌≡◌, OnOk};
 ghost use Rattle.std.specs.FinMap as map;
 ghost use Rattle.std.specs.Option.{option_copied};
 ghost use Rattle.schema_catalog.specs.Tables.{Tables};
-ghost use Rattle.smo_types.specs.Operators.{operator_of, operators_of};
-ghost use Rattle.smo_meaning.specs.Touching.{these_names};
-ghost use Rattle.smo_meaning.specs.Losses.{first_loss};
-ghost use Rattle.version_ways.specs.Ways.{over_each, back_over};
-ghost use Rattle.version_ways.specs.LostNames.{none_lost, all_lost, losses_over, of_losses};
+ghost use Rattle.smo_ops_types.specs.Operators.{operator_of, operators_of};
+ghost use Rattle.smo_ops_spec.specs.Touching.{these_names};
+ghost use Rattle.smo_ops_spec.specs.Losses.{first_loss};
+ghost use Rattle.smo_ops_versions_spec.specs.Ways.{over_each, back_over};
+ghost use Rattle.smo_ops_versions_spec.specs.LostNames.{none_lost, all_lost, losses_over, of_losses};
 
 use prima_base::{Name, NoMemory};
-use smo_schemas::{Made, consumed, made, made_of};
-use smo_types::Op;
+use smo_ops_operators::{Made, consumed, made, made_of};
+use smo_ops_types::Op;
 use std::alloc::Global;
 use std::collections::BTreeMap;
 use std::marker::Model;
@@ -25,7 +25,7 @@ pub(crate) struct Losses {
 impl Model for Losses {
     ghost use Rattle.std.specs.FinMap.{from_entries, code};
     ghost use Rattle.std.specs.Coded.{coded×, coded_ℕ, coded_list};
-    ghost use Rattle.version_ways.specs.LostNames.{Losses as Lost};
+    ghost use Rattle.smo_ops_versions_spec.specs.LostNames.{Losses as Lost};
 
     ghost Value = { Lost };
 

@@ -7,11 +7,11 @@ use Rattle.std.proofs.lemmas.List.{take_more, map-append}
 use Rattle.prima_base.specs.Columns.{Column, names_of}
 use Rattle.cond_expr.specs.declared.expr.Whose.TheVariants.{Atom}
 use Rattle.cond_expr.specs.Trees.{column}
-use Rattle.smo_meaning.specs.Preconditions.{among}
-use Rattle.smo_meaning.specs.Checks.{pair_names}
-use Rattle.piece_meaning.specs.Views.{out_of}
-use Rattle.rule_views.specs.OperatorViews.{second_names, from_second}
-use Rattle.rule_views.proofs.PairCells.{of_first, of_second, of_neither}
+use Rattle.smo_ops_spec.specs.Preconditions.{among}
+use Rattle.smo_ops_spec.specs.Checks.{pair_names}
+use Rattle.piece_ir_spec.specs.Views.{out_of}
+use Rattle.piece_ir_spec.specs.OperatorViews.{second_names, from_second}
+use Rattle.piece_ir_spec.proofs.PairCells.{of_first, of_second, of_neither}
 
 names_are : (cs : List Column) → pair_names cs ≡ names_of cs
 names_are [] = refl

@@ -4,27 +4,27 @@ use Rattle.std.proofs.Common.{◌≡◌, Bool, true, false, cond, List, [], ◌�
 use Rattle.std.proofs.Common.{subst, ◌∙◌, inl, inr}
 use Rattle.std.specs.Prelude.{not, None}
 use Rattle.std.specs.List.{filter, flat_map}
-use Rattle.relations.specs.Sets.{set_of}
-use Rattle.relations.proofs.SetLaws.{from_filter}
+use Rattle.relations_spec.specs.Sets.{set_of}
+use Rattle.relations_spec.proofs.SetLaws.{from_filter}
 use Rattle.prima_base.specs.Order.{row_cmp}
 use Rattle.prima_base.specs.declared.refusal.OpKind.{OpKind}
 use Rattle.schema_catalog.specs.Tables.{Tables}
 use Rattle.schema_catalog.specs.Databases.{Database}
-use Rattle.smo_types.specs.Operators.{Operator}
-use Rattle.smo_meaning.specs.OneRow.{Row}
-use Rattle.smo_meaning.specs.OperatorKinds.{operator_kind}
-use Rattle.smo_meaning.specs.After.{op_fault, schema_after, IsValid}
-use Rattle.smo_meaning.specs.ValidValues.{IsValidDatabase}
-use Rattle.dead_conditions.specs.Tried.{is_killed}
-use Rattle.dead_conditions.proofs.DeadLaws.{killed_is_dead}
-use Rattle.piece_meaning.specs.Pieces.{PlainPiece, piece_answers}
-use Rattle.piece_meaning.specs.Typed.{IsTyped, AllTyped, atom_kinds}
-use Rattle.piece_meaning.specs.Rules.{IsValidRule, KeepsMeaning}
-use Rattle.piece_meaning.proofs.ViewsLaw.{views_valid}
+use Rattle.smo_ops_types.specs.Operators.{Operator}
+use Rattle.smo_ops_spec.specs.OneRow.{Row}
+use Rattle.smo_ops_spec.specs.OperatorKinds.{operator_kind}
+use Rattle.smo_ops_spec.specs.After.{op_fault, schema_after, IsValid}
+use Rattle.smo_ops_spec.specs.ValidValues.{IsValidDatabase}
+use Rattle.cond_expr_dead.specs.Tried.{is_killed}
+use Rattle.cond_expr_dead.proofs.DeadLaws.{killed_is_dead}
+use Rattle.piece_ir_spec.specs.Pieces.{PlainPiece, piece_answers}
+use Rattle.piece_ir_spec.specs.Typed.{IsTyped, AllTyped, atom_kinds}
+use Rattle.piece_ir_spec.specs.Rules.{IsValidRule, KeepsMeaning}
+use Rattle.piece_ir_spec.proofs.ViewsLaw.{views_valid}
 use Rattle.piece_prune.specs.DeadPieces.{IsDeadPiece, lives}
 use Rattle.piece_prune.proofs.Pruned.{answers_nothing}
-use Rattle.rule_views.specs.OperatorViews.{operator_views}
-use Rattle.rule_views.proofs.EachOperator.{kind_views}
+use Rattle.piece_ir_spec.specs.OperatorViews.{operator_views}
+use Rattle.piece_ir_spec.proofs.EachOperator.{kind_views}
 use Rattle.rewrite_rules.specs.LivingUnfoldings.{living_by_views}
 
 -- ---- the pieces that live

@@ -1,10 +1,10 @@
 -- What a rule answers: the unfoldings of a piece that are not found dead.
 use Rattle.std.specs.List.{filter}
 use Rattle.schema_catalog.specs.Tables.{Tables}
-use Rattle.smo_types.specs.Operators.{Operator}
-use Rattle.piece_meaning.specs.Views.{Views}
-use Rattle.piece_meaning.specs.Unfolding.{unfoldings}
-use Rattle.piece_meaning.specs.Rules.{Book}
+use Rattle.smo_ops_types.specs.Operators.{Operator}
+use Rattle.piece_ir_spec.specs.Views.{Views}
+use Rattle.piece_ir_spec.specs.Unfolding.{unfoldings}
+use Rattle.piece_ir_spec.specs.Rules.{Book}
 use Rattle.piece_prune.specs.DeadPieces.{lives}
 
 -- the rule that unfolds by the views of each operator, and keeps of the unfoldings those that live

@@ -1,9 +1,9 @@
 ghost use Rattle.std.specs.Prelude.{◌≡◌, IfOk};
 ghost use Rattle.prima_base.specs.declared.refusal.OpKind.TheVariants.{CopyTable as Handled};
 ghost use Rattle.schema_catalog.specs.Tables.{Tables};
-ghost use Rattle.smo_types.specs.Operators.{copy_table};
+ghost use Rattle.smo_ops_types.specs.Operators.{copy_table};
 ghost use Rattle.piece_ir.specs.Shown.{all_views_of};
-ghost use Rattle.rule_views.specs.OperatorViews.{operator_views};
+ghost use Rattle.piece_ir_spec.specs.OperatorViews.{operator_views};
 ghost use Rattle.rewrite_rules.specs.LivingUnfoldings.{living_by_views};
 
 use crate::Rule;
@@ -12,7 +12,7 @@ use crate::unfolded_piece::unfolded;
 use piece_ir::{Piece, TableViews, View};
 use prima_base::{Name, NoMemory, OpKind};
 use schema_catalog::Schema;
-use smo_types::Op;
+use smo_ops_types::Op;
 use std::alloc::Global;
 
 /// The rule of COPY TABLE: the made table is the copied one, whole.

@@ -1,5 +1,5 @@
 ghost use Rattle.prima_base.specs.declared.refusal.OpKind.TheVariants.{DropTable as Handled};
-ghost use Rattle.rule_views.specs.OperatorViews.{operator_views};
+ghost use Rattle.piece_ir_spec.specs.OperatorViews.{operator_views};
 ghost use Rattle.rewrite_rules.specs.LivingUnfoldings.{living_by_views};
 
 use crate::Rule;
@@ -7,7 +7,7 @@ use crate::unfolded_piece::unfolded;
 use piece_ir::Piece;
 use prima_base::{NoMemory, OpKind};
 use schema_catalog::Schema;
-use smo_types::Op;
+use smo_ops_types::Op;
 use std::alloc::Global;
 
 /// The rule of DROP TABLE: nothing is made, and a piece stays as it is.

@@ -1,9 +1,9 @@
 ghost use Rattle.std.specs.Prelude.{◌≡◌, IfOk};
 ghost use Rattle.prima_base.specs.declared.refusal.OpKind.TheVariants.{JoinTable as Handled};
 ghost use Rattle.cond_expr.specs.Seen.{test};
-ghost use Rattle.smo_types.specs.Operators.{join_table};
+ghost use Rattle.smo_ops_types.specs.Operators.{join_table};
 ghost use Rattle.piece_ir.specs.Shown.{all_views_of};
-ghost use Rattle.rule_views.specs.OperatorViews.{operator_views};
+ghost use Rattle.piece_ir_spec.specs.OperatorViews.{operator_views};
 ghost use Rattle.rewrite_rules.specs.LivingUnfoldings.{living_by_views};
 
 use crate::Rule;
@@ -14,7 +14,7 @@ use cond_expr::Cond;
 use piece_ir::{Piece, TableViews};
 use prima_base::{Name, NoMemory, OpKind};
 use schema_catalog::Schema;
-use smo_types::Op;
+use smo_ops_types::Op;
 use std::alloc::Global;
 
 /// The rule of JOIN TABLE: the made table has the pairs of rows that agree on the common columns

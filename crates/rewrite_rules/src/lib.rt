@@ -34,4 +34,4 @@ pub use nop::NopRule;
 pub use partition_table::PartitionTableRule;
 pub use rename_column::RenameColumnRule;
 pub use rename_table::RenameTableRule;
-pub use rule_book::{BookFault, Rule, RuleBook};
+pub use rewrite_rules_book::{BookFault, Rule, RuleBook};

@@ -1,7 +1,7 @@
 ghost use Rattle.std.specs.Prelude.{◌≡◌, IfOk};
-ghost use Rattle.smo_types.specs.Operators.{operator_of};
+ghost use Rattle.smo_ops_types.specs.Operators.{operator_of};
 ghost use Rattle.piece_ir.specs.Shown.{all_views_of};
-ghost use Rattle.rule_views.specs.OperatorViews.{operator_views};
+ghost use Rattle.piece_ir_spec.specs.OperatorViews.{operator_views};
 
 use crate::{
     add_column, copy_table, create_table, decompose_table, drop_column, join_table, merge_table,
@@ -10,7 +10,7 @@ use crate::{
 use piece_ir::TableViews;
 use prima_base::NoMemory;
 use schema_catalog::Schema;
-use smo_types::Op;
+use smo_ops_types::Op;
 use std::alloc::Global;
 
 /// The tables that an operator makes, with their views, operator by operator.

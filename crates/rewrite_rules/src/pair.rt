@@ -2,20 +2,20 @@ ghost use Rattle.std.specs.Prelude.{◌≡◌, [], ◌∷◌, ◌++◌, IfOk, On
 ghost use Rattle.cond_expr.specs.declared.expr.Whose.TheVariants.{Atom as AtomOf};
 ghost use Rattle.cond_expr.specs.Trees.{column, for_atoms};
 ghost use Rattle.cond_expr.specs.Seen.{test};
-ghost use Rattle.smo_types.specs.Changes.{sets_of};
-ghost use Rattle.smo_meaning.specs.Effects.{columns_of};
+ghost use Rattle.smo_ops_types.specs.Changes.{sets_of};
+ghost use Rattle.smo_ops_spec.specs.Effects.{columns_of};
 ghost use Rattle.cond_expr.specs.Parts.{parts_but_true};
-ghost use Rattle.piece_meaning.specs.Views.{out_of};
+ghost use Rattle.piece_ir_spec.specs.Views.{out_of};
 ghost use Rattle.piece_ir.specs.Shown.{view_of};
-ghost use Rattle.rule_views.specs.OperatorViews.{common_names, second_names, from_second, in_both};
-ghost use Rattle.rule_views.specs.OperatorViews.{shown_in, paired};
+ghost use Rattle.piece_ir_spec.specs.OperatorViews.{common_names, second_names, from_second, in_both};
+ghost use Rattle.piece_ir_spec.specs.OperatorViews.{shown_in, paired};
 
 use cond_expr::{CmpOp, ColRef, Cond, Expr, Fill, Whose};
 use piece_ir::{View, append_parts, column_of};
 use prima_base::{ColType, Name, NoMemory};
 use schema_catalog::Schema;
+use smo_ops_columns::has_name;
 use std::alloc::Global;
-use table_columns::has_name;
 
 // The columns of the two tables of a JOIN.
 #[derive(Drop)]

@@ -1,7 +1,7 @@
 ghost use Rattle.std.specs.Prelude.{◌≡◌, [], ◌∷◌, IfOk, map};
 ghost use Rattle.cond_expr.specs.Seen.{test};
 ghost use Rattle.cond_expr.specs.Parts.{parts_but_true};
-ghost use Rattle.rule_views.specs.OperatorViews.{opposite, unmet};
+ghost use Rattle.piece_ir_spec.specs.OperatorViews.{opposite, unmet};
 
 use cond_expr::{CmpOp, Cond, Itself};
 use piece_ir::append_parts;

@@ -1,20 +1,20 @@
 ghost use Rattle.std.specs.Prelude.{◌≡◌, None, IfOk};
 ghost use Rattle.std.specs.List.{filter};
-ghost use Rattle.smo_types.specs.Operators.{operator_of};
-ghost use Rattle.smo_meaning.specs.After.{op_fault, schema_after, IsValid};
-ghost use Rattle.piece_meaning.specs.Typed.{IsTyped};
-ghost use Rattle.piece_meaning.specs.Rules.{KeepsMeaning};
+ghost use Rattle.smo_ops_types.specs.Operators.{operator_of};
+ghost use Rattle.smo_ops_spec.specs.After.{op_fault, schema_after, IsValid};
+ghost use Rattle.piece_ir_spec.specs.Typed.{IsTyped};
+ghost use Rattle.piece_ir_spec.specs.Rules.{KeepsMeaning};
 ghost use Rattle.piece_ir.specs.Shown.{piece_of, shown_pieces};
 ghost use Rattle.piece_prune.specs.DeadPieces.{lives};
-ghost use Rattle.rule_views.specs.OperatorViews.{operator_views};
+ghost use Rattle.piece_ir_spec.specs.OperatorViews.{operator_views};
 ghost use Rattle.rewrite_rules.specs.LivingUnfoldings.{living_by_views};
 
 use crate::made_table::made_tables;
-use dead_conditions::is_dead;
+use cond_expr_dead::is_dead;
 use piece_ir::{Piece, unfold_by};
 use prima_base::NoMemory;
 use schema_catalog::Schema;
-use smo_types::Op;
+use smo_ops_types::Op;
 use std::alloc::Global;
 
 // Whether the piece is not found dead.

@@ -1,7 +1,7 @@
 ghost use Rattle.std.specs.Prelude.{◌≡◌, IfOk, map};
 ghost use Rattle.cond_expr.specs.Seen.{tree, test};
 ghost use Rattle.piece_ir.specs.Shown.{view_of};
-ghost use Rattle.rule_views.specs.OperatorViews.{selected, computed};
+ghost use Rattle.piece_ir_spec.specs.OperatorViews.{selected, computed};
 
 use cond_expr::{Cond, Expr};
 use piece_ir::View;

@@ -4,7 +4,7 @@ use Rattle.std.specs.Prelude.{cond}
 use Rattle.std.specs.Ordering.{is_eq}
 use Rattle.std.specs.Cmp.Lexicographic.{nat_list_cmp_total}
 use Rattle.std.proofs.lemmas.Cmp.{tied_itself}
-use Rattle.relations.specs.Sets.{BeforeAll}
+use Rattle.relations_spec.specs.Sets.{BeforeAll}
 use Rattle.prima_base.specs.declared.value.Value.{Value}
 use Rattle.prima_base.specs.Order.{bytes_cmp}
 use Rattle.prima_base.specs.Columns.{Column, IsRow, AreColumns, names_of}

@@ -7,7 +7,7 @@ use Rattle.prima_base.specs.Columns.{Column, names_of, AreColumns}
 use Rattle.std.specs.declared.cmp.Ordering.TheVariants.{Less, Equal, Greater}
 use Rattle.std.specs.declared.cmp.Ordering.{Ordering}
 use Rattle.std.specs.Ordering.{is_lt}
-use Rattle.relations.specs.Sets.{BeforeAll, Ascends}
+use Rattle.relations_spec.specs.Sets.{BeforeAll, Ascends}
 use Rattle.prima_base.specs.Order.{bytes_cmp}
 use Rattle.prima_base.specs.OrderLaws.{bytes_exact}
 

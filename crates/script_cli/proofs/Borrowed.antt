@@ -4,8 +4,8 @@ use Rattle.std.specs.Prelude.{Option}
 use Rattle.disk_model.specs.Meaning.{Meaning, borrowed_as}
 use Rattle.disk_model.specs.BorrowLaws.{borrowed_turns}
 use Rattle.journal.specs.Mounting.{SameOrNine, KeepsFile}
-use Rattle.archive_file.specs.LogRecords.{LogRecord}
-use Rattle.statement_response.specs.Given.{Given}
+use Rattle.archive_core_file_spec.specs.LogRecords.{LogRecord}
+use Rattle.script_cli_statement.specs.Given.{Given}
 use Rattle.script_cli.specs.Files.{OpensPrefix}
 use Rattle.script_cli.specs.Runs.{NotOpened, OnDisk, RunsOver, logged_in}
 use Rattle.script_cli.specs.declared.status.Status.{Status}

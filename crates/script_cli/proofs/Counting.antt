@@ -5,32 +5,32 @@ use Rattle.std.specs.Prelude.{Option, Some, None}
 use Rattle.std.specs.Io.KnownBytes.{Consumes, IsAtEnd}
 use Rattle.disk_model.specs.Meaning.{Tells}
 use Rattle.disk_model.specs.declared.disk.Disk.{Ghosts}
-use Rattle.archive_file.specs.LogRecords.{LogRecord, commands_in}
-use Rattle.archive_state.specs.ArchiveContents.{ArchiveContent}
+use Rattle.archive_core_file_spec.specs.LogRecords.{LogRecord, commands_in}
+use Rattle.archive_core_state.specs.ArchiveContents.{ArchiveContent}
 use Rattle.archive_core.specs.declared.archive.Archive.{Archive}
-use Rattle.archive_replay.specs.declared.opened.Opened.{Opened}
+use Rattle.archive_core_replay.specs.declared.opened.Opened.{Opened}
 use Rattle.archive_core.specs.Mounting.{IsMounted}
 use Rattle.script_parse.specs.Script.{Whole as Text}
-use Rattle.statement_response.specs.Given.{Given}
-use Rattle.statement_response.specs.Due.{Due, command_due, image_due, commands_due}
-use Rattle.statement_response.specs.Puts.{is_error, is_command, put_for}
-use Rattle.statement_response.specs.Replies.{Recorded, reply}
+use Rattle.script_cli_statement.specs.Given.{Given}
+use Rattle.script_cli_statement.specs.Due.{Due, command_due, image_due, commands_due}
+use Rattle.script_cli_statement.specs.Puts.{is_error, is_command, put_for}
+use Rattle.script_cli_statement.specs.Replies.{Recorded, reply}
 use Rattle.script_cli.specs.Output.{script_puts, all_puts}
-use Rattle.statement_response.specs.Responses.{put_of}
+use Rattle.script_cli_statement.specs.Responses.{put_of}
 use Rattle.script_cli.specs.Driving.{CountsPuts, CountsOpening, status_of}
 use Rattle.script_cli.specs.Runs.{IsOpening, is_whole}
 use Rattle.script_cli.specs.Sampling.{IsCounted}
 use Rattle.script_cli.specs.declared.script_run.ScriptRun.{ScriptRun}
-use Rattle.statement_response.specs.declared.halt.Halt.{Halt}
-use Rattle.statement_response.specs.declared.halt.Halt.TheVariants as halt
+use Rattle.script_cli_statement.specs.declared.halt.Halt.{Halt}
+use Rattle.script_cli_statement.specs.declared.halt.Halt.TheVariants as halt
 use Rattle.script_cli.specs.declared.status.Status.{Status}
 use Rattle.script_cli.specs.declared.status.Status.TheVariants.{Done, Refused, Words, ReadFault}
 use Rattle.script_cli.specs.declared.status.Status.TheVariants.{WriteFault, DiskFault, NotAJournal}
 use Rattle.script_cli.specs.declared.status.Status.TheVariants.{NoMemory, InputLimit}
-use Rattle.statement_response.specs.declared.put.Put.{Put}
+use Rattle.script_cli_statement.specs.declared.put.Put.{Put}
 use Rattle.script_cli.proofs.OneReading.{OpensOnce}
 use Rattle.script_cli.proofs.Recording.{part_step}
-use Rattle.statement_response.proofs.ReplySteps.{one_if}
+use Rattle.script_cli_statement.proofs.ReplySteps.{one_if}
 use Rattle.script_cli.proofs.Reaching.{Reached, all_parts, consumed_still}
 use Rattle.script_cli.proofs.Telling.{told_end}
 

@@ -2,12 +2,12 @@
 use Rattle.std.proofs.Common.{◌≡◌, ◌≤◌, ◌∙◌, ℕ, List, subst}
 use Rattle.std.specs.Prelude.{Option, Err}
 use Rattle.prima_io.specs.Causes.{Rose}
-use Rattle.statement_response.specs.declared.halt.Halt.{Halt}
-use Rattle.statement_response.specs.declared.halt.Halt.TheVariants as halt
+use Rattle.script_cli_statement.specs.declared.halt.Halt.{Halt}
+use Rattle.script_cli_statement.specs.declared.halt.Halt.TheVariants as halt
 use Rattle.script_cli.specs.declared.status.Status.{Status}
 use Rattle.script_cli.specs.declared.status.Status.TheVariants as status
 use Rattle.script_cli.specs.declared.script_run.ScriptRun.{ScriptRun}
-use Rattle.statement_response.specs.Halts.{HaltCounted}
+use Rattle.script_cli_statement.specs.Halts.{HaltCounted}
 use Rattle.script_cli.specs.Driving.{Ends, status_of}
 use Rattle.script_cli.specs.Runs.{SourceCounted, SinkCounted, DiskCounted}
 

@@ -1,9 +1,9 @@
 -- Records of what is due, one part after the other.
 use Rattle.std.proofs.Common.{◌≡◌, ◌⊎◌, inl, inr, ⊎_elim, ℕ, zero, suc, List, [], ◌∷◌, ◌++◌, take}
 use Rattle.std.proofs.Common.{refl, ap}
-use Rattle.archive_file.specs.LogRecords.{LogRecord, AreSpelled}
-use Rattle.statement_response.specs.Due.{Due, command_due, image_due, commands_due, AreRecordsOf}
-use Rattle.statement_response.specs.Due.{AreFirstOf}
+use Rattle.archive_core_file_spec.specs.LogRecords.{LogRecord, AreSpelled}
+use Rattle.script_cli_statement.specs.Due.{Due, command_due, image_due, commands_due, AreRecordsOf}
+use Rattle.script_cli_statement.specs.Due.{AreFirstOf}
 
 -- the records of two parts, apart
 pub record Parts (xs ys : List Due) (log : List LogRecord) : Type 0 where

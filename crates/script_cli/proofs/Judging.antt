@@ -5,11 +5,11 @@ use Rattle.std.specs.Io.KnownBytes.{Appends}
 use Rattle.prima_io.specs.Causes.{HasCause}
 use Rattle.prima_io.specs.Moves.{AppendsLess}
 use Rattle.disk_model.specs.Meaning.{Meaning}
-use Rattle.program_words.specs.declared.request.Mode.TheVariants.{Sample}
-use Rattle.program_words.specs.declared.request.Request.{Request}
-use Rattle.program_words.specs.Words.{limit_of_run, request}
+use Rattle.script_cli_arguments.specs.declared.request.Mode.TheVariants.{Sample}
+use Rattle.script_cli_arguments.specs.declared.request.Request.{Request}
+use Rattle.script_cli_arguments.specs.Words.{limit_of_run, request}
 use Rattle.answer_text.specs.Texts.{wrong_words_text}
-use Rattle.statement_response.specs.Given.{Given}
+use Rattle.script_cli_statement.specs.Given.{Given}
 use Rattle.script_cli.specs.Runs.{Ran, RunsOver, ToldUnopened, IsUntouched, RefusedWords, PutsLine}
 use Rattle.script_cli.specs.declared.status.Status.{Status}
 use Rattle.script_cli.specs.declared.status.Status.TheVariants.{Words, NoMemory}

@@ -13,24 +13,24 @@ use Rattle.journal.specs.JournalFiles.{Stands}
 use Rattle.journal.specs.Mounting.{SameOrNine}
 use Rattle.journal.specs.Puts.{HoldsPrefix, StandsForPrefix}
 use Rattle.journal.specs.MountLaws.{none_yet, mount_then}
-use Rattle.smo_meaning.specs.Past.{beginning}
-use Rattle.archive_file.specs.LogRecords.{LogRecord, record_of, records_of, AreSpelled, AreAccepted}
-use Rattle.archive_file.specs.LogRecords.{AreSound, past_recorded}
-use Rattle.archive_file.specs.Opening.{Opens, IsSound}
-use Rattle.archive_file.proofs.Records.{accepted_append, sound_accepted, sound_prefix, sound_append}
-use Rattle.piece_meaning.specs.Rules.{Book}
+use Rattle.smo_ops_spec.specs.Past.{beginning}
+use Rattle.archive_core_file_spec.specs.LogRecords.{LogRecord, record_of, records_of, AreSpelled, AreAccepted}
+use Rattle.archive_core_file_spec.specs.LogRecords.{AreSound, past_recorded}
+use Rattle.archive_core_file_spec.specs.Opening.{Opens, IsSound}
+use Rattle.archive_core_file_spec.proofs.Records.{accepted_append, sound_accepted, sound_prefix, sound_append}
+use Rattle.piece_ir_spec.specs.Rules.{Book}
 use Rattle.archive_core.specs.declared.archive.Archive.{Archive}
-use Rattle.archive_replay.specs.declared.opened.Opened.{Opened}
+use Rattle.archive_core_replay.specs.declared.opened.Opened.{Opened}
 use Rattle.archive_core.specs.Fields.{standing_of, below, place_of}
 use Rattle.archive_core.specs.Holding.{HoldsAt}
 use Rattle.archive_core.specs.Mounting.{IsMounted}
 use Rattle.script_parse.specs.Script.{StatementPart}
-use Rattle.statement_response.specs.Due.{AreRecordsOf}
-use Rattle.statement_response.specs.Replies.{Recorded, recorded}
+use Rattle.script_cli_statement.specs.Due.{AreRecordsOf}
+use Rattle.script_cli_statement.specs.Replies.{Recorded, recorded}
 use Rattle.script_cli.specs.Output.{all_puts}
-use Rattle.statement_response.specs.Putting.{HasPut}
+use Rattle.script_cli_statement.specs.Putting.{HasPut}
 use Rattle.script_cli.specs.Driving.{PutsSome, Drove, PutBy, HasOpened}
-use Rattle.statement_response.specs.Responses.{RepresentsAt}
+use Rattle.script_cli_statement.specs.Responses.{RepresentsAt}
 use Rattle.script_cli.specs.Files.{OpensPrefix, EndsAs, IsSoundFile}
 use Rattle.script_cli.specs.Runs.{RanOpened, IsOpening, begun, given_by, logged_in}
 use Rattle.script_cli.specs.declared.status.Status.{Status}

@@ -1,7 +1,7 @@
 -- A file opens as one list of records, or is damaged at one place, and never both.
 use Rattle.std.proofs.Common.{◌≡◌, ℕ, List}
-use Rattle.archive_file.specs.LogRecords.{LogRecord}
-use Rattle.archive_file.specs.Opening.{Opens, Damages}
+use Rattle.archive_core_file_spec.specs.LogRecords.{LogRecord}
+use Rattle.archive_core_file_spec.specs.Opening.{Opens, Damages}
 
 abbrev pub OpensOnce : Type 0
 OpensOnce = (file : List ℕ) (a b : List LogRecord) → Opens file a → Opens file b → a ≡ b

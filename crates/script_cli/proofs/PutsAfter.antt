@@ -12,14 +12,14 @@ use Rattle.journal.specs.Records.{Record, Holds}
 use Rattle.journal.specs.JournalFiles.{Stands, WithOrWithout}
 use Rattle.journal.specs.Puts.{HoldsPrefix, HavePut}
 use Rattle.journal.specs.PutLaws.{leaves_one_more}
-use Rattle.archive_file.specs.LogRecords.{LogRecord, record_of, records_of}
+use Rattle.archive_core_file_spec.specs.LogRecords.{LogRecord, record_of, records_of}
 use Rattle.archive_core.specs.Holding.{HoldsAt}
 use Rattle.archive_core.specs.declared.archive.Archive.{Archive}
 use Rattle.archive_core.specs.Fields.{below, place_of}
-use Rattle.statement_response.specs.Due.{Due}
-use Rattle.statement_response.specs.Putting.{HasPut, MayHavePut}
+use Rattle.script_cli_statement.specs.Due.{Due}
+use Rattle.script_cli_statement.specs.Putting.{HasPut, MayHavePut}
 use Rattle.script_cli.specs.Driving.{PutsSome}
-use Rattle.statement_response.specs.Responses.{PutBetween}
+use Rattle.script_cli_statement.specs.Responses.{PutBetween}
 use Rattle.script_cli.proofs.DueRecords.{records_together, spelled_append}
 
 -- ---- records

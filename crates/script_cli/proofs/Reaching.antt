@@ -12,17 +12,17 @@ use Rattle.archive_core.specs.declared.archive.Archive.{Archive}
 use Rattle.archive_core.specs.Fields.{below, place_of}
 use Rattle.script_parse.specs.Script.{StatementPart, parts_from, tail_from, ending}
 use Rattle.script_parse.specs.Splitting.{fresh}
-use Rattle.archive_file.specs.LogRecords.{LogRecord}
-use Rattle.statement_response.specs.Due.{Due, AreRecordsOf}
-use Rattle.statement_response.specs.Putting.{HasPut}
-use Rattle.statement_response.specs.Given.{Given}
-use Rattle.statement_response.specs.Replies.{Recorded}
+use Rattle.archive_core_file_spec.specs.LogRecords.{LogRecord}
+use Rattle.script_cli_statement.specs.Due.{Due, AreRecordsOf}
+use Rattle.script_cli_statement.specs.Putting.{HasPut}
+use Rattle.script_cli_statement.specs.Given.{Given}
+use Rattle.script_cli_statement.specs.Replies.{Recorded}
 use Rattle.script_cli.specs.Output.{part_reply, all_puts, recorded_after, any_error, parts_of}
 use Rattle.script_cli.specs.Output.{ending_of, has_error, tail_text, tail_is_due}
 use Rattle.script_cli.specs.declared.script_run.ScriptRun.{ScriptRun}
-use Rattle.statement_response.specs.declared.halt.Halt.{Halt}
-use Rattle.statement_response.specs.declared.halt.Halt.TheVariants as halt
-use Rattle.statement_response.specs.Responses.{RepresentsAt, PutBetween}
+use Rattle.script_cli_statement.specs.declared.halt.Halt.{Halt}
+use Rattle.script_cli_statement.specs.declared.halt.Halt.TheVariants as halt
+use Rattle.script_cli_statement.specs.Responses.{RepresentsAt, PutBetween}
 use Rattle.script_cli.specs.Taking.{Took, Halted, next_reply, parts_after, ending_after}
 use Rattle.script_cli.specs.Runs.{Log, Wrote, WroteAll, begun, logged_in}
 use Rattle.script_cli.specs.Driving.{Drove, PutBy, Ends, is_faulty, status_of}

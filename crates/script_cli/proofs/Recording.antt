@@ -2,16 +2,16 @@
 use Rattle.std.proofs.Common.{◌≡◌, ⊎_elim, List, [], ◌∷◌, ◌++◌}
 use Rattle.std.proofs.Common.{refl, sym, ap, ◌∙◌, subst, append_assoc}
 use Rattle.std.proofs.lemmas.List.{append-nil}
-use Rattle.smo_meaning.specs.Past.{beginning}
-use Rattle.archive_file.specs.LogRecords.{LogRecord}
-use Rattle.archive_file.specs.LogRecords.{past_recorded}
-use Rattle.archive_file.specs.LogRecords.{AreAccepted, AreSound}
-use Rattle.archive_file.proofs.Records.{accepted_append, sound_accepted, sound_append}
+use Rattle.smo_ops_spec.specs.Past.{beginning}
+use Rattle.archive_core_file_spec.specs.LogRecords.{LogRecord}
+use Rattle.archive_core_file_spec.specs.LogRecords.{past_recorded}
+use Rattle.archive_core_file_spec.specs.LogRecords.{AreAccepted, AreSound}
+use Rattle.archive_core_file_spec.proofs.Records.{accepted_append, sound_accepted, sound_append}
 use Rattle.script_parse.specs.Script.{StatementPart, Whole as Text, Skipped}
-use Rattle.statement_response.specs.Given.{Given}
-use Rattle.statement_response.specs.Due.{AreRecordsOf, AreFirstOf}
-use Rattle.statement_response.specs.Replies.{Recorded, recorded}
-use Rattle.statement_response.proofs.ReplySteps.{IsStep, reply_step, unchanged, none_of, none_first}
+use Rattle.script_cli_statement.specs.Given.{Given}
+use Rattle.script_cli_statement.specs.Due.{AreRecordsOf, AreFirstOf}
+use Rattle.script_cli_statement.specs.Replies.{Recorded, recorded}
+use Rattle.script_cli_statement.proofs.ReplySteps.{IsStep, reply_step, unchanged, none_of, none_first}
 use Rattle.script_cli.specs.Output.{part_reply, all_puts, recorded_after}
 use Rattle.script_cli.proofs.DueRecords.{records_apart, are_first, first_apart}
 

@@ -5,23 +5,23 @@ use Rattle.std.specs.Prelude.{Option, Some, None, Err}
 use Rattle.std.specs.Io.KnownBytes.{Appends, Consumes}
 use Rattle.std.proofs.Math.Seq.{take-length}
 use Rattle.disk_model.specs.Meaning.{Meaning}
-use Rattle.archive_file.specs.LogRecords.{LogRecord}
-use Rattle.archive_file.specs.Opening.{Opens}
+use Rattle.archive_core_file_spec.specs.LogRecords.{LogRecord}
+use Rattle.archive_core_file_spec.specs.Opening.{Opens}
 use Rattle.script_parse.specs.Script.{StatementPart}
-use Rattle.sample_script.specs.Summary.{summary}
-use Rattle.statement_response.specs.Due.{Due, AreRecordsOf, AreFirstOf, commands_due}
-use Rattle.statement_response.specs.Given.{Given}
-use Rattle.statement_response.specs.Replies.{Recorded}
+use Rattle.script_cli_sample.specs.Summary.{summary}
+use Rattle.script_cli_statement.specs.Due.{Due, AreRecordsOf, AreFirstOf, commands_due}
+use Rattle.script_cli_statement.specs.Given.{Given}
+use Rattle.script_cli_statement.specs.Replies.{Recorded}
 use Rattle.script_cli.specs.Output.{output, has_error, script_puts, all_puts, parts_of}
 use Rattle.script_cli.specs.Files.{OpensPrefix, EndsAs}
-use Rattle.statement_response.specs.Halts.{SaidCounted}
+use Rattle.script_cli_statement.specs.Halts.{SaidCounted}
 use Rattle.script_cli.specs.Driving.{Drove, CountsPuts, CountsOpening, status_of}
 use Rattle.script_cli.specs.Runs.{Ran, RanOpened, SinkCounted, DiskCounted, begun, is_whole}
 use Rattle.script_cli.specs.Runs.{logged_in}
 use Rattle.script_cli.specs.Sampling.{WroteSummary, SampleLeft, Sampled, DroveSample, PutsSummary}
 use Rattle.script_cli.specs.Sampling.{ToldBy, EndsSample, told_after, stop_of, was_read}
-use Rattle.statement_response.specs.declared.halt.Halt.{Halt}
-use Rattle.statement_response.specs.declared.halt.Halt.TheVariants as halt
+use Rattle.script_cli_statement.specs.declared.halt.Halt.{Halt}
+use Rattle.script_cli_statement.specs.declared.halt.Halt.TheVariants as halt
 use Rattle.script_cli.specs.declared.status.Status.{Status}
 use Rattle.script_cli.specs.declared.status.Status.TheVariants.{Done, Refused, Words, ReadFault}
 use Rattle.script_cli.specs.declared.status.Status.TheVariants.{WriteFault, DiskFault, NotAJournal}

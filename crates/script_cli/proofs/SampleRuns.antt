@@ -7,13 +7,13 @@ use Rattle.disk_model.specs.Meaning.{Meaning, Tells, borrowed_as}
 use Rattle.disk_model.specs.BorrowLaws.{borrowed_turns}
 use Rattle.disk_model.specs.Moments.{UntilSynced}
 use Rattle.disk_model.specs.MomentLaws.{turns_weaker, until_weaker}
-use Rattle.smo_meaning.specs.Past.{beginning}
-use Rattle.archive_file.specs.LogRecords.{LogRecord, commands_in, AreSound}
-use Rattle.archive_file.specs.Opening.{Opens, Damages}
-use Rattle.sample_script.specs.Summary.{summary}
-use Rattle.statement_response.specs.Due.{Due, AreRecordsOf, AreFirstOf, commands_due}
-use Rattle.statement_response.specs.Given.{Given}
-use Rattle.statement_response.specs.Replies.{Recorded, recorded}
+use Rattle.smo_ops_spec.specs.Past.{beginning}
+use Rattle.archive_core_file_spec.specs.LogRecords.{LogRecord, commands_in, AreSound}
+use Rattle.archive_core_file_spec.specs.Opening.{Opens, Damages}
+use Rattle.script_cli_sample.specs.Summary.{summary}
+use Rattle.script_cli_statement.specs.Due.{Due, AreRecordsOf, AreFirstOf, commands_due}
+use Rattle.script_cli_statement.specs.Given.{Given}
+use Rattle.script_cli_statement.specs.Replies.{Recorded, recorded}
 use Rattle.script_cli.specs.Output.{output, has_error, script_puts, parts_of}
 use Rattle.script_cli.specs.Files.{OpensPrefix, IsSoundFile, LeavesPrefix}
 use Rattle.script_cli.specs.Runs.{NotOpened, ToldUnopened, IsOpening, RefusesFile, SourceCounted}

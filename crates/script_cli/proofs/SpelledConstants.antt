@@ -5,16 +5,16 @@ use Rattle.std.specs.List.{AllByRecursion}
 use Rattle.cond_expr.specs.Trees.{Tree, column, constant, length_of, joined, choose, Trees}
 use Rattle.cond_expr.specs.Trees.{no_trees, a_tree, Test, never, always, compared, all_of, some_of}
 use Rattle.cond_expr.specs.Trees.{fails, Tests, no_tests, a_test}
-use Rattle.smo_types.specs.Operators.{Operator, nop, create_table, drop_table, rename_table}
-use Rattle.smo_types.specs.Operators.{copy_table, merge_table, partition_table, decompose_table}
-use Rattle.smo_types.specs.Operators.{join_table, add_column, drop_column, rename_column}
-use Rattle.smo_types.specs.Commands.{PlainBody, changing, evolving, PlainVersion}
-use Rattle.piece_meaning.specs.Constants.{ValidInTree, ValidInTrees, ValidInTest, ValidInTests}
-use Rattle.piece_meaning.specs.Constants.{ValidInOperator, ValidInOperators, ValidInEvolution}
-use Rattle.piece_meaning.specs.Constants.{ValidInVersions}
-use Rattle.image_spelling.specs.Images.{VersionsNamed}
-use Rattle.command_spelling.specs.Valid.{TreeNamed, TreesNamed, TestNamed, TestsNamed}
-use Rattle.command_spelling.specs.Valid.{OperatorNamed, BodyNamed}
+use Rattle.smo_ops_types.specs.Operators.{Operator, nop, create_table, drop_table, rename_table}
+use Rattle.smo_ops_types.specs.Operators.{copy_table, merge_table, partition_table, decompose_table}
+use Rattle.smo_ops_types.specs.Operators.{join_table, add_column, drop_column, rename_column}
+use Rattle.smo_ops_types.specs.Commands.{PlainBody, changing, evolving, PlainVersion}
+use Rattle.piece_ir_spec.specs.Constants.{ValidInTree, ValidInTrees, ValidInTest, ValidInTests}
+use Rattle.piece_ir_spec.specs.Constants.{ValidInOperator, ValidInOperators, ValidInEvolution}
+use Rattle.piece_ir_spec.specs.Constants.{ValidInVersions}
+use Rattle.store_image_spec.specs.Images.{VersionsNamed}
+use Rattle.command_codec_spec.specs.Valid.{TreeNamed, TreesNamed, TestNamed, TestsNamed}
+use Rattle.command_codec_spec.specs.Valid.{OperatorNamed, BodyNamed}
 
 mutual
   tree_valid : (t : Tree) → TreeNamed t → ValidInTree t

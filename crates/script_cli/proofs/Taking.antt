@@ -12,17 +12,17 @@ use Rattle.script_parse.specs.Script.{StatementPart, parts_from, tail_from, endi
 use Rattle.script_parse.specs.Splitting.{found, IsSettled, State}
 use Rattle.script_parse.specs.declared.splitter.Cut.{Cut}
 use Rattle.script_parse.specs.declared.splitter.Cut.TheVariants.{More}
-use Rattle.smo_types.specs.Commands.{PlainCommand}
-use Rattle.statement_response.specs.Due.{Due, commands_due}
-use Rattle.statement_response.specs.Given.{Given}
+use Rattle.smo_ops_types.specs.Commands.{PlainCommand}
+use Rattle.script_cli_statement.specs.Due.{Due, commands_due}
+use Rattle.script_cli_statement.specs.Given.{Given}
 use Rattle.script_cli.specs.declared.script_run.ScriptRun.{ScriptRun}
-use Rattle.statement_response.specs.declared.halt.Halt.{Halt}
-use Rattle.statement_response.specs.declared.halt.Halt.TheVariants.{NoMemory}
-use Rattle.statement_response.specs.Replies.{Recorded}
+use Rattle.script_cli_statement.specs.declared.halt.Halt.{Halt}
+use Rattle.script_cli_statement.specs.declared.halt.Halt.TheVariants.{NoMemory}
+use Rattle.script_cli_statement.specs.Replies.{Recorded}
 use Rattle.script_cli.specs.Output.{part_reply, replies, all_puts, recorded_after, any_error}
-use Rattle.statement_response.specs.Responses.{RepresentsAt, PutBetween, StopsIn}
+use Rattle.script_cli_statement.specs.Responses.{RepresentsAt, PutBetween, StopsIn}
 use Rattle.script_cli.specs.Taking.{Took, Halted, next_reply, parts_after, ending_after}
-use Rattle.statement_response.proofs.OnePut.{nothing_between}
+use Rattle.script_cli_statement.proofs.OnePut.{nothing_between}
 use Rattle.script_cli.proofs.PutsAfter.{then_between}
 use Rattle.script_cli.proofs.DueRecords.{commands_append}
 

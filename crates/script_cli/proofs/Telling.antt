@@ -11,13 +11,13 @@ use Rattle.disk_model.specs.Meaning.{Meaning, Tells, IsValid}
 use Rattle.disk_model.specs.Moments.{Leaves, Turns, UntilSynced}
 use Rattle.disk_model.specs.MomentLaws.{turns_weaker, until_weaker}
 use Rattle.journal.specs.Mounting.{SameOrNine, IsNotSynced, KeepsFile}
-use Rattle.smo_meaning.specs.Past.{beginning}
-use Rattle.archive_file.specs.LogRecords.{LogRecord, AreSound}
-use Rattle.archive_file.specs.Opening.{Opens, Damages}
+use Rattle.smo_ops_spec.specs.Past.{beginning}
+use Rattle.archive_core_file_spec.specs.LogRecords.{LogRecord, AreSound}
+use Rattle.archive_core_file_spec.specs.Opening.{Opens, Damages}
 use Rattle.script_parse.specs.Script.{StatementPart, parts_from, tail_of}
-use Rattle.statement_response.specs.Due.{Due, AreRecordsOf, AreFirstOf}
-use Rattle.statement_response.specs.Given.{Given}
-use Rattle.statement_response.specs.Replies.{Recorded, recorded}
+use Rattle.script_cli_statement.specs.Due.{Due, AreRecordsOf, AreFirstOf}
+use Rattle.script_cli_statement.specs.Given.{Given}
+use Rattle.script_cli_statement.specs.Replies.{Recorded, recorded}
 use Rattle.script_cli.specs.Output.{part_reply, replies, replies_of, all_puts, script_puts}
 use Rattle.script_cli.specs.Output.{recorded_after, parts_of, ending_of, output, tail_text}
 use Rattle.script_cli.specs.Taking.{next_reply}

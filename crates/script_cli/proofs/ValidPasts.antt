@@ -1,17 +1,17 @@
 -- The past after any statements is valid, after whatever opening records.
 use Rattle.std.proofs.Common.{◌≡◌, ℕ, false, List, [], ◌∷◌, refl, arith}
-use Rattle.archive_file.specs.LogRecords.{LogRecord, logged, checkpointed, has_image}
-use Rattle.archive_file.specs.LogRecords.{after_records, AreSpelled, AreAccepted}
-use Rattle.image_spelling.specs.Images.{Image, IsImage}
-use Rattle.image_spelling.specs.ShownPast.{image_past}
-use Rattle.smo_meaning.specs.ValidPast.{IsPast}
-use Rattle.smo_meaning.specs.Past.{Past, beginning, past_with}
-use Rattle.smo_meaning.proofs.PastSteps.{beginning_is_past}
+use Rattle.archive_core_file_spec.specs.LogRecords.{LogRecord, logged, checkpointed, has_image}
+use Rattle.archive_core_file_spec.specs.LogRecords.{after_records, AreSpelled, AreAccepted}
+use Rattle.store_image_spec.specs.Images.{Image, IsImage}
+use Rattle.store_image_spec.specs.ShownPast.{image_past}
+use Rattle.smo_ops_spec.specs.ValidPast.{IsPast}
+use Rattle.smo_ops_spec.specs.Past.{Past, beginning, past_with}
+use Rattle.smo_ops_spec.proofs.PastSteps.{beginning_is_past}
 use Rattle.script_parse.specs.Script.{StatementPart, Whole as Text, Skipped}
-use Rattle.statement_response.specs.Given.{Given}
-use Rattle.statement_response.specs.Replies.{Recorded, recorded}
+use Rattle.script_cli_statement.specs.Given.{Given}
+use Rattle.script_cli_statement.specs.Replies.{Recorded, recorded}
 use Rattle.script_cli.specs.Output.{part_reply, recorded_after}
-use Rattle.statement_response.proofs.ReplyPasts.{IsOfScript, command_keeps, reply_keeps}
+use Rattle.script_cli_statement.proofs.ReplyPasts.{IsOfScript, command_keeps, reply_keeps}
 use Rattle.script_cli.proofs.SpelledConstants.{spelled_valid, named_valid}
 
 pub beginning_is : IsOfScript beginning

@@ -11,28 +11,28 @@ use Rattle.journal.specs.Mounting.{IsNotSynced, KeepsFile}
 use Rattle.journal.specs.JournalFiles.{Stands}
 use Rattle.journal.specs.Puts.{HoldsPrefix}
 use Rattle.journal.specs.Records.{Holds}
-use Rattle.archive_file.specs.LogRecords.{LogRecord, records_of, commands_in, AreSpelled}
-use Rattle.archive_file.specs.Opening.{Opens, Damages}
-use Rattle.archive_state.specs.ArchiveContents.{RepresentsSome}
+use Rattle.archive_core_file_spec.specs.LogRecords.{LogRecord, records_of, commands_in, AreSpelled}
+use Rattle.archive_core_file_spec.specs.Opening.{Opens, Damages}
+use Rattle.archive_core_state.specs.ArchiveContents.{RepresentsSome}
 use Rattle.archive_core.specs.declared.archive.Archive.{Archive}
-use Rattle.archive_replay.specs.declared.opened.Opened.{Opened}
+use Rattle.archive_core_replay.specs.declared.opened.Opened.{Opened}
 use Rattle.archive_core.specs.declared.fault.MountFault.{MountFault}
 use Rattle.archive_core.specs.declared.fault.MountFault.TheVariants as mounting
 use Rattle.archive_core.specs.Fields.{standing_of, below, place_of, limit_of}
 use Rattle.archive_core.specs.Holding.{HoldsAt}
 use Rattle.archive_core.specs.Mounting.{IsMounted}
-use Rattle.statement_response.specs.Due.{commands_due}
-use Rattle.statement_response.specs.Given.{Given}
-use Rattle.statement_response.specs.Replies.{Recorded}
+use Rattle.script_cli_statement.specs.Due.{commands_due}
+use Rattle.script_cli_statement.specs.Given.{Given}
+use Rattle.script_cli_statement.specs.Replies.{Recorded}
 use Rattle.script_cli.specs.Output.{script_puts, tail_text, tail_is_due}
-use Rattle.statement_response.specs.Putting.{HasPut}
+use Rattle.script_cli_statement.specs.Putting.{HasPut}
 use Rattle.answer_text.specs.Texts.{not_a_journal_text}
 use Rattle.script_cli.specs.Runs.{Ran, Log, PutsLine, counted_limit, logged_in}
-use Rattle.statement_response.specs.Responses.{TakesRecords}
+use Rattle.script_cli_statement.specs.Responses.{TakesRecords}
 use Rattle.script_cli.specs.Taking.{ending_after}
 use Rattle.script_cli.specs.declared.script_run.ScriptRun.{ScriptRun}
-use Rattle.statement_response.specs.declared.halt.Halt.{Halt}
-use Rattle.statement_response.specs.declared.halt.Halt.TheVariants as halt
+use Rattle.script_cli_statement.specs.declared.halt.Halt.{Halt}
+use Rattle.script_cli_statement.specs.declared.halt.Halt.TheVariants as halt
 use Rattle.script_cli.specs.declared.status.Status.{Status}
 use Rattle.script_cli.specs.declared.status.Status.TheVariants.{Done, Refused, WriteFault}
 use Rattle.script_cli.specs.declared.status.Status.TheVariants.{DiskFault, NotAJournal, NoMemory}

@@ -2,9 +2,9 @@
 use Rattle.std.specs.Prelude.{◌⊎◌, ◌≤◌, ℕ, List, ◌++◌, length, take}
 use Rattle.disk_model.specs.Meaning.{Meaning}
 use Rattle.disk_model.specs.Moments.{UntilSynced}
-use Rattle.archive_file.specs.LogRecords.{LogRecord}
-use Rattle.archive_file.specs.Opening.{Opens, IsSound}
-use Rattle.statement_response.specs.Due.{Due, AreFirstOf}
+use Rattle.archive_core_file_spec.specs.LogRecords.{LogRecord}
+use Rattle.archive_core_file_spec.specs.Opening.{Opens, IsSound}
+use Rattle.script_cli_statement.specs.Due.{Due, AreFirstOf}
 use Rattle.script_cli.specs.declared.status.Status.{Status}
 use Rattle.script_cli.specs.declared.status.Status.TheVariants.{DiskFault}
 

@@ -7,9 +7,9 @@ use Rattle.script_parse.specs.declared.mode.Mode.TheVariants.{Plain}
 use Rattle.script_parse.specs.declared.splitter.Tail.{Tail}
 use Rattle.script_parse.specs.declared.splitter.Tail.TheVariants as tail
 use Rattle.answer_text.specs.RefusalTexts.{refusal_text}
-use Rattle.statement_response.specs.Due.{Due}
-use Rattle.statement_response.specs.Given.{Given}
-use Rattle.statement_response.specs.Replies.{Recorded, Reply, reply, refused}
+use Rattle.script_cli_statement.specs.Due.{Due}
+use Rattle.script_cli_statement.specs.Given.{Given}
+use Rattle.script_cli_statement.specs.Replies.{Recorded, Reply, reply, refused}
 
 -- the reply to what a script has before a `;`
 abbrev pub part_reply : Given → Recorded → StatementPart → Reply

@@ -8,14 +8,14 @@ use Rattle.disk_model.specs.Meaning.{Meaning, Tells}
 use Rattle.disk_model.specs.Moments.{Turns}
 use Rattle.journal.specs.Mounting.{IsNotSynced, KeepsFile}
 use Rattle.journal.specs.Records.{Holds}
-use Rattle.archive_file.specs.LogRecords.{LogRecord, records_of}
-use Rattle.archive_file.specs.Opening.{Opens, Damages}
+use Rattle.archive_core_file_spec.specs.LogRecords.{LogRecord, records_of}
+use Rattle.archive_core_file_spec.specs.Opening.{Opens, Damages}
 use Rattle.script_parse.specs.Script.{StatementPart}
 use Rattle.answer_text.specs.Texts.{wrong_words_text, not_a_journal_text}
-use Rattle.piece_meaning.specs.Rules.{Book}
-use Rattle.statement_response.specs.Due.{Due, AreRecordsOf}
-use Rattle.statement_response.specs.Given.{Given}
-use Rattle.statement_response.specs.Replies.{Recorded, recorded}
+use Rattle.piece_ir_spec.specs.Rules.{Book}
+use Rattle.script_cli_statement.specs.Due.{Due, AreRecordsOf}
+use Rattle.script_cli_statement.specs.Given.{Given}
+use Rattle.script_cli_statement.specs.Replies.{Recorded, recorded}
 use Rattle.script_cli.specs.Output.{replies, all_puts, recorded_after, parts_of, ending_of}
 use Rattle.script_cli.specs.Output.{has_error, tail_text}
 use Rattle.script_cli.specs.Limits.{longest_script}

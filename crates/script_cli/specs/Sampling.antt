@@ -7,21 +7,21 @@ use Rattle.prima_io.specs.Moves.{AppendsLess}
 use Rattle.disk_model.specs.Meaning.{Meaning, Tells}
 use Rattle.disk_model.specs.Moments.{Turns}
 use Rattle.journal.specs.Records.{Holds}
-use Rattle.archive_file.specs.LogRecords.{LogRecord, records_of, commands_in}
-use Rattle.archive_file.specs.Opening.{Opens}
-use Rattle.program_words.specs.Words.{asked, request}
-use Rattle.program_words.specs.declared.request.Mode.TheVariants.{Sample}
-use Rattle.sample_script.specs.Statements.{sample_script}
-use Rattle.sample_script.specs.Summary.{summary}
-use Rattle.statement_response.specs.Due.{Due, AreRecordsOf, AreFirstOf, commands_due}
-use Rattle.statement_response.specs.Given.{Given}
-use Rattle.statement_response.specs.Replies.{Recorded, recorded}
+use Rattle.archive_core_file_spec.specs.LogRecords.{LogRecord, records_of, commands_in}
+use Rattle.archive_core_file_spec.specs.Opening.{Opens}
+use Rattle.script_cli_arguments.specs.Words.{asked, request}
+use Rattle.script_cli_arguments.specs.declared.request.Mode.TheVariants.{Sample}
+use Rattle.script_cli_sample.specs.Statements.{sample_script}
+use Rattle.script_cli_sample.specs.Summary.{summary}
+use Rattle.script_cli_statement.specs.Due.{Due, AreRecordsOf, AreFirstOf, commands_due}
+use Rattle.script_cli_statement.specs.Given.{Given}
+use Rattle.script_cli_statement.specs.Replies.{Recorded, recorded}
 use Rattle.script_cli.specs.Output.{output, has_error, script_puts}
 use Rattle.script_cli.specs.Files.{OpensPrefix}
 use Rattle.script_cli.specs.Runs.{NotOpened, is_whole}
 use Rattle.script_cli.specs.Driving.{Drove}
-use Rattle.statement_response.specs.declared.halt.Halt.{Halt}
-use Rattle.statement_response.specs.declared.halt.Halt.TheVariants as halt
+use Rattle.script_cli_statement.specs.declared.halt.Halt.{Halt}
+use Rattle.script_cli_statement.specs.declared.halt.Halt.TheVariants as halt
 use Rattle.script_cli.specs.declared.status.Status.{Status}
 use Rattle.script_cli.specs.declared.status.Status.TheVariants.{Done, Refused, WriteFault}
 use Rattle.script_cli.specs.declared.status.Status.TheVariants.{DiskFault, NoMemory}

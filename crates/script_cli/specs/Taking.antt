@@ -7,11 +7,11 @@ use Rattle.script_parse.specs.Script.{StatementPart, parts_from, tail_from, endi
 use Rattle.script_parse.specs.declared.splitter.Tail.{Tail}
 use Rattle.archive_core.specs.declared.archive.Archive.{Archive}
 use Rattle.script_cli.specs.declared.script_run.ScriptRun.{ScriptRun}
-use Rattle.statement_response.specs.declared.halt.Halt.{Halt}
-use Rattle.statement_response.specs.Due.{commands_due}
-use Rattle.statement_response.specs.Given.{Given}
-use Rattle.statement_response.specs.Replies.{Recorded, Reply, answered}
-use Rattle.statement_response.specs.Responses.{RepresentsAt, PutBetween, StopsIn}
+use Rattle.script_cli_statement.specs.declared.halt.Halt.{Halt}
+use Rattle.script_cli_statement.specs.Due.{commands_due}
+use Rattle.script_cli_statement.specs.Given.{Given}
+use Rattle.script_cli_statement.specs.Replies.{Recorded, Reply, answered}
+use Rattle.script_cli_statement.specs.Responses.{RepresentsAt, PutBetween, StopsIn}
 use Rattle.script_cli.specs.Output.{part_reply, replies, all_puts, recorded_after, any_error}
 
 -- the statements that bytes bring, after what the run has of its current one

@@ -5,10 +5,10 @@ ghost use Rattle.std.specs.Io.KnownBytes.{Consumes, IsAtEnd, Keeps};
 ghost use Rattle.prima_io.specs.Causes.{HasCause};
 ghost use Rattle.rewrite.specs.Books.{meaning_of};
 ghost use Rattle.archive_core.specs.Fields.{below, place_of};
-ghost use Rattle.statement_response.specs.Given.{Given};
-ghost use Rattle.statement_response.specs.Replies.{Recorded};
+ghost use Rattle.script_cli_statement.specs.Given.{Given};
+ghost use Rattle.script_cli_statement.specs.Replies.{Recorded};
 ghost use Rattle.script_cli.specs.Runs.{SourceCounted, SinkCounted, DiskCounted};
-ghost use Rattle.statement_response.specs.Responses.{RepresentsAt, TakesRecords};
+ghost use Rattle.script_cli_statement.specs.Responses.{RepresentsAt, TakesRecords};
 ghost use Rattle.script_cli.specs.Driving.{Drove, Ends, CountsPuts, status_of};
 
 use crate::SCRIPT_LIMIT;
@@ -17,8 +17,8 @@ use crate::status::Status;
 use archive_core::Archive;
 use disk_model::Disk;
 use prima_io::{Failed, Sink, Source};
-use rule_book::{Rule, RuleBook};
-use statement_response::{Halt, Put};
+use rewrite_rules_book::{Rule, RuleBook};
+use script_cli_statement::{Halt, Put};
 use std::alloc::Global;
 
 const CHUNK: usize = 4096;

@@ -2,8 +2,8 @@
 
 ghost use Rattle.std.specs.Prelude.{ℕ, List};
 ghost use Rattle.disk_model.specs.Moments.{UntilSynced};
-ghost use Rattle.archive_file.specs.LogRecords.{LogRecord};
-ghost use Rattle.statement_response.specs.Due.{Due};
+ghost use Rattle.archive_core_file_spec.specs.LogRecords.{LogRecord};
+ghost use Rattle.script_cli_statement.specs.Due.{Due};
 ghost use Rattle.script_cli.specs.Files.{CanBeRun, IsSoundFile, LeavesPrefix};
 
 use disk_model::Disk;

@@ -10,21 +10,21 @@ ghost use Rattle.script_parse.specs.Splitting.{fresh};
 ghost use Rattle.rewrite.specs.Books.{meaning_of};
 ghost use Rattle.archive_core.specs.Fields.{below};
 ghost use Rattle.answer_text.specs.RefusalTexts.{refusal_text};
-ghost use Rattle.statement_response.specs.Given.{Given};
-ghost use Rattle.statement_response.specs.Replies.{Recorded, reply, refused};
+ghost use Rattle.script_cli_statement.specs.Given.{Given};
+ghost use Rattle.script_cli_statement.specs.Replies.{Recorded, reply, refused};
 ghost use Rattle.script_cli.specs.Output.{tail_text, tail_is_due};
-ghost use Rattle.statement_response.specs.Halts.{HaltCounted};
-ghost use Rattle.statement_response.specs.Puts.{is_error};
+ghost use Rattle.script_cli_statement.specs.Halts.{HaltCounted};
+ghost use Rattle.script_cli_statement.specs.Puts.{is_error};
 ghost use Rattle.script_cli.specs.Taking.{Took, Answered, Halted, parts_after, ending_after};
-ghost use Rattle.statement_response.specs.Responses.{StopsIn, RepresentsAt, TakesRecords};
+ghost use Rattle.script_cli_statement.specs.Responses.{StopsIn, RepresentsAt, TakesRecords};
 
 use archive_core::Archive;
 use disk_model::Disk;
 use prima_base::{NoMemory, Refusal};
 use prima_io::{Failed, Sink};
-use rule_book::{Rule, RuleBook};
+use rewrite_rules_book::{Rule, RuleBook};
+use script_cli_statement::{Halt, Put, refuse, respond};
 use script_parse::{Cut, Splitter, Tail};
-use statement_response::{Halt, Put, refuse, respond};
 use std::alloc::Global;
 
 /// What cuts the script, whether an `error` line was put, and how many commands were.

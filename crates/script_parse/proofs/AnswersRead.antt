@@ -2,9 +2,9 @@
 use Rattle.std.proofs.Common.{◌≡◌, ℕ, List, ◌∷◌, ◌++◌, length, Option, Some, None, Result, Ok, Err}
 use Rattle.std.proofs.Common.{sym, subst}
 use Rattle.prima_base.specs.declared.refusal.What.{What}
-use Rattle.lexical_grammar.specs.Lexemes.{Lexeme}
-use Rattle.parser_combinators.specs.Grammar.{Size}
-use Rattle.parser_combinators.specs.Crossings.{IsFirstCrossing}
+use Rattle.lexer_spec.specs.Lexemes.{Lexeme}
+use Rattle.lexer_combinators.specs.Grammar.{Size}
+use Rattle.lexer_combinators.specs.Crossings.{IsFirstCrossing}
 use Rattle.script_parse.specs.declared.statement.ReadFault.{ReadFault}
 use Rattle.script_parse.specs.declared.statement.ReadFault.TheVariants.{NoMemory, Syntax, TooMany}
 use Rattle.script_parse.specs.declared.statement.Statement.{Statement}

@@ -2,14 +2,14 @@
 use Rattle.std.proofs.Common.{◌≡◌, ℕ, zero, suc, ◌+◌, Bool, true, false, not, cond, ◌||◌, ◌==◌}
 use Rattle.std.proofs.Common.{List, [], ◌∷◌, ◌++◌, length, drop, None, refl, sym, ap, ◌∙◌, subst}
 use Rattle.std.proofs.Common.{append-nil, arith, length-append}
-use Rattle.lexical_grammar.specs.declared.scanned.Scanned.{Scanned}
-use Rattle.lexical_grammar.specs.declared.scanned.Scanned.TheVariants.{End, Of, Bad, Open, Long}
-use Rattle.lexical_grammar.specs.declared.scanned.Scanned.TheVariants.{Big}
-use Rattle.lexical_grammar.specs.Bytes.{is_blank, gap_len, gap_dash, scanned}
-use Rattle.lexical_grammar.specs.Lexed.{Lexes, EndsBy, after_gap}
-use Rattle.lexical_grammar.specs.Spaced.{Each, in_line, IsGap, no_gap, a_blank, a_comment}
-use Rattle.lexical_grammar.specs.Spaced.{last_comment}
-use Rattle.lexical_grammar.proofs.Shapes.{spaced}
+use Rattle.lexer_spec.specs.declared.scanned.Scanned.{Scanned}
+use Rattle.lexer_spec.specs.declared.scanned.Scanned.TheVariants.{End, Of, Bad, Open, Long}
+use Rattle.lexer_spec.specs.declared.scanned.Scanned.TheVariants.{Big}
+use Rattle.lexer_spec.specs.Bytes.{is_blank, gap_len, gap_dash, scanned}
+use Rattle.lexer_spec.specs.Lexed.{Lexes, EndsBy, after_gap}
+use Rattle.lexer_spec.specs.Spaced.{Each, in_line, IsGap, no_gap, a_blank, a_comment}
+use Rattle.lexer_spec.specs.Spaced.{last_comment}
+use Rattle.lexer_spec.proofs.Shapes.{spaced}
 use Rattle.script_parse.specs.Pads.{has_line_end, ArePads, none, blank, comment, last}
 use Rattle.script_parse.specs.Lexing.{Placed, Lexed, Tokens, Faulty, after_token, by_scanned}
 use Rattle.script_parse.specs.Lexing.{lexed_from, lexed}

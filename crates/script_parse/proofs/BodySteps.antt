@@ -1,10 +1,10 @@
 -- What a command does, as the code reads it.
 use Rattle.std.proofs.Common.{◌≡◌, ℕ, true, false, cond, List, [], ◌∷◌, drop, codes, refl, ap}
-use Rattle.smo_types.specs.Commands.{changing}
-use Rattle.lexical_grammar.specs.Lexemes.{Lexeme, is_word}
-use Rattle.parser_combinators.specs.Parsing.{Takes, Whole, arm_run, map_to}
-use Rattle.parser_combinators.specs.Reads.{sees}
-use Rattle.parser_combinators.proofs.ReadSteps.{choose_takes}
+use Rattle.smo_ops_types.specs.Commands.{changing}
+use Rattle.lexer_spec.specs.Lexemes.{Lexeme, is_word}
+use Rattle.lexer_combinators.specs.Parsing.{Takes, Whole, arm_run, map_to}
+use Rattle.lexer_combinators.specs.Reads.{sees}
+use Rattle.lexer_combinators.proofs.ReadSteps.{choose_takes}
 use Rattle.script_parse.specs.StatementReader.{evolve_rest, change, changes, body}
 
 pub body_evolves : (n : ℕ) (ts : List Lexeme) → sees (is_word (codes "EVOLVE")) ts ≡ true

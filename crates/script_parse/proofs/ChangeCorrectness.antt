@@ -3,29 +3,29 @@ use Rattle.std.proofs.Common.{◌≡◌, ℕ, zero, suc, ◌+◌, Bool, false, c
 use Rattle.std.proofs.Common.{zip, length, inl, inr, refl, sym, ap, ◌∙◌, subst, codes, arith}
 use Rattle.prima_base.specs.declared.value.Value.{Value}
 use Rattle.cond_expr.specs.Trees.{Test, always}
-use Rattle.smo_types.specs.Changes.{PlainChange, insertion, deletion, update}
-use Rattle.lexical_grammar.specs.Lexemes.{Lexeme, word, sign, is_word, is_sign}
-use Rattle.parser_combinators.specs.Grammar.{Grammar}
-use Rattle.parser_combinators.specs.Parsing.{Parser, IsCorrectParser, Stops, No, Takes, bind, pure}
-use Rattle.parser_combinators.specs.Parsing.{lead, map_to, fresh}
-use Rattle.parser_combinators.specs.Grammar.{Size, no_end, AreMore}
-use Rattle.parser_combinators.specs.Grammar as grammar
-use Rattle.expr_grammar.specs.Grammar.{IsExpr, IsCond}
-use Rattle.expr_grammar.specs.Reader.{outermost, follow_expr, follow_cond}
-use Rattle.expr_grammar.specs.Constants.{name, name_grammar, names, names_grammar, constant}
-use Rattle.expr_grammar.specs.Constants.{constant_grammar}
-use Rattle.parser_combinators.proofs.Parsing.{correct_iff, correct_follow, bind_correct, bind_lead}
-use Rattle.parser_combinators.proofs.Parsing.{lead_correct, map_correct, pure_correct}
-use Rattle.parser_combinators.proofs.Parsing.{choose_correct, option_takes_correct}
-use Rattle.lexical_grammar.proofs.LexemeTests.{word_is, word_exact, sign_is, sign_exact}
-use Rattle.expr_grammar.proofs.Singles.{name_correct, names_correct, constant_correct}
-use Rattle.expr_grammar.proofs.Correctness.{fresh_expr_correct, fresh_cond_correct}
-use Rattle.expr_grammar.specs.Where.{IsFreshWhere, fresh_where, follow_where}
-use Rattle.expr_grammar.proofs.Where.{fresh_where_correct}
-use Rattle.parser_combinators.proofs.Alternatives.{stops_never, or_left, or_right, stops_fewer}
-use Rattle.parser_combinators.proofs.Alternatives.{NotFirst, NotNone, lead_not_none, lead_not_first}
-use Rattle.parser_combinators.proofs.Alternatives.{either_not_none, either_not_first, list_correct}
-use Rattle.parser_combinators.proofs.Alternatives.{last_arm, first_arm}
+use Rattle.smo_ops_types.specs.Changes.{PlainChange, insertion, deletion, update}
+use Rattle.lexer_spec.specs.Lexemes.{Lexeme, word, sign, is_word, is_sign}
+use Rattle.lexer_combinators.specs.Grammar.{Grammar}
+use Rattle.lexer_combinators.specs.Parsing.{Parser, IsCorrectParser, Stops, No, Takes, bind, pure}
+use Rattle.lexer_combinators.specs.Parsing.{lead, map_to, fresh}
+use Rattle.lexer_combinators.specs.Grammar.{Size, no_end, AreMore}
+use Rattle.lexer_combinators.specs.Grammar as grammar
+use Rattle.lexer_trees_spec.specs.Grammar.{IsExpr, IsCond}
+use Rattle.lexer_trees_spec.specs.Reader.{outermost, follow_expr, follow_cond}
+use Rattle.lexer_trees_spec.specs.Constants.{name, name_grammar, names, names_grammar, constant}
+use Rattle.lexer_trees_spec.specs.Constants.{constant_grammar}
+use Rattle.lexer_combinators.proofs.Parsing.{correct_iff, correct_follow, bind_correct, bind_lead}
+use Rattle.lexer_combinators.proofs.Parsing.{lead_correct, map_correct, pure_correct}
+use Rattle.lexer_combinators.proofs.Parsing.{choose_correct, option_takes_correct}
+use Rattle.lexer_spec.proofs.LexemeTests.{word_is, word_exact, sign_is, sign_exact}
+use Rattle.lexer_trees_spec.proofs.Singles.{name_correct, names_correct, constant_correct}
+use Rattle.lexer_trees_spec.proofs.Correctness.{fresh_expr_correct, fresh_cond_correct}
+use Rattle.lexer_trees_spec.specs.Where.{IsFreshWhere, fresh_where, follow_where}
+use Rattle.lexer_trees_spec.proofs.Where.{fresh_where_correct}
+use Rattle.lexer_combinators.proofs.Alternatives.{stops_never, or_left, or_right, stops_fewer}
+use Rattle.lexer_combinators.proofs.Alternatives.{NotFirst, NotNone, lead_not_none, lead_not_first}
+use Rattle.lexer_combinators.proofs.Alternatives.{either_not_none, either_not_first, list_correct}
+use Rattle.lexer_combinators.proofs.Alternatives.{last_arm, first_arm}
 use Rattle.script_parse.specs.Productions.{AreSoMany, IsRow, IsInsert, IsDelete, IsSetting}
 use Rattle.script_parse.specs.Productions.{IsUpdate, IsChange}
 use Rattle.script_parse.specs.StatementReader.{more_constants, constants, row, insert_rest}

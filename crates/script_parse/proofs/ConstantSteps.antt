@@ -2,16 +2,16 @@
 use Rattle.std.proofs.Common.{◌≡◌, ℕ, zero, suc, ◌-◌, ◌<◌, true, false, List, [], ◌∷◌, ◌++◌, drop}
 use Rattle.std.proofs.Common.{ap, ◌∙◌, append-nil, arith, codes, refl}
 use Rattle.prima_base.specs.declared.value.Value.{Value}
-use Rattle.lexical_grammar.specs.Lexemes.{Lexeme, is_sign}
-use Rattle.parser_combinators.specs.Parsing.{Out, Parsed, Unexpected, and_then, bind, map_to}
-use Rattle.parser_combinators.specs.Parsing.{prepend}
-use Rattle.expr_grammar.specs.Constants.{constant}
-use Rattle.parser_combinators.specs.Reads.{sees, Fails}
-use Rattle.parser_combinators.specs.declared.cursor.Stop.{Stop}
-use Rattle.parser_combinators.specs.declared.cursor.Stop.TheVariants as stop
-use Rattle.parser_combinators.specs.declared.cursor.Cursor.{Cursor}
-use Rattle.parser_combinators.proofs.ReadSteps.{lead_seen, lead_not, prepend_none, prepend_twice}
-use Rattle.parser_combinators.proofs.ReadSteps.{as_prepend}
+use Rattle.lexer_spec.specs.Lexemes.{Lexeme, is_sign}
+use Rattle.lexer_combinators.specs.Parsing.{Out, Parsed, Unexpected, and_then, bind, map_to}
+use Rattle.lexer_combinators.specs.Parsing.{prepend}
+use Rattle.lexer_trees_spec.specs.Constants.{constant}
+use Rattle.lexer_combinators.specs.Reads.{sees, Fails}
+use Rattle.lexer_combinators.specs.declared.cursor.Stop.{Stop}
+use Rattle.lexer_combinators.specs.declared.cursor.Stop.TheVariants as stop
+use Rattle.lexer_combinators.specs.declared.cursor.Cursor.{Cursor}
+use Rattle.lexer_combinators.proofs.ReadSteps.{lead_seen, lead_not, prepend_none, prepend_twice}
+use Rattle.lexer_combinators.proofs.ReadSteps.{as_prepend}
 use Rattle.script_parse.specs.StatementReader.{more_constants}
 
 step : (k n : ℕ) (ts : List Lexeme) → 0 < k → sees (is_sign (codes ",")) ts ≡ true

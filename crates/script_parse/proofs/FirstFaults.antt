@@ -4,11 +4,11 @@ use Rattle.std.proofs.Common.{◌∙◌, subst, append_assoc, append-nil, arith,
 use Rattle.std.proofs.Math.Seq.{take-append_seam}
 use Rattle.prima_base.specs.declared.refusal.What.{What}
 use Rattle.prima_base.specs.declared.refusal.What.TheVariants as what
-use Rattle.lexical_grammar.specs.Lexemes.{Lexeme}
-use Rattle.parser_combinators.specs.Parsing.{Out, Parsed, Unexpected, Parser, Explains, Fine}
-use Rattle.parser_combinators.specs.Parsing.{CanGoOn, Exceeds, IsCorrectParser}
-use Rattle.parser_combinators.specs.Grammar.{Size}
-use Rattle.parser_combinators.specs.Found.{IsFirst}
+use Rattle.lexer_spec.specs.Lexemes.{Lexeme}
+use Rattle.lexer_combinators.specs.Parsing.{Out, Parsed, Unexpected, Parser, Explains, Fine}
+use Rattle.lexer_combinators.specs.Parsing.{CanGoOn, Exceeds, IsCorrectParser}
+use Rattle.lexer_combinators.specs.Grammar.{Size}
+use Rattle.lexer_combinators.specs.Found.{IsFirst}
 use Rattle.script_parse.specs.Reading.{IsWithin}
 
 -- what is within the limits exceeds none

@@ -7,12 +7,12 @@ use Rattle.std.proofs.lemmas.Bool.Decides.{nat_tests}
 use Rattle.prima_base.specs.declared.refusal.Refusal.{Refusal}
 use Rattle.prima_base.specs.declared.refusal.Refusal.TheVariants as refusal
 use Rattle.prima_base.specs.declared.refusal.What.{What}
-use Rattle.lexical_grammar.specs.Lexemes.{Lexeme}
-use Rattle.parser_combinators.specs.Parsing.{Out, Parsed, Unexpected, LimitExceeded, CanGoOn, limit}
-use Rattle.parser_combinators.specs.Grammar.{Size}
-use Rattle.parser_combinators.specs.Found.{IsFirst}
-use Rattle.lexical_grammar.proofs.Cases.{by_test}
-use Rattle.parser_combinators.proofs.Crossing.{back_reads, over_at}
+use Rattle.lexer_spec.specs.Lexemes.{Lexeme}
+use Rattle.lexer_combinators.specs.Parsing.{Out, Parsed, Unexpected, LimitExceeded, CanGoOn, limit}
+use Rattle.lexer_combinators.specs.Grammar.{Size}
+use Rattle.lexer_combinators.specs.Found.{IsFirst}
+use Rattle.lexer_spec.proofs.Cases.{by_test}
+use Rattle.lexer_combinators.proofs.Crossing.{back_reads, over_at}
 use Rattle.script_parse.specs.Statements.{PlainStatement}
 use Rattle.script_parse.specs.Lexing.{Placed, Lexed, Tokens, Faulty, lexed, saying}
 use Rattle.script_parse.specs.Productions.{IsStatement}

@@ -3,7 +3,7 @@ use Rattle.std.proofs.Common.{◌≡◌, ℕ, Bool, true, false, List, [], ◌�
 use Rattle.std.proofs.Common.{subst, ◌∙◌, append_assoc, append-nil, inl, inr}
 use Rattle.std.specs.Prelude.{◌==◌, ◌||◌, ◌&&◌, ◌⊎◌, cond}
 use Rattle.std.proofs.lemmas.Bool.Decides.{nat_tests}
-use Rattle.lexical_grammar.specs.Bytes.{is_blank}
+use Rattle.lexer_spec.specs.Bytes.{is_blank}
 use Rattle.script_parse.specs.Script.{next, is_quiet, all_quiet, mode_after, is_settled}
 use Rattle.script_parse.specs.Script.{is_clean}
 use Rattle.script_parse.specs.Pads.{has_line_end, ArePads, none, blank, comment, last}

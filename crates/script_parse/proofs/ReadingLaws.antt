@@ -2,11 +2,11 @@
 use Rattle.std.proofs.Common.{◌≡◌, ℕ, zero, suc, ◌-◌, ◌<◌, ◌≤◌, List, [], ◌∷◌, ◌++◌, length, inl}
 use Rattle.std.proofs.Common.{inr, refl, sym, ap, ◌∙◌, subst, append_assoc, arith}
 use Rattle.prima_base.specs.declared.refusal.What.{What}
-use Rattle.lexical_grammar.specs.Lexemes.{Lexeme}
-use Rattle.parser_combinators.specs.Parsing.{Out, Parsed, Unexpected, LimitExceeded, Fine}
-use Rattle.parser_combinators.specs.Grammar.{Size}
-use Rattle.parser_combinators.specs.Found.{IsFirst}
-use Rattle.parser_combinators.proofs.Crossing.{back_reads, over_at, crossing_is_over}
+use Rattle.lexer_spec.specs.Lexemes.{Lexeme}
+use Rattle.lexer_combinators.specs.Parsing.{Out, Parsed, Unexpected, LimitExceeded, Fine}
+use Rattle.lexer_combinators.specs.Grammar.{Size}
+use Rattle.lexer_combinators.specs.Found.{IsFirst}
+use Rattle.lexer_combinators.proofs.Crossing.{back_reads, over_at, crossing_is_over}
 use Rattle.script_parse.specs.Statements.{PlainStatement}
 use Rattle.script_parse.specs.Lexing.{Placed, Lexed, Tokens, Faulty, lexed, saying}
 use Rattle.script_parse.specs.Productions.{IsStatement}

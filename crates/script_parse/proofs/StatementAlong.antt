@@ -3,50 +3,50 @@ use Rattle.std.proofs.Common.{◌≡◌, ℕ, false, List, [], ◌∷◌, ◌++�
 use Rattle.std.proofs.Common.{◌∙◌, subst, append-nil, codes}
 use Rattle.prima_base.specs.declared.refusal.What.TheVariants.{Inverse}
 use Rattle.cond_expr.specs.Trees.{always}
-use Rattle.smo_types.specs.Changes.{PlainChange, deletion, update}
-use Rattle.smo_types.specs.Commands.{PlainBody, changing, evolving}
-use Rattle.lexical_grammar.specs.Lexemes.{Lexeme, word, sign, is_word, is_sign}
-use Rattle.parser_combinators.specs.Grammar.{Grammar}
-use Rattle.parser_combinators.specs.Parsing.{Parsed, map_to, more, fresh}
-use Rattle.parser_combinators.specs.Grammar.{Size, AreMore, so_wide}
-use Rattle.parser_combinators.specs.Grammar as grammar
-use Rattle.expr_grammar.specs.Grammar.{IsExpr, IsCond}
-use Rattle.expr_grammar.specs.Reader.{outermost, follow_expr, follow_cond}
-use Rattle.parser_combinators.specs.Reads.{sees}
-use Rattle.expr_grammar.specs.Constants.{as_name, as_moment, as_small, as_constant, name}
-use Rattle.expr_grammar.specs.Constants.{name_grammar, names_grammar, moment, moment_grammar}
-use Rattle.expr_grammar.specs.Constants.{small_grammar, constant_grammar}
-use Rattle.expr_grammar.specs.TreeCounts.{expr_counts, cond_counts}
-use Rattle.parser_combinators.specs.ListCrossings.{Crossing, none_crossing, fresh_crossing}
-use Rattle.parser_combinators.specs.ListCrossings.{lead_crossing, map_crossing, bind_crossing}
-use Rattle.parser_combinators.specs.ListCrossings.{list_crossing, counted_crossing}
-use Rattle.lexical_grammar.proofs.Cases.{by_test}
-use Rattle.parser_combinators.proofs.Parsing.{side}
-use Rattle.lexical_grammar.proofs.LexemeTests.{word_is, word_exact, sign_is, sign_exact}
-use Rattle.expr_grammar.proofs.Singles.{name_correct, moment_correct}
-use Rattle.expr_grammar.proofs.Correctness.{outermost_correct}
-use Rattle.parser_combinators.proofs.Alternatives.{stops_never, or_left, or_right, list_not_none}
-use Rattle.parser_combinators.proofs.Alternatives.{list_not_first}
-use Rattle.expr_grammar.proofs.CountSizes.{expr_length, cond_length}
-use Rattle.expr_grammar.proofs.CountsJoined.{expr_counted, cond_counted}
-use Rattle.expr_grammar.specs.Where.{IsFreshWhere, fresh_where, follow_where, where_crossings}
-use Rattle.expr_grammar.proofs.Where.{fresh_where_along}
-use Rattle.parser_combinators.proofs.Crossing.{by_crossings}
-use Rattle.parser_combinators.proofs.AlongParts.{GoesAlong, Light, stops_along, lead_follow}
-use Rattle.parser_combinators.proofs.AlongParts.{after_follow, map_follow, bind_follow}
-use Rattle.parser_combinators.proofs.AlongParts.{option_follow, none_light, pure_light}
-use Rattle.parser_combinators.proofs.AlongParts.{single_light, lead_light, map_light, bind_light}
-use Rattle.parser_combinators.proofs.AlongParts.{list_light, light_along, light_follow}
-use Rattle.parser_combinators.proofs.AlongParts.{fresh_follow, list_follow, counted_follow}
+use Rattle.smo_ops_types.specs.Changes.{PlainChange, deletion, update}
+use Rattle.smo_ops_types.specs.Commands.{PlainBody, changing, evolving}
+use Rattle.lexer_spec.specs.Lexemes.{Lexeme, word, sign, is_word, is_sign}
+use Rattle.lexer_combinators.specs.Grammar.{Grammar}
+use Rattle.lexer_combinators.specs.Parsing.{Parsed, map_to, more, fresh}
+use Rattle.lexer_combinators.specs.Grammar.{Size, AreMore, so_wide}
+use Rattle.lexer_combinators.specs.Grammar as grammar
+use Rattle.lexer_trees_spec.specs.Grammar.{IsExpr, IsCond}
+use Rattle.lexer_trees_spec.specs.Reader.{outermost, follow_expr, follow_cond}
+use Rattle.lexer_combinators.specs.Reads.{sees}
+use Rattle.lexer_trees_spec.specs.Constants.{as_name, as_moment, as_small, as_constant, name}
+use Rattle.lexer_trees_spec.specs.Constants.{name_grammar, names_grammar, moment, moment_grammar}
+use Rattle.lexer_trees_spec.specs.Constants.{small_grammar, constant_grammar}
+use Rattle.lexer_trees_spec.specs.TreeCounts.{expr_counts, cond_counts}
+use Rattle.lexer_combinators.specs.ListCrossings.{Crossing, none_crossing, fresh_crossing}
+use Rattle.lexer_combinators.specs.ListCrossings.{lead_crossing, map_crossing, bind_crossing}
+use Rattle.lexer_combinators.specs.ListCrossings.{list_crossing, counted_crossing}
+use Rattle.lexer_spec.proofs.Cases.{by_test}
+use Rattle.lexer_combinators.proofs.Parsing.{side}
+use Rattle.lexer_spec.proofs.LexemeTests.{word_is, word_exact, sign_is, sign_exact}
+use Rattle.lexer_trees_spec.proofs.Singles.{name_correct, moment_correct}
+use Rattle.lexer_trees_spec.proofs.Correctness.{outermost_correct}
+use Rattle.lexer_combinators.proofs.Alternatives.{stops_never, or_left, or_right, list_not_none}
+use Rattle.lexer_combinators.proofs.Alternatives.{list_not_first}
+use Rattle.lexer_trees_spec.proofs.CountSizes.{expr_length, cond_length}
+use Rattle.lexer_trees_spec.proofs.CountsJoined.{expr_counted, cond_counted}
+use Rattle.lexer_trees_spec.specs.Where.{IsFreshWhere, fresh_where, follow_where, where_crossings}
+use Rattle.lexer_trees_spec.proofs.Where.{fresh_where_along}
+use Rattle.lexer_combinators.proofs.Crossing.{by_crossings}
+use Rattle.lexer_combinators.proofs.AlongParts.{GoesAlong, Light, stops_along, lead_follow}
+use Rattle.lexer_combinators.proofs.AlongParts.{after_follow, map_follow, bind_follow}
+use Rattle.lexer_combinators.proofs.AlongParts.{option_follow, none_light, pure_light}
+use Rattle.lexer_combinators.proofs.AlongParts.{single_light, lead_light, map_light, bind_light}
+use Rattle.lexer_combinators.proofs.AlongParts.{list_light, light_along, light_follow}
+use Rattle.lexer_combinators.proofs.AlongParts.{fresh_follow, list_follow, counted_follow}
 use Rattle.smo_parse.specs.Productions.{IsOperator}
 use Rattle.smo_parse.specs.OperatorReader.{operator, follow_operator}
 use Rattle.smo_parse.specs.OperatorCounts.{operator_counts}
 use Rattle.smo_parse.proofs.OperatorCorrectness.{operator_correct}
 use Rattle.smo_parse.proofs.OperatorCounted.{operator_counted, operator_length}
-use Rattle.query_grammar.specs.QueryGrammar.{IsAsk}
-use Rattle.query_grammar.specs.QueryReader as query
-use Rattle.query_grammar.specs.QueryCrossings.{ask_crossings}
-use Rattle.query_grammar.proofs.QueryAlong.{ask_along}
+use Rattle.temporal_lang_grammar_spec.specs.QueryGrammar.{IsAsk}
+use Rattle.temporal_lang_grammar_spec.specs.QueryReader as query
+use Rattle.temporal_lang_grammar_spec.specs.QueryCrossings.{ask_crossings}
+use Rattle.temporal_lang_grammar_spec.proofs.QueryAlong.{ask_along}
 use Rattle.script_parse.specs.Statements.{PlainStatement, write, ask, explain}
 use Rattle.script_parse.specs.Productions.{AreSoMany, IsRow, IsInsert, IsSetting, IsChange, IsOp}
 use Rattle.script_parse.specs.Productions.{AreOps, IsInverse, AreChanges, IsBody, IsShowVersions}

@@ -2,32 +2,32 @@
 use Rattle.std.proofs.Common.{◌≡◌, ℕ, Bool, false, cond, ◌||◌, List, [], ◌∷◌, ◌++◌, inl, inr, refl}
 use Rattle.std.proofs.Common.{sym, ap, ◌∙◌, subst, codes}
 use Rattle.prima_base.specs.declared.refusal.What.TheVariants.{Inverse}
-use Rattle.smo_types.specs.Operators.{Operator}
-use Rattle.smo_types.specs.Commands.{PlainBody, changing, evolving}
-use Rattle.lexical_grammar.specs.Lexemes.{Lexeme, word, is_word}
-use Rattle.parser_combinators.specs.Grammar.{Grammar}
-use Rattle.parser_combinators.specs.Parsing.{IsCorrectParser, Stops, Arm, No, Takes, Whole, pure}
-use Rattle.parser_combinators.specs.Parsing.{map_to, more}
-use Rattle.parser_combinators.specs.Grammar.{Size, AreMore, so_wide}
-use Rattle.parser_combinators.specs.Grammar as grammar
-use Rattle.expr_grammar.specs.Constants.{moment, moment_grammar, small, small_grammar}
-use Rattle.parser_combinators.proofs.Parsing.{correct_iff, correct_follow, bind_correct}
-use Rattle.parser_combinators.proofs.Parsing.{map_correct, lead_correct, pure_correct}
-use Rattle.parser_combinators.proofs.Parsing.{choose_correct, option_takes_correct, whole_correct}
-use Rattle.parser_combinators.proofs.Parsing.{more_correct, bind_more}
-use Rattle.lexical_grammar.proofs.LexemeTests.{word_is, word_exact}
-use Rattle.expr_grammar.proofs.Singles.{moment_correct, small_correct}
-use Rattle.parser_combinators.proofs.Fresh.{fresh_correct}
-use Rattle.parser_combinators.proofs.Alternatives.{or_left, or_right, stops_fewer, NotNone}
-use Rattle.parser_combinators.proofs.Alternatives.{lead_not_none, lead_not_first, either_not_none}
-use Rattle.parser_combinators.proofs.Alternatives.{either_not_first, list_not_none, list_not_first}
-use Rattle.parser_combinators.proofs.Alternatives.{last_arm, first_arm}
+use Rattle.smo_ops_types.specs.Operators.{Operator}
+use Rattle.smo_ops_types.specs.Commands.{PlainBody, changing, evolving}
+use Rattle.lexer_spec.specs.Lexemes.{Lexeme, word, is_word}
+use Rattle.lexer_combinators.specs.Grammar.{Grammar}
+use Rattle.lexer_combinators.specs.Parsing.{IsCorrectParser, Stops, Arm, No, Takes, Whole, pure}
+use Rattle.lexer_combinators.specs.Parsing.{map_to, more}
+use Rattle.lexer_combinators.specs.Grammar.{Size, AreMore, so_wide}
+use Rattle.lexer_combinators.specs.Grammar as grammar
+use Rattle.lexer_trees_spec.specs.Constants.{moment, moment_grammar, small, small_grammar}
+use Rattle.lexer_combinators.proofs.Parsing.{correct_iff, correct_follow, bind_correct}
+use Rattle.lexer_combinators.proofs.Parsing.{map_correct, lead_correct, pure_correct}
+use Rattle.lexer_combinators.proofs.Parsing.{choose_correct, option_takes_correct, whole_correct}
+use Rattle.lexer_combinators.proofs.Parsing.{more_correct, bind_more}
+use Rattle.lexer_spec.proofs.LexemeTests.{word_is, word_exact}
+use Rattle.lexer_trees_spec.proofs.Singles.{moment_correct, small_correct}
+use Rattle.lexer_combinators.proofs.Fresh.{fresh_correct}
+use Rattle.lexer_combinators.proofs.Alternatives.{or_left, or_right, stops_fewer, NotNone}
+use Rattle.lexer_combinators.proofs.Alternatives.{lead_not_none, lead_not_first, either_not_none}
+use Rattle.lexer_combinators.proofs.Alternatives.{either_not_first, list_not_none, list_not_first}
+use Rattle.lexer_combinators.proofs.Alternatives.{last_arm, first_arm}
 use Rattle.smo_parse.specs.Productions.{IsOperator}
 use Rattle.smo_parse.specs.OperatorReader.{operator, follow_operator}
 use Rattle.smo_parse.proofs.OperatorCorrectness.{operator_correct}
-use Rattle.query_grammar.specs.QueryGrammar.{IsAsk}
-use Rattle.query_grammar.specs.QueryReader as query
-use Rattle.query_grammar.proofs.QueryCorrectness.{ask_correct}
+use Rattle.temporal_lang_grammar_spec.specs.QueryGrammar.{IsAsk}
+use Rattle.temporal_lang_grammar_spec.specs.QueryReader as query
+use Rattle.temporal_lang_grammar_spec.proofs.QueryCorrectness.{ask_correct}
 use Rattle.script_parse.specs.Statements.{PlainStatement, write, ask, explain, show_versions}
 use Rattle.script_parse.specs.Statements.{show_schema, show_sizes, checkpoint}
 use Rattle.script_parse.specs.Productions.{IsChange, IsOp, AreOps, IsInverse, IsEvolve, AreChanges}

@@ -2,16 +2,16 @@
 use Rattle.std.proofs.Common.{◌≡◌, ℕ, zero, suc, ◌+◌, ◌<◌, ◌≤◌, false, List, [], ◌∷◌, length, map}
 use Rattle.std.proofs.Common.{take, drop, Option, Some, None, unwrap_or, refl, sym, ap, ◌∙◌, subst}
 use Rattle.std.proofs.Common.{arith, length-drop}
-use Rattle.lexical_grammar.specs.declared.fault.LexFault.{LexFault}
-use Rattle.lexical_grammar.specs.declared.fault.LexFault.TheVariants.{NoMemory, BadByte, OpenQuote}
-use Rattle.lexical_grammar.specs.declared.fault.LexFault.TheVariants.{BigNumber, LongText}
-use Rattle.lexical_grammar.specs.declared.kind.TokenKind.{TokenKind}
-use Rattle.lexical_grammar.specs.declared.scanned.Scanned.{Scanned}
-use Rattle.lexical_grammar.specs.declared.scanned.Scanned.TheVariants.{End, Of, Bad, Open, Long}
-use Rattle.lexical_grammar.specs.declared.scanned.Scanned.TheVariants.{Big}
-use Rattle.lexical_grammar.specs.declared.token.Token.{Token}
-use Rattle.lexical_grammar.specs.Bytes.{gap_len, scanned}
-use Rattle.lexical_grammar.specs.Lexed.{Lexes, EndsBy, after_gap}
+use Rattle.lexer_spec.specs.declared.fault.LexFault.{LexFault}
+use Rattle.lexer_spec.specs.declared.fault.LexFault.TheVariants.{NoMemory, BadByte, OpenQuote}
+use Rattle.lexer_spec.specs.declared.fault.LexFault.TheVariants.{BigNumber, LongText}
+use Rattle.lexer_spec.specs.declared.kind.TokenKind.{TokenKind}
+use Rattle.lexer_spec.specs.declared.scanned.Scanned.{Scanned}
+use Rattle.lexer_spec.specs.declared.scanned.Scanned.TheVariants.{End, Of, Bad, Open, Long}
+use Rattle.lexer_spec.specs.declared.scanned.Scanned.TheVariants.{Big}
+use Rattle.lexer_spec.specs.declared.token.Token.{Token}
+use Rattle.lexer_spec.specs.Bytes.{gap_len, scanned}
+use Rattle.lexer_spec.specs.Lexed.{Lexes, EndsBy, after_gap}
 use Rattle.script_parse.specs.Lexing.{Placed, Lexed, Tokens, Faulty, a_token, after_token}
 use Rattle.script_parse.specs.Lexing.{by_scanned}
 use Rattle.script_parse.specs.Lexing.{lexed_from, placed, fault_place, TextsAreLexed}

@@ -4,14 +4,14 @@ use Rattle.std.proofs.Common.{slice_index_or, Option, Some, None, Err, Result, r
 use Rattle.std.proofs.Common.{subst, arith, length-append}
 use Rattle.prima_base.specs.declared.refusal.Refusal.TheVariants.{Syntax, TooMany}
 use Rattle.prima_base.specs.declared.refusal.What.{What}
-use Rattle.lexical_grammar.specs.declared.fault.LexFault.{LexFault}
-use Rattle.lexical_grammar.specs.declared.fault.LexFault.TheVariants as lexical
-use Rattle.lexical_grammar.specs.declared.token.Token.{Token}
-use Rattle.lexical_grammar.specs.Lexed.{Lexes, Gives as FaultGives}
-use Rattle.lexical_grammar.specs.Lexemes.{Lexeme, lexeme}
-use Rattle.lexical_grammar.specs.Spaced.{Spaced}
-use Rattle.parser_combinators.specs.Parsing.{Parsed, Unexpected, LimitExceeded, limit}
-use Rattle.parser_combinators.proofs.Places.{length_map}
+use Rattle.lexer_spec.specs.declared.fault.LexFault.{LexFault}
+use Rattle.lexer_spec.specs.declared.fault.LexFault.TheVariants as lexical
+use Rattle.lexer_spec.specs.declared.token.Token.{Token}
+use Rattle.lexer_spec.specs.Lexed.{Lexes, Gives as FaultGives}
+use Rattle.lexer_spec.specs.Lexemes.{Lexeme, lexeme}
+use Rattle.lexer_spec.specs.Spaced.{Spaced}
+use Rattle.lexer_combinators.specs.Parsing.{Parsed, Unexpected, LimitExceeded, limit}
+use Rattle.lexer_combinators.proofs.Places.{length_map}
 use Rattle.script_parse.specs.declared.statement.ReadFault.{ReadFault}
 use Rattle.script_parse.specs.declared.statement.ReadFault.TheVariants as fault
 use Rattle.script_parse.specs.declared.statement.Statement.{Statement}

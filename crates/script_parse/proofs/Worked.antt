@@ -3,7 +3,7 @@ use Rattle.std.specs.Prelude.{◌≡◌, ℕ, ◌∷◌, [], List, pos, negsuc, 
 use Rattle.prima_base.specs.declared.refusal.Refusal.TheVariants.{Syntax, TooMany}
 use Rattle.prima_base.specs.declared.refusal.What.TheVariants.{Depth, Parts, Inverse, Tables}
 use Rattle.prima_base.specs.declared.refusal.What.TheVariants.{Outputs, Branches, Keeps}
-use Rattle.relations.specs.Spans.{forever}
+use Rattle.relations_spec.specs.Spans.{forever}
 use Rattle.prima_base.specs.declared.keep.Keep.TheVariants.{Lasting, Covering}
 use Rattle.prima_base.specs.declared.value.Value.{Value}
 use Rattle.prima_base.specs.declared.value.Value.TheVariants.{Int, Text}
@@ -11,22 +11,22 @@ use Rattle.prima_base.specs.declared.value.ColType.TheVariants.{Int as INT, Text
 use Rattle.cond_expr.specs.declared.expr.Whose.TheVariants.{Alias, Atom, Free}
 use Rattle.cond_expr.specs.declared.expr.CmpOp.TheVariants.{Eq, Gt}
 use Rattle.cond_expr.specs.Trees.{Tree, column, constant, always, compared}
-use Rattle.smo_types.specs.Operators.{nop, create_table, drop_table, rename_table, join_table}
-use Rattle.smo_types.specs.Changes.{insertion, deletion, update}
-use Rattle.smo_types.specs.Commands.{PlainBody, changing, evolving}
-use Rattle.lexical_grammar.specs.Bytes.{gap_len, gap_dash, scanned_from, text_value, quote_value}
-use Rattle.lexical_grammar.specs.Bytes.{text_from, text_quote}
-use Rattle.lexical_grammar.specs.Lexemes.{is_name}
-use Rattle.parser_combinators.specs.Parsing.{as_many, more, nodes_more}
-use Rattle.expr_grammar.specs.Constants.{name, names, small, moment, constant as const}
-use Rattle.expr_grammar.specs.Reader.{ref_rest, concat_rest, expr, comparison, bracketed, fact}
-use Rattle.expr_grammar.specs.Reader.{facts, conj, conjs, cond, outermost}
-use Rattle.expr_grammar.specs.Where.{outer_where, fresh_where}
+use Rattle.smo_ops_types.specs.Operators.{nop, create_table, drop_table, rename_table, join_table}
+use Rattle.smo_ops_types.specs.Changes.{insertion, deletion, update}
+use Rattle.smo_ops_types.specs.Commands.{PlainBody, changing, evolving}
+use Rattle.lexer_spec.specs.Bytes.{gap_len, gap_dash, scanned_from, text_value, quote_value}
+use Rattle.lexer_spec.specs.Bytes.{text_from, text_quote}
+use Rattle.lexer_spec.specs.Lexemes.{is_name}
+use Rattle.lexer_combinators.specs.Parsing.{as_many, more, nodes_more}
+use Rattle.lexer_trees_spec.specs.Constants.{name, names, small, moment, constant as const}
+use Rattle.lexer_trees_spec.specs.Reader.{ref_rest, concat_rest, expr, comparison, bracketed, fact}
+use Rattle.lexer_trees_spec.specs.Reader.{facts, conj, conjs, cond, outermost}
+use Rattle.lexer_trees_spec.specs.Where.{outer_where, fresh_where}
 use Rattle.smo_parse.specs.OperatorReader as smo
-use Rattle.query_types.specs.declared.when.When.TheVariants.{Always, AsOf, During}
-use Rattle.plain_answers.specs.Branches.{a_branch}
-use Rattle.query_types.specs.Queries.{PlainQuery, a_query}
-use Rattle.query_grammar.specs.QueryReader as query
+use Rattle.temporal_lang_types.specs.declared.when.When.TheVariants.{Always, AsOf, During}
+use Rattle.plain_answers_spec.specs.Branches.{a_branch}
+use Rattle.temporal_lang_types.specs.Queries.{PlainQuery, a_query}
+use Rattle.temporal_lang_grammar_spec.specs.QueryReader as query
 use Rattle.script_parse.specs.Statements.{ask, explain, write, show_versions, show_schema}
 use Rattle.script_parse.specs.Statements.{show_sizes, checkpoint}
 use Rattle.script_parse.specs.Lexing.{lexed_from}

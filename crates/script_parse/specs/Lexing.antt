@@ -1,17 +1,17 @@
 -- A text as its tokens, or as its first lexical fault.
 use Rattle.std.specs.Prelude.{◌≡◌, ℕ, zero, suc, ◌+◌, false, List, [], ◌∷◌, length, map, take, drop}
 use Rattle.std.specs.Prelude.{Option, Some, None}
-use Rattle.lexical_grammar.specs.declared.fault.LexFault.{LexFault}
-use Rattle.lexical_grammar.specs.declared.fault.LexFault.TheVariants.{NoMemory, BadByte, OpenQuote}
-use Rattle.lexical_grammar.specs.declared.fault.LexFault.TheVariants.{BigNumber, LongText}
-use Rattle.lexical_grammar.specs.declared.kind.TokenKind.{TokenKind}
-use Rattle.lexical_grammar.specs.declared.scanned.Scanned.{Scanned}
-use Rattle.lexical_grammar.specs.declared.scanned.Scanned.TheVariants.{End, Of, Bad, Open, Long}
-use Rattle.lexical_grammar.specs.declared.scanned.Scanned.TheVariants.{Big}
-use Rattle.lexical_grammar.specs.Bytes.{gap_len, scanned}
-use Rattle.lexical_grammar.specs.declared.token.Token.{Token}
-use Rattle.lexical_grammar.specs.Lexed.{Lexes, after_gap}
-use Rattle.lexical_grammar.specs.Lexemes.{Lexeme, says, lexeme}
+use Rattle.lexer_spec.specs.declared.fault.LexFault.{LexFault}
+use Rattle.lexer_spec.specs.declared.fault.LexFault.TheVariants.{NoMemory, BadByte, OpenQuote}
+use Rattle.lexer_spec.specs.declared.fault.LexFault.TheVariants.{BigNumber, LongText}
+use Rattle.lexer_spec.specs.declared.kind.TokenKind.{TokenKind}
+use Rattle.lexer_spec.specs.declared.scanned.Scanned.{Scanned}
+use Rattle.lexer_spec.specs.declared.scanned.Scanned.TheVariants.{End, Of, Bad, Open, Long}
+use Rattle.lexer_spec.specs.declared.scanned.Scanned.TheVariants.{Big}
+use Rattle.lexer_spec.specs.Bytes.{gap_len, scanned}
+use Rattle.lexer_spec.specs.declared.token.Token.{Token}
+use Rattle.lexer_spec.specs.Lexed.{Lexes, after_gap}
+use Rattle.lexer_spec.specs.Lexemes.{Lexeme, says, lexeme}
 
 -- what a token says, and the place of its first byte
 pub record Placed : Type 0 where

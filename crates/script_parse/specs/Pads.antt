@@ -1,6 +1,6 @@
 -- Blanks and comments alone, piece by piece.
 use Rattle.std.specs.Prelude.{◌≡◌, ℕ, List, [], ◌∷◌, ◌++◌, ◌==◌, ◌||◌, Bool, true, false}
-use Rattle.lexical_grammar.specs.Bytes.{is_blank}
+use Rattle.lexer_spec.specs.Bytes.{is_blank}
 
 -- the text has an LF
 abbrev pub has_line_end : List ℕ → Bool

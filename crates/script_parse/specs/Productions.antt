@@ -4,18 +4,18 @@ use Rattle.std.specs.Prelude.{◌≡◌, ℕ, false, List, [], ◌∷◌, length
 use Rattle.prima_base.specs.declared.refusal.What.TheVariants.{Inverse}
 use Rattle.prima_base.specs.declared.value.Value.{Value}
 use Rattle.cond_expr.specs.Trees.{Tree, Test, always}
-use Rattle.smo_types.specs.Operators.{Operator}
-use Rattle.smo_types.specs.Changes.{PlainChange, insertion, deletion, update}
-use Rattle.smo_types.specs.Commands.{PlainBody, changing, evolving}
-use Rattle.lexical_grammar.specs.Lexemes.{word, sign}
-use Rattle.parser_combinators.specs.Grammar.{Grammar, AreMore, so_wide, nothing_counted}
-use Rattle.parser_combinators.specs.Grammar as grammar
-use Rattle.expr_grammar.specs.Grammar.{IsExpr, IsCond}
-use Rattle.expr_grammar.specs.Constants.{name_grammar, names_grammar, moment_grammar, small_grammar}
-use Rattle.expr_grammar.specs.Constants.{constant_grammar}
-use Rattle.expr_grammar.specs.Where.{IsFreshWhere}
+use Rattle.smo_ops_types.specs.Operators.{Operator}
+use Rattle.smo_ops_types.specs.Changes.{PlainChange, insertion, deletion, update}
+use Rattle.smo_ops_types.specs.Commands.{PlainBody, changing, evolving}
+use Rattle.lexer_spec.specs.Lexemes.{word, sign}
+use Rattle.lexer_combinators.specs.Grammar.{Grammar, AreMore, so_wide, nothing_counted}
+use Rattle.lexer_combinators.specs.Grammar as grammar
+use Rattle.lexer_trees_spec.specs.Grammar.{IsExpr, IsCond}
+use Rattle.lexer_trees_spec.specs.Constants.{name_grammar, names_grammar, moment_grammar, small_grammar}
+use Rattle.lexer_trees_spec.specs.Constants.{constant_grammar}
+use Rattle.lexer_trees_spec.specs.Where.{IsFreshWhere}
 use Rattle.smo_parse.specs.Productions.{IsOperator}
-use Rattle.query_grammar.specs.QueryGrammar.{IsAsk}
+use Rattle.temporal_lang_grammar_spec.specs.QueryGrammar.{IsAsk}
 use Rattle.script_parse.specs.Statements.{PlainStatement, write, ask, explain, show_versions}
 use Rattle.script_parse.specs.Statements.{show_schema, show_sizes, checkpoint}
 

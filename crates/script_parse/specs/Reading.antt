@@ -5,12 +5,12 @@ use Rattle.prima_base.specs.declared.refusal.Refusal.{Refusal}
 use Rattle.prima_base.specs.declared.refusal.Refusal.TheVariants.{Syntax, TooMany}
 use Rattle.prima_base.specs.declared.refusal.What.{What}
 use Rattle.prima_base.specs.Limits.{max_nodes, max_depth}
-use Rattle.lexical_grammar.specs.Lexemes.{Lexeme}
-use Rattle.parser_combinators.specs.Parsing.{Out, Parsed, Unexpected, LimitExceeded, CanGoOn, Valid}
-use Rattle.parser_combinators.specs.Parsing.{Exceeds, limit}
-use Rattle.parser_combinators.specs.Grammar.{Size}
-use Rattle.parser_combinators.specs.Found.{IsFirst}
-use Rattle.parser_combinators.specs.Crossings.{IsFirstCrossing, CrossingsFirst}
+use Rattle.lexer_spec.specs.Lexemes.{Lexeme}
+use Rattle.lexer_combinators.specs.Parsing.{Out, Parsed, Unexpected, LimitExceeded, CanGoOn, Valid}
+use Rattle.lexer_combinators.specs.Parsing.{Exceeds, limit}
+use Rattle.lexer_combinators.specs.Grammar.{Size}
+use Rattle.lexer_combinators.specs.Found.{IsFirst}
+use Rattle.lexer_combinators.specs.Crossings.{IsFirstCrossing, CrossingsFirst}
 use Rattle.script_parse.specs.declared.statement.ReadFault.{ReadFault}
 use Rattle.script_parse.specs.declared.statement.ReadFault.TheVariants as fault
 use Rattle.script_parse.specs.declared.statement.Statement.{Statement}

@@ -2,7 +2,7 @@
 -- comment, and what stands after the last.
 use Rattle.std.specs.Prelude.{ℕ, List, [], ◌∷◌, ◌++◌, ◌==◌, ◌&&◌, ◌||◌, Bool, true, false, nat_lt}
 use Rattle.std.specs.Prelude.{length, map, if◌then◌else◌}
-use Rattle.lexical_grammar.specs.Bytes.{is_blank}
+use Rattle.lexer_spec.specs.Bytes.{is_blank}
 use Rattle.prima_base.specs.Limits.{max_statement}
 use Rattle.script_parse.specs.declared.mode.Mode.{Mode}
 use Rattle.script_parse.specs.declared.mode.Mode.TheVariants.{Plain, Dash, Quoted, Comment}

@@ -4,23 +4,23 @@
 use Rattle.std.specs.Prelude.{false, [], ◌∷◌, codes}
 use Rattle.prima_base.specs.declared.refusal.What.TheVariants.{Inverse}
 use Rattle.cond_expr.specs.Trees.{always}
-use Rattle.smo_types.specs.Changes.{deletion, update}
-use Rattle.smo_types.specs.Commands.{changing, evolving}
-use Rattle.lexical_grammar.specs.Lexemes.{word, sign}
-use Rattle.parser_combinators.specs.Grammar.{AreMore, so_wide}
-use Rattle.parser_combinators.specs.Grammar as grammar
-use Rattle.expr_grammar.specs.Grammar.{IsExpr, IsCond}
-use Rattle.expr_grammar.specs.Constants.{name_grammar, moment_grammar}
-use Rattle.expr_grammar.specs.TreeCounts.{expr_counts, cond_counts}
-use Rattle.expr_grammar.specs.Where.{IsFreshWhere, where_crossings}
-use Rattle.parser_combinators.specs.ListCrossings.{Crossing, none_crossing, fresh_crossing}
-use Rattle.parser_combinators.specs.ListCrossings.{lead_crossing, map_crossing, bind_crossing}
-use Rattle.parser_combinators.specs.ListCrossings.{option_crossing, either_crossing, list_crossing}
-use Rattle.parser_combinators.specs.ListCrossings.{counted_crossing}
+use Rattle.smo_ops_types.specs.Changes.{deletion, update}
+use Rattle.smo_ops_types.specs.Commands.{changing, evolving}
+use Rattle.lexer_spec.specs.Lexemes.{word, sign}
+use Rattle.lexer_combinators.specs.Grammar.{AreMore, so_wide}
+use Rattle.lexer_combinators.specs.Grammar as grammar
+use Rattle.lexer_trees_spec.specs.Grammar.{IsExpr, IsCond}
+use Rattle.lexer_trees_spec.specs.Constants.{name_grammar, moment_grammar}
+use Rattle.lexer_trees_spec.specs.TreeCounts.{expr_counts, cond_counts}
+use Rattle.lexer_trees_spec.specs.Where.{IsFreshWhere, where_crossings}
+use Rattle.lexer_combinators.specs.ListCrossings.{Crossing, none_crossing, fresh_crossing}
+use Rattle.lexer_combinators.specs.ListCrossings.{lead_crossing, map_crossing, bind_crossing}
+use Rattle.lexer_combinators.specs.ListCrossings.{option_crossing, either_crossing, list_crossing}
+use Rattle.lexer_combinators.specs.ListCrossings.{counted_crossing}
 use Rattle.smo_parse.specs.Productions.{IsOperator}
 use Rattle.smo_parse.specs.OperatorCounts.{operator_counts}
-use Rattle.query_grammar.specs.QueryGrammar.{IsAsk}
-use Rattle.query_grammar.specs.QueryCrossings.{ask_crossings}
+use Rattle.temporal_lang_grammar_spec.specs.QueryGrammar.{IsAsk}
+use Rattle.temporal_lang_grammar_spec.specs.QueryCrossings.{ask_crossings}
 use Rattle.script_parse.specs.Statements.{write, ask, explain}
 use Rattle.script_parse.specs.Productions.{IsInsert, IsDelete, IsSetting, IsUpdate, IsChange, IsOp}
 use Rattle.script_parse.specs.Productions.{AreOps, IsInverse, IsEvolve, AreChanges, IsBody, IsWrite}

@@ -4,17 +4,17 @@ use Rattle.std.specs.Prelude.{zip, codes}
 use Rattle.prima_base.specs.declared.refusal.What.TheVariants.{Inverse}
 use Rattle.prima_base.specs.declared.value.Value.{Value}
 use Rattle.cond_expr.specs.Trees.{Tree, Test, always}
-use Rattle.smo_types.specs.Operators.{Operator}
-use Rattle.smo_types.specs.Changes.{PlainChange, insertion, deletion, update}
-use Rattle.smo_types.specs.Commands.{PlainBody, changing, evolving}
-use Rattle.lexical_grammar.specs.Lexemes.{Lexeme, is_word, is_sign}
-use Rattle.parser_combinators.specs.Parsing.{Parser, Arm, No, Takes, Whole, bind, pure, map_to}
-use Rattle.parser_combinators.specs.Parsing.{lead, choose, option, more, many, fresh}
-use Rattle.expr_grammar.specs.Reader.{outermost, follow_expr, follow_cond}
-use Rattle.expr_grammar.specs.Constants.{name, names, moment, small, constant}
-use Rattle.expr_grammar.specs.Where.{fresh_where, follow_where}
+use Rattle.smo_ops_types.specs.Operators.{Operator}
+use Rattle.smo_ops_types.specs.Changes.{PlainChange, insertion, deletion, update}
+use Rattle.smo_ops_types.specs.Commands.{PlainBody, changing, evolving}
+use Rattle.lexer_spec.specs.Lexemes.{Lexeme, is_word, is_sign}
+use Rattle.lexer_combinators.specs.Parsing.{Parser, Arm, No, Takes, Whole, bind, pure, map_to}
+use Rattle.lexer_combinators.specs.Parsing.{lead, choose, option, more, many, fresh}
+use Rattle.lexer_trees_spec.specs.Reader.{outermost, follow_expr, follow_cond}
+use Rattle.lexer_trees_spec.specs.Constants.{name, names, moment, small, constant}
+use Rattle.lexer_trees_spec.specs.Where.{fresh_where, follow_where}
 use Rattle.smo_parse.specs.OperatorReader.{operator, follow_operator}
-use Rattle.query_grammar.specs.QueryReader as query
+use Rattle.temporal_lang_grammar_spec.specs.QueryReader as query
 use Rattle.script_parse.specs.Statements.{PlainStatement, write, ask, explain, show_versions}
 use Rattle.script_parse.specs.Statements.{show_schema, show_sizes, checkpoint}
 

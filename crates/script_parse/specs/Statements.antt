@@ -1,7 +1,7 @@
 -- Statements as plain data, and the one that a statement of the code stands for.
 use Rattle.std.specs.Prelude.{ℕ}
-use Rattle.smo_types.specs.Commands.{PlainCommand, command_of}
-use Rattle.query_types.specs.Queries.{PlainQuery, query_of}
+use Rattle.smo_ops_types.specs.Commands.{PlainCommand, command_of}
+use Rattle.temporal_lang_types.specs.Queries.{PlainQuery, query_of}
 use Rattle.script_parse.specs.declared.statement.Statement.{Statement}
 use Rattle.script_parse.specs.declared.statement.Statement.TheVariants.{Write, Ask, Explain}
 use Rattle.script_parse.specs.declared.statement.Statement.TheVariants.{ShowVersions, ShowSchema}

@@ -1,10 +1,10 @@
 //! Reading of changes of rows, from left to right.
 
 ghost use Rattle.std.specs.Prelude.{◌≡◌, ◌<◌, ◌≤◌, length, map, zip, codes, IfOk};
-ghost use Rattle.smo_types.specs.Changes.{change_of, changes_of, set_of_expr, sets_of};
-ghost use Rattle.lexical_grammar.specs.Lexemes.{is_word, is_sign};
-ghost use Rattle.parser_combinators.specs.Parsing.{many};
-ghost use Rattle.parser_combinators.specs.Reads.{Reads, ReadsMore, ahead};
+ghost use Rattle.smo_ops_types.specs.Changes.{change_of, changes_of, set_of_expr, sets_of};
+ghost use Rattle.lexer_spec.specs.Lexemes.{is_word, is_sign};
+ghost use Rattle.lexer_combinators.specs.Parsing.{many};
+ghost use Rattle.lexer_combinators.specs.Reads.{Reads, ReadsMore, ahead};
 ghost use Rattle.script_parse.specs.StatementReader as spec;
 
 use cond_expr::Expr;
@@ -58,7 +58,7 @@ fn paired(
 }
 
 // The constants of a row in their brackets, one for each name.
-#[tactic(auto, unfolding(crate::specs::StatementReader::row), using(parser_combinators::proofs::ReadSteps::lead_seen, parser_combinators::proofs::ReadSteps::lead_not))]
+#[tactic(auto, unfolding(crate::specs::StatementReader::row), using(lexer_combinators::proofs::ReadSteps::lead_seen, lexer_combinators::proofs::ReadSteps::lead_not))]
 fn row(alloc: Global, c: &mut Cursor<'_, '_>, names: Vec<Name>) -> Result<Vec<(Name, Value)>, Stop>
     ensures { Reads (λ v. v.items) (spec.row names.items c.old.nodes (ahead c.old)) result c.new }
 {
@@ -69,7 +69,7 @@ fn row(alloc: Global, c: &mut Cursor<'_, '_>, names: Vec<Name>) -> Result<Vec<(N
 }
 
 // What stands after INSERT.
-#[tactic(auto, unfolding(crate::specs::StatementReader::insert_rest), using(parser_combinators::proofs::ReadSteps::lead_seen, parser_combinators::proofs::ReadSteps::lead_not))]
+#[tactic(auto, unfolding(crate::specs::StatementReader::insert_rest), using(lexer_combinators::proofs::ReadSteps::lead_seen, lexer_combinators::proofs::ReadSteps::lead_not))]
 fn insert_rest(alloc: Global, c: &mut Cursor<'_, '_>) -> Result<Change, Stop>
     ensures { Reads change_of (spec.insert_rest c.old.nodes (ahead c.old)) result c.new }
 {
@@ -84,7 +84,7 @@ fn insert_rest(alloc: Global, c: &mut Cursor<'_, '_>) -> Result<Change, Stop>
 }
 
 // What stands after DELETE.
-#[tactic(auto, unfolding(crate::specs::StatementReader::delete_rest), using(parser_combinators::proofs::ReadSteps::lead_seen, parser_combinators::proofs::ReadSteps::lead_not))]
+#[tactic(auto, unfolding(crate::specs::StatementReader::delete_rest), using(lexer_combinators::proofs::ReadSteps::lead_seen, lexer_combinators::proofs::ReadSteps::lead_not))]
 fn delete_rest(alloc: Global, c: &mut Cursor<'_, '_>) -> Result<Change, Stop>
     ensures { Reads change_of (spec.delete_rest c.old.nodes (ahead c.old)) result c.new }
 {
@@ -95,7 +95,7 @@ fn delete_rest(alloc: Global, c: &mut Cursor<'_, '_>) -> Result<Change, Stop>
 }
 
 // A column, and what it is to have.
-#[tactic(auto, unfolding(crate::specs::StatementReader::setting), using(parser_combinators::proofs::ReadSteps::lead_seen, parser_combinators::proofs::ReadSteps::lead_not))]
+#[tactic(auto, unfolding(crate::specs::StatementReader::setting), using(lexer_combinators::proofs::ReadSteps::lead_seen, lexer_combinators::proofs::ReadSteps::lead_not))]
 fn setting(alloc: Global, c: &mut Cursor<'_, '_>) -> Result<(Name, Expr), Stop>
     ensures { Reads set_of_expr (spec.setting c.old.nodes (ahead c.old)) result c.new }
 {
@@ -132,7 +132,7 @@ fn settings(alloc: Global, c: &mut Cursor<'_, '_>) -> Result<Vec<(Name, Expr)>, 
 }
 
 // What stands after UPDATE.
-#[tactic(auto, unfolding(crate::specs::StatementReader::update_rest), using(parser_combinators::proofs::ReadSteps::lead_seen, parser_combinators::proofs::ReadSteps::lead_not))]
+#[tactic(auto, unfolding(crate::specs::StatementReader::update_rest), using(lexer_combinators::proofs::ReadSteps::lead_seen, lexer_combinators::proofs::ReadSteps::lead_not))]
 fn update_rest(alloc: Global, c: &mut Cursor<'_, '_>) -> Result<Change, Stop>
     ensures { Reads change_of (spec.update_rest c.old.nodes (ahead c.old)) result c.new }
 {
@@ -144,7 +144,7 @@ fn update_rest(alloc: Global, c: &mut Cursor<'_, '_>) -> Result<Change, Stop>
 }
 
 // A change.
-#[tactic(auto, unfolding(crate::specs::StatementReader::change), using(parser_combinators::proofs::ReadSteps::choose_takes, parser_combinators::proofs::ReadSteps::choose_no))]
+#[tactic(auto, unfolding(crate::specs::StatementReader::change), using(lexer_combinators::proofs::ReadSteps::choose_takes, lexer_combinators::proofs::ReadSteps::choose_no))]
 fn change(alloc: Global, c: &mut Cursor<'_, '_>) -> Result<Change, Stop>
     ensures { Reads change_of (spec.change c.old.nodes (ahead c.old)) result c.new }
 {

@@ -2,11 +2,11 @@
 
 ghost use Rattle.std.specs.Prelude.{◌≡◌, ◌<◌, length, codes};
 ghost use Rattle.prima_base.specs.declared.refusal.What.TheVariants as counted;
-ghost use Rattle.smo_types.specs.Operators.{operator_of, operators_of};
-ghost use Rattle.smo_types.specs.Commands.{body_of};
-ghost use Rattle.lexical_grammar.specs.Lexemes.{is_word};
-ghost use Rattle.parser_combinators.specs.Parsing.{more};
-ghost use Rattle.parser_combinators.specs.Reads.{Reads, ReadsMore, ahead};
+ghost use Rattle.smo_ops_types.specs.Operators.{operator_of, operators_of};
+ghost use Rattle.smo_ops_types.specs.Commands.{body_of};
+ghost use Rattle.lexer_spec.specs.Lexemes.{is_word};
+ghost use Rattle.lexer_combinators.specs.Parsing.{more};
+ghost use Rattle.lexer_combinators.specs.Reads.{Reads, ReadsMore, ahead};
 ghost use Rattle.script_parse.specs.StatementReader as spec;
 
 use lexer::{Cursor, Stop};
@@ -16,7 +16,7 @@ use smo_parse::operator;
 use std::alloc::Global;
 
 // An operator, with counts of its own.
-#[tactic(auto, unfolding(crate::specs::StatementReader::op), using(parser_combinators::proofs::ReadSteps::fresh_fails))]
+#[tactic(auto, unfolding(crate::specs::StatementReader::op), using(lexer_combinators::proofs::ReadSteps::fresh_fails))]
 fn op(alloc: Global, c: &mut Cursor<'_, '_>) -> Result<Op, Stop>
     ensures { Reads operator_of (spec.op c.old.nodes (ahead c.old)) result c.new }
 {
@@ -56,7 +56,7 @@ fn ops(alloc: Global, c: &mut Cursor<'_, '_>) -> Result<Vec<Op>, Stop>
 }
 
 // The inverse; a missing one has no operators.
-#[tactic(auto, unfolding(crate::specs::StatementReader::inverse), using(parser_combinators::proofs::ReadSteps::option_not, parser_combinators::proofs::ReadSteps::option_takes))]
+#[tactic(auto, unfolding(crate::specs::StatementReader::inverse), using(lexer_combinators::proofs::ReadSteps::option_not, lexer_combinators::proofs::ReadSteps::option_takes))]
 fn inverse(alloc: Global, c: &mut Cursor<'_, '_>) -> Result<Vec<Op>, Stop>
     ensures { Reads (λ v. operators_of v.items) (spec.inverse c.old.nodes (ahead c.old)) result
         c.new }

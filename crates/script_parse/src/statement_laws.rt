@@ -1,6 +1,6 @@
 //! Laws of statements and of their texts. Each is proved and does nothing.
 
-ghost use Rattle.parser_combinators.specs.Parsing.{IsCorrectParser};
+ghost use Rattle.lexer_combinators.specs.Parsing.{IsCorrectParser};
 ghost use Rattle.script_parse.specs.Lexing.{TextsAreLexed};
 ghost use Rattle.script_parse.specs.Productions.{IsStatement};
 ghost use Rattle.script_parse.specs.StatementReader.{statement, follow_statement};

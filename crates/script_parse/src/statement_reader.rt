@@ -1,12 +1,12 @@
 //! Reading of statements from their texts.
 
 ghost use Rattle.std.specs.Prelude.{◌≡◌, ◌≤◌, ◌<◌, ◌++◌, ◌∷◌, List, length, map};
-ghost use Rattle.smo_types.specs.Commands.{body_of};
+ghost use Rattle.smo_ops_types.specs.Commands.{body_of};
 ghost use Rattle.prima_base.specs.declared.refusal.What.{What as Counted};
-ghost use Rattle.lexical_grammar.specs.Lexemes.{Lexeme};
-ghost use Rattle.parser_combinators.specs.Grammar.{Size};
-ghost use Rattle.parser_combinators.specs.Crossings.{IsFirstCrossing};
-ghost use Rattle.parser_combinators.specs.Reads.{Reads, ahead};
+ghost use Rattle.lexer_spec.specs.Lexemes.{Lexeme};
+ghost use Rattle.lexer_combinators.specs.Grammar.{Size};
+ghost use Rattle.lexer_combinators.specs.Crossings.{IsFirstCrossing};
+ghost use Rattle.lexer_combinators.specs.Reads.{Reads, ahead};
 ghost use Rattle.script_parse.specs.declared.statement.ReadFault.TheVariants as fault;
 ghost use Rattle.script_parse.specs.Lexing.{Placed, Tokens, lexed, placed, saying, fault_place};
 ghost use Rattle.script_parse.specs.Statements.{PlainStatement, statement_of};
@@ -57,7 +57,7 @@ fn ask_rest(alloc: Global, c: &mut Cursor<'_, '_>) -> Result<Statement, Stop>
 }
 
 // What stands after EXPLAIN.
-#[tactic(auto, unfolding(crate::specs::StatementReader::explain_rest), using(parser_combinators::proofs::ReadSteps::lead_seen, parser_combinators::proofs::ReadSteps::lead_not))]
+#[tactic(auto, unfolding(crate::specs::StatementReader::explain_rest), using(lexer_combinators::proofs::ReadSteps::lead_seen, lexer_combinators::proofs::ReadSteps::lead_not))]
 fn explain_rest(alloc: Global, c: &mut Cursor<'_, '_>) -> Result<Statement, Stop>
     ensures { Reads statement_of (spec.explain_rest c.old.nodes (ahead c.old)) result c.new }
 {
@@ -76,7 +76,7 @@ fn schema_rest(c: &mut Cursor<'_, '_>) -> Result<Statement, Stop>
 }
 
 // What stands after SHOW.
-#[tactic(auto, unfolding(crate::specs::StatementReader::show_rest), using(parser_combinators::proofs::ReadSteps::choose_takes, parser_combinators::proofs::ReadSteps::choose_no))]
+#[tactic(auto, unfolding(crate::specs::StatementReader::show_rest), using(lexer_combinators::proofs::ReadSteps::choose_takes, lexer_combinators::proofs::ReadSteps::choose_no))]
 fn show_rest(c: &mut Cursor<'_, '_>) -> Result<Statement, Stop>
     ensures { Reads statement_of (spec.show_rest c.old.nodes (ahead c.old)) result c.new }
 {
@@ -96,7 +96,7 @@ fn show_rest(c: &mut Cursor<'_, '_>) -> Result<Statement, Stop>
 }
 
 // A statement.
-#[tactic(auto, unfolding(crate::specs::StatementReader::statement), using(parser_combinators::proofs::ReadSteps::choose_takes, parser_combinators::proofs::ReadSteps::choose_no))]
+#[tactic(auto, unfolding(crate::specs::StatementReader::statement), using(lexer_combinators::proofs::ReadSteps::choose_takes, lexer_combinators::proofs::ReadSteps::choose_no))]
 fn statement(alloc: Global, c: &mut Cursor<'_, '_>) -> Result<Statement, Stop>
     ensures { Reads statement_of (spec.statement c.old.nodes (ahead c.old)) result c.new }
 {

@@ -8,23 +8,23 @@ use Rattle.prima_base.specs.declared.refusal.OpRefusal.TheVariants.{SameTable, C
 use Rattle.prima_base.specs.Columns.{names_of}
 use Rattle.schema_catalog.specs.Tables.{Tables}
 use Rattle.schema_catalog.specs.Databases.{cell, DatabaseEntry, Rows, Database}
-use Rattle.smo_types.specs.declared.op.Op.{Op}
-use Rattle.smo_types.specs.Operators.{Operator, operator_of, nop, create_table, drop_table}
-use Rattle.smo_types.specs.Operators.{rename_table, copy_table, merge_table, partition_table}
-use Rattle.smo_types.specs.Operators.{decompose_table, join_table, add_column, drop_column}
-use Rattle.smo_types.specs.Operators.{rename_column}
+use Rattle.smo_ops_types.specs.declared.op.Op.{Op}
+use Rattle.smo_ops_types.specs.Operators.{Operator, operator_of, nop, create_table, drop_table}
+use Rattle.smo_ops_types.specs.Operators.{rename_table, copy_table, merge_table, partition_table}
+use Rattle.smo_ops_types.specs.Operators.{decompose_table, join_table, add_column, drop_column}
+use Rattle.smo_ops_types.specs.Operators.{rename_column}
 use Rattle.cond_expr.specs.Trees.{Tree}
-use Rattle.smo_meaning.specs.First.{first_refusal}
-use Rattle.smo_meaning.specs.OneRow.{Relation, same, meets}
-use Rattle.smo_meaning.specs.Effects.{columns_of}
-use Rattle.smo_meaning.specs.Preconditions.{among, differ, is_new}
-use Rattle.smo_meaning.specs.Making.{named, without, renamed, with_column, type_of_value, image}
-use Rattle.smo_meaning.specs.Making.{union, added, moved, join_rows, from_one, from_two}
-use Rattle.smo_meaning.specs.OperatorTable.{Made, line, made_names}
-use Rattle.smo_meaning.specs.Touching.{made_of}
-use Rattle.smo_meaning.specs.After.{op_fault, make_all, lose_all}
-use Rattle.smo_meaning.proofs.Firsts.{none_of_first, met}
-use Rattle.smo_meaning.proofs.NameLaws.{same_itself}
+use Rattle.smo_ops_spec.specs.First.{first_refusal}
+use Rattle.smo_ops_spec.specs.OneRow.{Relation, same, meets}
+use Rattle.smo_ops_spec.specs.Effects.{columns_of}
+use Rattle.smo_ops_spec.specs.Preconditions.{among, differ, is_new}
+use Rattle.smo_ops_spec.specs.Making.{named, without, renamed, with_column, type_of_value, image}
+use Rattle.smo_ops_spec.specs.Making.{union, added, moved, join_rows, from_one, from_two}
+use Rattle.smo_ops_spec.specs.OperatorTable.{Made, line, made_names}
+use Rattle.smo_ops_spec.specs.Touching.{made_of}
+use Rattle.smo_ops_spec.specs.After.{op_fault, make_all, lose_all}
+use Rattle.smo_ops_spec.proofs.Firsts.{none_of_first, met}
+use Rattle.smo_ops_spec.proofs.NameLaws.{same_itself}
 use Rattle.smo_maps.specs.Carrying.{AreIn, Has, AreMade, IsCarried}
 
 -- the two relations, each by the rows that it is made of

@@ -8,7 +8,7 @@ use Rattle.std.specs.declared.cmp.Ordering.TheVariants.{Less, Equal, Greater}
 use Rattle.std.proofs.lemmas.List.{append-nil}
 use Rattle.prima_base.specs.Order.{row_cmp}
 use Rattle.prima_base.specs.OrderLaws.{row_exact}
-use Rattle.smo_meaning.specs.OneRow.{Row, Relation}
+use Rattle.smo_ops_spec.specs.OneRow.{Row, Relation}
 
 pub row_same : (a b : Row) → is_eq (row_cmp a b) ≡ true → a ≡ b
 row_same a b e = step (row_cmp a b) refl e

@@ -11,9 +11,9 @@ use Rattle.prima_base.specs.OrderLaws.{row_eq_equiv}
 use Rattle.prima_base.specs.Columns.{Column, names_of}
 use Rattle.schema_catalog.specs.Databases.{cell}
 use Rattle.cond_expr.specs.Trees.{Test}
-use Rattle.smo_meaning.specs.OneRow.{Row, Relation, meets}
-use Rattle.smo_meaning.specs.Preconditions.{among}
-use Rattle.smo_meaning.specs.Making.{named, agree, joined_columns, joined_row}
+use Rattle.smo_ops_spec.specs.OneRow.{Row, Relation, meets}
+use Rattle.smo_ops_spec.specs.Preconditions.{among}
+use Rattle.smo_ops_spec.specs.Making.{named, agree, joined_columns, joined_row}
 use Rattle.smo_maps.specs.declared.source.Source.{Source}
 use Rattle.smo_maps.specs.Picking.{source_of, picked_row}
 use Rattle.smo_maps.specs.Keys.{common, of_key}

@@ -4,14 +4,14 @@ use Rattle.std.proofs.Common.{sym, ap, ◌∙◌}
 use Rattle.std.specs.declared.cmp.Ordering.{Ordering}
 use Rattle.std.specs.declared.cmp.Ordering.TheVariants.{Less, Equal, Greater}
 use Rattle.std.proofs.lemmas.List.{take_more}
-use Rattle.relations.specs.Sets.{put_in, placed, set_of}
-use Rattle.relations.proofs.SetLaws.{set_itself}
+use Rattle.relations_spec.specs.Sets.{put_in, placed, set_of}
+use Rattle.relations_spec.proofs.SetLaws.{set_itself}
 use Rattle.prima_base.specs.declared.value.ColType.{ColType}
 use Rattle.prima_base.specs.Order.{bytes_cmp}
 use Rattle.prima_base.specs.OrderLaws.{bytes_exact}
 use Rattle.prima_base.specs.Columns.{Column, names_of, AreColumns}
-use Rattle.smo_meaning.specs.Making.{column_cmp, with_column}
-use Rattle.smo_meaning.proofs.Insertions.{set_pushed}
+use Rattle.smo_ops_spec.specs.Making.{column_cmp, with_column}
+use Rattle.smo_ops_spec.proofs.Insertions.{set_pushed}
 
 names_both : (a b : List Column) → names_of (a ++ b) ≡ names_of a ++ names_of b
 names_both [] b = refl

@@ -3,7 +3,7 @@ use Rattle.std.proofs.Common.{◌≡◌, ℕ, suc, Bool, true, false, List, [], 
 use Rattle.std.proofs.Common.{◌∙◌}
 use Rattle.std.specs.Prelude.{cond, ◌||◌, Option, Some, None, is_some, pos, if◌then◌else◌}
 use Rattle.std.specs.Option.{option_map}
-use Rattle.relations.specs.Sets.{set_of}
+use Rattle.relations_spec.specs.Sets.{set_of}
 use Rattle.prima_base.specs.declared.value.Value.{Value}
 use Rattle.prima_base.specs.declared.value.Value.TheVariants.{Int}
 use Rattle.prima_base.specs.declared.value.ColType.{ColType}
@@ -11,10 +11,10 @@ use Rattle.prima_base.specs.Order.{row_cmp}
 use Rattle.prima_base.specs.Columns.{Column, names_of}
 use Rattle.prima_base.specs.OrderLaws.{same_is}
 use Rattle.schema_catalog.specs.Databases.{cell}
-use Rattle.smo_meaning.specs.OneRow.{Row, Relation, same}
-use Rattle.smo_meaning.specs.Preconditions.{among}
-use Rattle.smo_meaning.specs.Making.{image, joined_value, joined_columns, joined_row}
-use Rattle.smo_meaning.proofs.NameLaws.{same_turned}
+use Rattle.smo_ops_spec.specs.OneRow.{Row, Relation, same}
+use Rattle.smo_ops_spec.specs.Preconditions.{among}
+use Rattle.smo_ops_spec.specs.Making.{image, joined_value, joined_columns, joined_row}
+use Rattle.smo_ops_spec.proofs.NameLaws.{same_turned}
 use Rattle.smo_maps.specs.declared.source.Source.{Source}
 use Rattle.smo_maps.specs.Picking.{place_of, source_of, value_at, picked_value, picked_row}
 

@@ -4,11 +4,11 @@ use Rattle.std.specs.Prelude.{◌≡◌, List, [], ◌∷◌, ℕ, Some, ⊤}
 use Rattle.std.specs.FinMap.{get}
 use Rattle.schema_catalog.specs.Tables.{Tables}
 use Rattle.schema_catalog.specs.Databases.{Database, Rows}
-use Rattle.smo_types.specs.Operators.{Operator}
-use Rattle.smo_meaning.specs.OneRow.{Relation}
-use Rattle.smo_meaning.specs.Touching.{made_of}
-use Rattle.smo_meaning.specs.OperatorTable.{Made, line, made_names}
-use Rattle.smo_meaning.specs.After.{carried}
+use Rattle.smo_ops_types.specs.Operators.{Operator}
+use Rattle.smo_ops_spec.specs.OneRow.{Relation}
+use Rattle.smo_ops_spec.specs.Touching.{made_of}
+use Rattle.smo_ops_spec.specs.OperatorTable.{Made, line, made_names}
+use Rattle.smo_ops_spec.specs.After.{carried}
 
 -- the database has these relations under at most two names; where one is named, or none, what else
 -- is given counts for nothing

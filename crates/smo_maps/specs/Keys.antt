@@ -4,8 +4,8 @@ use Rattle.std.specs.List.{filter}
 use Rattle.std.specs.Ordering.{is_eq}
 use Rattle.prima_base.specs.Order.{row_cmp}
 use Rattle.prima_base.specs.Columns.{Column, names_of}
-use Rattle.smo_meaning.specs.OneRow.{Row, Relation}
-use Rattle.smo_meaning.specs.Making.{named}
+use Rattle.smo_ops_spec.specs.OneRow.{Row, Relation}
+use Rattle.smo_ops_spec.specs.Making.{named}
 use Rattle.smo_maps.specs.declared.source.Source.{Source}
 use Rattle.smo_maps.specs.Picking.{picked_row}
 

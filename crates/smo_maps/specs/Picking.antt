@@ -5,7 +5,7 @@ use Rattle.std.specs.Option.{unwrap_or, option_map}
 use Rattle.prima_base.specs.declared.value.Value.{Value}
 use Rattle.prima_base.specs.declared.value.Value.TheVariants.{Int}
 use Rattle.prima_base.specs.Columns.{Column}
-use Rattle.smo_meaning.specs.OneRow.{Row, same}
+use Rattle.smo_ops_spec.specs.OneRow.{Row, same}
 use Rattle.smo_maps.specs.declared.source.Source.{Source}
 
 -- the place of the first column with the name; none where there is no such column

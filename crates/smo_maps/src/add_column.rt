@@ -2,15 +2,15 @@
 //! one column more.
 
 ghost use Rattle.std.specs.Prelude.{◌≡◌, [], ◌∷◌, false, IfOk, map};
-ghost use Rattle.relations.specs.Sets.{set_of};
+ghost use Rattle.relations_spec.specs.Sets.{set_of};
 ghost use Rattle.prima_base.specs.declared.value.ColType.{ColType as OneType};
 ghost use Rattle.prima_base.specs.Order.{row_cmp};
 ghost use Rattle.prima_base.specs.Columns.{names_of, AreColumns};
 ghost use Rattle.cond_expr.specs.Seen.{tree};
 ghost use Rattle.cond_expr.specs.Values.{value};
-ghost use Rattle.smo_meaning.specs.OneRow.{own_cells, Row as OneRow};
-ghost use Rattle.smo_meaning.specs.Preconditions.{among};
-ghost use Rattle.smo_meaning.specs.Making.{with_column, image, added};
+ghost use Rattle.smo_ops_spec.specs.OneRow.{own_cells, Row as OneRow};
+ghost use Rattle.smo_ops_spec.specs.Preconditions.{among};
+ghost use Rattle.smo_ops_spec.specs.Making.{with_column, image, added};
 ghost use Rattle.smo_maps.specs.Picking.{picked_row};
 
 use crate::name::{names_of, put_in_order};

@@ -3,12 +3,12 @@
 
 ghost use Rattle.std.specs.Prelude.{◌≡◌, IfOk};
 ghost use Rattle.schema_catalog.specs.Databases.{cell};
-ghost use Rattle.smo_meaning.specs.Making.{named, image};
+ghost use Rattle.smo_ops_spec.specs.Making.{named, image};
 
 use crate::projection::projection;
 use prima_base::{ColType, Name, NoMemory, Row};
+use smo_ops_columns::columns_named;
 use std::alloc::Global;
-use table_columns::columns_named;
 
 /// The projection to the columns that are named.
 pub(crate) fn with_names(

@@ -2,12 +2,12 @@
 
 ghost use Rattle.std.specs.Prelude.{◌≡◌, IfOk};
 ghost use Rattle.schema_catalog.specs.Databases.{cell};
-ghost use Rattle.smo_meaning.specs.Making.{without, image};
+ghost use Rattle.smo_ops_spec.specs.Making.{without, image};
 
 use crate::projection::projection;
 use prima_base::{ColType, Name, NoMemory, Row};
+use smo_ops_columns::columns_without;
 use std::alloc::Global;
-use table_columns::columns_without;
 
 /// The projection without a column.
 pub(crate) fn without_column(

@@ -5,7 +5,7 @@ ghost use Rattle.std.specs.Option.{unwrap_or};
 ghost use Rattle.std.specs.Ordering.{is_eq};
 ghost use Rattle.std.specs.BTreeMap as tree;
 ghost use Rattle.prima_base.specs.Order.{row_cmp};
-ghost use Rattle.smo_meaning.specs.OneRow.{Row as OneRow};
+ghost use Rattle.smo_ops_spec.specs.OneRow.{Row as OneRow};
 ghost use Rattle.smo_maps.specs.Keys.{of_key};
 
 use crate::source::{Source, picked_row};
@@ -22,7 +22,7 @@ pub(crate) struct Group<'a> {
 
 impl<'a> Model for Group<'a> {
     ghost use Rattle.std.specs.Prelude.{map};
-    ghost use Rattle.smo_meaning.specs.OneRow.{Relation};
+    ghost use Rattle.smo_ops_spec.specs.OneRow.{Relation};
 
     ghost Value = { Relation };
 

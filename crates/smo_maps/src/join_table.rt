@@ -9,8 +9,8 @@ ghost use Rattle.std.specs.BTreeMap as tree;
 ghost use Rattle.prima_base.specs.Order.{row_cmp};
 ghost use Rattle.prima_base.specs.Columns.{names_of};
 ghost use Rattle.cond_expr.specs.Seen.{test};
-ghost use Rattle.smo_meaning.specs.OneRow.{Row as OneRow, Relation, meets};
-ghost use Rattle.smo_meaning.specs.Making.{join_rows};
+ghost use Rattle.smo_ops_spec.specs.OneRow.{Row as OneRow, Relation, meets};
+ghost use Rattle.smo_ops_spec.specs.Making.{join_rows};
 ghost use Rattle.smo_maps.specs.Picking.{picked_row};
 ghost use Rattle.smo_maps.specs.Keys.{common, of_key};
 
@@ -21,9 +21,9 @@ use crate::source::{Source, picked_row, sources_of};
 use cond_expr::Cond;
 use prima_base::{ColType, Name, NoMemory, Row};
 use smo_ops::{OwnColumns, make_set};
+use smo_ops_columns::{columns_named, joined_columns};
 use std::alloc::Global;
 use std::collections::BTreeMap;
-use table_columns::{columns_named, joined_columns};
 
 // Puts the row after the others where it meets the condition.
 fn push_where(met: bool, row: Row, made: &mut Vec<Row>) -> Result<(), NoMemory>

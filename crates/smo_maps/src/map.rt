@@ -1,6 +1,6 @@
 ghost use Rattle.std.specs.Prelude.{◌≡◌, [], None, IfOk};
-ghost use Rattle.smo_types.specs.Operators.{operator_of};
-ghost use Rattle.smo_meaning.specs.After.{op_fault};
+ghost use Rattle.smo_ops_types.specs.Operators.{operator_of};
+ghost use Rattle.smo_ops_spec.specs.After.{op_fault};
 ghost use Rattle.smo_maps.specs.Carrying.{IsCarried};
 
 use crate::add_column::with_value;

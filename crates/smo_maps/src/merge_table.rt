@@ -1,7 +1,7 @@
 //! The rows of the table that MERGE TABLE makes: those of two tables together.
 
 ghost use Rattle.std.specs.Prelude.{◌≡◌, ◌++◌, IfOk, OnOk};
-ghost use Rattle.smo_meaning.specs.Making.{union};
+ghost use Rattle.smo_ops_spec.specs.Making.{union};
 
 use prima_base::{NoMemory, Row};
 use smo_ops::make_set;

@@ -2,7 +2,7 @@
 //! made row stand.
 
 ghost use Rattle.std.specs.Prelude.{◌≡◌, IfOk};
-ghost use Rattle.relations.specs.Sets.{set_of};
+ghost use Rattle.relations_spec.specs.Sets.{set_of};
 ghost use Rattle.prima_base.specs.Columns.{names_of};
 ghost use Rattle.prima_base.specs.Order.{bytes_cmp};
 

@@ -3,7 +3,7 @@
 ghost use Rattle.std.specs.Prelude.{◌≡◌, IfOk};
 ghost use Rattle.cond_expr.specs.Seen.{tree, test};
 ghost use Rattle.cond_expr.specs.Values.{value};
-ghost use Rattle.smo_meaning.specs.OneRow.{own_cells, meets};
+ghost use Rattle.smo_ops_spec.specs.OneRow.{own_cells, meets};
 
 use cond_expr::{Cond, Expr, lend_row};
 use prima_base::{NoMemory, Row, Value};

@@ -3,7 +3,7 @@
 ghost use Rattle.std.specs.Prelude.{◌≡◌, [], ◌∷◌, ◌++◌, IfOk, OnOk, not, if◌then◌else◌};
 ghost use Rattle.std.specs.List.{filter};
 ghost use Rattle.cond_expr.specs.Seen.{test};
-ghost use Rattle.smo_meaning.specs.OneRow.{meets};
+ghost use Rattle.smo_ops_spec.specs.OneRow.{meets};
 
 use crate::Carried;
 use crate::one_row::is_met;

@@ -1,11 +1,11 @@
 //! The relation of the rows that are picked out of the rows of one table.
 
 ghost use Rattle.std.specs.Prelude.{◌≡◌, [], IfOk, map};
-ghost use Rattle.relations.specs.Sets.{set_of};
+ghost use Rattle.relations_spec.specs.Sets.{set_of};
 ghost use Rattle.prima_base.specs.Order.{row_cmp};
 ghost use Rattle.schema_catalog.specs.Databases.{cell};
-ghost use Rattle.smo_meaning.specs.OneRow.{Row as OneRow};
-ghost use Rattle.smo_meaning.specs.Making.{image};
+ghost use Rattle.smo_ops_spec.specs.OneRow.{Row as OneRow};
+ghost use Rattle.smo_ops_spec.specs.Making.{image};
 ghost use Rattle.smo_maps.specs.Picking.{picked_row};
 
 use crate::name::names_of;

@@ -2,16 +2,16 @@
 //! another name.
 
 ghost use Rattle.std.specs.Prelude.{◌≡◌, [], IfOk, map, if◌then◌else◌};
-ghost use Rattle.smo_meaning.specs.OneRow.{same};
-ghost use Rattle.smo_meaning.specs.Making.{renamed, image, moved};
+ghost use Rattle.smo_ops_spec.specs.OneRow.{same};
+ghost use Rattle.smo_ops_spec.specs.Making.{renamed, image, moved};
 ghost use Rattle.smo_maps.specs.Picking.{source_of};
 
 use crate::name::names_of;
 use crate::projection::image;
 use crate::source::{Source, source_of};
 use prima_base::{ColType, Name, NoMemory, Row};
+use smo_ops_columns::columns_renamed;
 use std::alloc::Global;
-use table_columns::columns_renamed;
 
 // The name that the column had.
 fn old_name<'a>(name: &'a Name, column: &'a Name, into: &Name) -> &'a Name

@@ -9,16 +9,16 @@ use Rattle.prima_base.specs.Columns.{Column, AreColumns}
 use Rattle.cond_expr.specs.declared.expr.Expr.{Expr}
 use Rattle.cond_expr.specs.Trees.{Test}
 use Rattle.cond_expr.specs.Faults.{test_references, first_unknown}
-use Rattle.smo_types.specs.Changes.{insertion, update, sets_of}
-use Rattle.smo_meaning.specs.First.{first_refusal}
-use Rattle.smo_meaning.specs.OneRow.{own_kinds}
-use Rattle.smo_meaning.specs.Checks.{Fault, AreSmall, pair_names, name_faults, missing_fault}
-use Rattle.smo_meaning.specs.Checks.{cell_faults, reference_fault, set_references, set_faults}
-use Rattle.smo_meaning.specs.Checks.{sets_nodes, test_fault, tests_after}
-use Rattle.smo_meaning.proofs.Firsts.{first_after, first_before, first_at, first_later, first_alone}
-use Rattle.smo_meaning.proofs.Firsts.{none_mapped}
+use Rattle.smo_ops_types.specs.Changes.{insertion, update, sets_of}
+use Rattle.smo_ops_spec.specs.First.{first_refusal}
+use Rattle.smo_ops_spec.specs.OneRow.{own_kinds}
+use Rattle.smo_ops_spec.specs.Checks.{Fault, AreSmall, pair_names, name_faults, missing_fault}
+use Rattle.smo_ops_spec.specs.Checks.{cell_faults, reference_fault, set_references, set_faults}
+use Rattle.smo_ops_spec.specs.Checks.{sets_nodes, test_fault, tests_after}
+use Rattle.smo_ops_spec.proofs.Firsts.{first_after, first_before, first_at, first_later, first_alone}
+use Rattle.smo_ops_spec.proofs.Firsts.{none_mapped}
 use Rattle.smo_ops.proofs.CheckLaws.{known_both}
-use Rattle.smo_meaning.proofs.FewNames.{few_names}
+use Rattle.smo_ops_spec.proofs.FewNames.{few_names}
 
 length_pairs : {X : Type 0} (pairs : List (List ℕ × X)) → length (pair_names pairs) ≡ length pairs
 length_pairs [] = refl

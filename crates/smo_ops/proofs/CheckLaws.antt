@@ -6,9 +6,9 @@ use Rattle.std.specs.Option.{option_map, option_or}
 use Rattle.std.proofs.lemmas.List.{take_more}
 use Rattle.prima_base.specs.declared.refusal.Refusal.TheVariants.{NoColumn, ColumnExists}
 use Rattle.prima_base.specs.Columns.{Column, names_of}
-use Rattle.smo_meaning.specs.First.{unless, where_so, first_refusal}
-use Rattle.smo_meaning.specs.Preconditions.{among}
-use Rattle.smo_meaning.specs.Checks.{pair_names, names_after}
+use Rattle.smo_ops_spec.specs.First.{unless, where_so, first_refusal}
+use Rattle.smo_ops_spec.specs.Preconditions.{among}
+use Rattle.smo_ops_spec.specs.Checks.{pair_names, names_after}
 use Rattle.prima_base.specs.declared.refusal.Refusal.{Refusal}
 use Rattle.cond_expr.specs.declared.expr.Expr.{Expr}
 use Rattle.cond_expr.specs.declared.expr.ColRef.{ColRef}
@@ -16,11 +16,11 @@ use Rattle.cond_expr.specs.Seen.{tree}
 use Rattle.cond_expr.specs.Sizes.{nodes_of}
 use Rattle.cond_expr.specs.Faults.{references, first_unknown}
 use Rattle.cond_expr.proofs.FaultLaws.{unknown_append}
-use Rattle.smo_types.specs.Changes.{sets_of}
-use Rattle.smo_meaning.specs.OneRow.{own_kinds}
-use Rattle.smo_meaning.specs.Checks.{AreSmall, reference_fault, set_references, set_tests}
-use Rattle.smo_meaning.specs.Checks.{set_faults, sets_nodes}
-use Rattle.smo_meaning.proofs.Firsts.{drop_at, none_mapped, first_before, first_after}
+use Rattle.smo_ops_types.specs.Changes.{sets_of}
+use Rattle.smo_ops_spec.specs.OneRow.{own_kinds}
+use Rattle.smo_ops_spec.specs.Checks.{AreSmall, reference_fault, set_references, set_tests}
+use Rattle.smo_ops_spec.specs.Checks.{set_faults, sets_nodes}
+use Rattle.smo_ops_spec.proofs.Firsts.{drop_at, none_mapped, first_before, first_after}
 
 pub pair_names_of : (columns : List Column) → pair_names columns ≡ names_of columns
 pair_names_of [] = refl

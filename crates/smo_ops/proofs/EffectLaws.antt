@@ -25,10 +25,10 @@ use Rattle.cond_expr.specs.declared.expr.Expr.{Expr}
 use Rattle.cond_expr.specs.Seen.{tree}
 use Rattle.cond_expr.specs.Values.{value}
 use Rattle.cond_expr.specs.Trees.{Tree}
-use Rattle.smo_meaning.specs.OneRow.{own_cells, given, set_value, with_sets}
+use Rattle.smo_ops_spec.specs.OneRow.{own_cells, given, set_value, with_sets}
 use Rattle.cond_expr.specs.AtomColumns.{columns_at}
-use Rattle.smo_types.specs.Changes.{sets_of}
-use Rattle.smo_meaning.proofs.Firsts.{drop_at}
+use Rattle.smo_ops_types.specs.Changes.{sets_of}
+use Rattle.smo_ops_spec.proofs.Firsts.{drop_at}
 
 none_free : (columns : List Column) (vs : List Val) (n : List ℕ)
     → flat (columns_at 0 columns) vs Free n ≡ Int (pos 0)

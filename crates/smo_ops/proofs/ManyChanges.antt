@@ -5,11 +5,11 @@ use Rattle.std.specs.Prelude.{Option, Some, None, map}
 use Rattle.std.proofs.lemmas.List.{map-append, take_more}
 use Rattle.prima_base.specs.declared.refusal.Refusal.{Refusal}
 use Rattle.schema_catalog.specs.Tables.{Tables, name_at}
-use Rattle.smo_types.specs.declared.change.Change.{Change}
-use Rattle.smo_types.specs.Changes.{PlainChange, change_of, changes_of, table_of}
-use Rattle.smo_meaning.specs.First.{first_refusal}
-use Rattle.smo_meaning.specs.Checks.{IsSmall, AllSmall, change_tests, changes_tests, change_nodes}
-use Rattle.smo_meaning.proofs.Firsts.{drop_at, first_before, first_after}
+use Rattle.smo_ops_types.specs.declared.change.Change.{Change}
+use Rattle.smo_ops_types.specs.Changes.{PlainChange, change_of, changes_of, table_of}
+use Rattle.smo_ops_spec.specs.First.{first_refusal}
+use Rattle.smo_ops_spec.specs.Checks.{IsSmall, AllSmall, change_tests, changes_tests, change_nodes}
+use Rattle.smo_ops_spec.proofs.Firsts.{drop_at, first_before, first_after}
 use Rattle.smo_ops.specs.TablePlaces.{StandAt}
 
 module _ (tables : Tables) (changes : List Change) (i at : ℕ) (c : Change)

@@ -4,9 +4,9 @@ use Rattle.std.specs.Prelude.{◌⊎◌, Some, None, Result, Ok, Err, IsOkUnless
 use Rattle.prima_base.specs.declared.refusal.Refusal.{Refusal}
 use Rattle.prima_base.specs.declared.fault.CallFault.{CallFault}
 use Rattle.prima_base.specs.declared.fault.CallFault.TheVariants.{Refused, NoMemory}
-use Rattle.smo_meaning.specs.First.{first_refusal}
+use Rattle.smo_ops_spec.specs.First.{first_refusal}
 use Rattle.prima_base.specs.Faults.{IsTested}
-use Rattle.smo_meaning.specs.Checks.{Fault}
+use Rattle.smo_ops_spec.specs.Checks.{Fault}
 use Rattle.smo_ops.specs.Walks.{IsWalked}
 
 -- what is refused by one test is refused by tests of which it is the first that is not met

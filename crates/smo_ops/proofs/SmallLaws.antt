@@ -12,20 +12,20 @@ use Rattle.prima_base.specs.Columns.{Column, AreColumns}
 use Rattle.schema_catalog.specs.Tables.{Tables, IsSchema}
 use Rattle.cond_expr.specs.Trees.{Tree}
 use Rattle.cond_expr.specs.Faults.{test_references}
-use Rattle.smo_types.specs.Changes.{PlainChange, insertion, deletion, update, table_of}
-use Rattle.smo_types.specs.Commands.{changing}
-use Rattle.smo_meaning.specs.First.{first_refusal}
-use Rattle.smo_meaning.specs.Effects.{columns_of}
-use Rattle.smo_meaning.specs.Preconditions.{AreNarrow}
-use Rattle.smo_meaning.specs.Counts.{at_most, tree_counts, test_counts, set_counts, change_counts}
-use Rattle.smo_meaning.specs.Counts.{first_excess}
-use Rattle.smo_meaning.specs.Checks.{AreSmall, IsSmall, AllSmall, pair_names, name_faults}
-use Rattle.smo_meaning.specs.Checks.{missing_fault, cell_faults, reference_fault, set_references}
-use Rattle.smo_meaning.specs.Checks.{set_faults, sets_nodes, test_fault, table_fault, tests_after}
-use Rattle.smo_meaning.specs.Checks.{change_tests, change_nodes}
-use Rattle.smo_meaning.proofs.Firsts.{none_of_both, none_of_first, met, first_alone}
+use Rattle.smo_ops_types.specs.Changes.{PlainChange, insertion, deletion, update, table_of}
+use Rattle.smo_ops_types.specs.Commands.{changing}
+use Rattle.smo_ops_spec.specs.First.{first_refusal}
+use Rattle.smo_ops_spec.specs.Effects.{columns_of}
+use Rattle.smo_ops_spec.specs.Preconditions.{AreNarrow}
+use Rattle.smo_ops_spec.specs.Counts.{at_most, tree_counts, test_counts, set_counts, change_counts}
+use Rattle.smo_ops_spec.specs.Counts.{first_excess}
+use Rattle.smo_ops_spec.specs.Checks.{AreSmall, IsSmall, AllSmall, pair_names, name_faults}
+use Rattle.smo_ops_spec.specs.Checks.{missing_fault, cell_faults, reference_fault, set_references}
+use Rattle.smo_ops_spec.specs.Checks.{set_faults, sets_nodes, test_fault, table_fault, tests_after}
+use Rattle.smo_ops_spec.specs.Checks.{change_tests, change_nodes}
+use Rattle.smo_ops_spec.proofs.Firsts.{none_of_both, none_of_first, met, first_alone}
 use Rattle.smo_ops.proofs.ChangeTests.{few_pairs}
-use Rattle.smo_meaning.proofs.SmallTrees.{fits, small_tree, small_test}
+use Rattle.smo_ops_spec.proofs.SmallTrees.{fits, small_tree, small_test}
 
 small_sets : (sets : List (List ℕ × Tree)) → first_refusal (set_counts sets) ≡ None → AreSmall sets
 small_sets [] e = tt

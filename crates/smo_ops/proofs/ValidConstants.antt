@@ -1,9 +1,9 @@
 -- One change more of those whose constants are valid.
 use Rattle.std.specs.Prelude.{◌≡◌, ◌<◌, ◌+◌, ℕ, List, ◌∷◌, length}
 use Rattle.std.proofs.Common.{suc, drop, get_or, drop-cons, add-one, sym, ap, subst, ◌∙◌}
-use Rattle.smo_types.specs.declared.change.Change.{Change}
-use Rattle.smo_types.specs.Changes.{change_of, changes_of}
-use Rattle.smo_meaning.specs.ValidValues.{ChangeHolds, ChangesHold}
+use Rattle.smo_ops_types.specs.declared.change.Change.{Change}
+use Rattle.smo_ops_types.specs.Changes.{change_of, changes_of}
+use Rattle.smo_ops_spec.specs.ValidValues.{ChangeHolds, ChangesHold}
 
 pub change_more : (changes : List Change) (i : ℕ) (c : Change) → i < length changes
     → c ≡ get_or changes i c → ChangeHolds (change_of c)

@@ -1,37 +1,36 @@
 ghost use Rattle.std.specs.Prelude.{◌≡◌, ◌++◌, ◌+◌, ◌<◌, ◌≤◌, ◌^◌, ◌∷◌, [], ◌⊎◌, length, Some};
 ghost use Rattle.std.specs.Prelude.{None, IsOkUnless, IsErrOf, IfOk, OnOk};
 ghost use Rattle.prima_base.specs.Columns.{AreColumns, names_of};
-ghost use Rattle.smo_meaning.specs.First.{first_refusal};
+ghost use Rattle.smo_ops_spec.specs.First.{first_refusal};
 ghost use Rattle.cond_expr.specs.Seen.{test};
 ghost use Rattle.cond_expr.specs.Sizes.{test_nodes};
 ghost use Rattle.cond_expr.specs.Faults.{test_references};
 ghost use Rattle.prima_base.specs.declared.refusal.Refusal.{Refusal as OneRefusal};
 ghost use Rattle.schema_catalog.specs.Tables.{IsSchema, name_at};
-ghost use Rattle.smo_types.specs.Commands.{changing};
-ghost use Rattle.smo_meaning.specs.Counts.{first_excess};
-ghost use Rattle.smo_types.specs.Changes.{insertion, update, change_of, changes_of, sets_of};
-ghost use Rattle.smo_types.specs.Changes.{table_of};
-ghost use Rattle.smo_meaning.specs.Preconditions.{AreNarrow};
+ghost use Rattle.smo_ops_types.specs.Commands.{changing};
+ghost use Rattle.smo_ops_spec.specs.Counts.{first_excess};
+ghost use Rattle.smo_ops_types.specs.Changes.{insertion, update, change_of, changes_of, sets_of};
+ghost use Rattle.smo_ops_types.specs.Changes.{table_of};
+ghost use Rattle.smo_ops_spec.specs.Preconditions.{AreNarrow};
 ghost use Rattle.prima_base.specs.Faults.{IsTested};
 ghost use Rattle.prima_base.specs.declared.fault.CallFault.TheVariants.{Refused};
 ghost use Rattle.prima_base.specs.declared.fault.CallFault.TheVariants.{NoMemory as OutOfMemory};
-ghost use Rattle.smo_meaning.specs.Checks.{IsSmall, AreSmall, pair_names, name_faults};
-ghost use Rattle.smo_meaning.specs.Checks.{missing_fault, cell_faults, reference_fault, test_fault};
-ghost use Rattle.smo_meaning.specs.Checks.{tests_after, change_fault, changes_fault, sets_nodes};
-ghost use Rattle.smo_meaning.specs.Checks.{change_nodes};
+ghost use Rattle.smo_ops_spec.specs.Checks.{IsSmall, AreSmall, pair_names, name_faults};
+ghost use Rattle.smo_ops_spec.specs.Checks.{missing_fault, cell_faults, reference_fault, test_fault};
+ghost use Rattle.smo_ops_spec.specs.Checks.{tests_after, change_fault, changes_fault, sets_nodes};
+ghost use Rattle.smo_ops_spec.specs.Checks.{change_nodes};
 ghost use Rattle.smo_ops.specs.TablePlaces.{StandAt};
 ghost use Rattle.smo_ops.specs.Walks.{IsWalked};
 
 use crate::type_check::{
     check_all_references, check_sets, check_test_references, check_test_types,
 };
-use cond_expr::{Cond, Expr};
-use expr_typing::value_kind;
+use cond_expr::{Cond, Expr, value_kind};
 use prima_base::{ColType, Name, NoMemory, Refusal, Value};
 use schema_catalog::Schema;
-use smo_types::{Change, ChangeFault};
+use smo_ops_columns::{OwnColumns, has_name, type_in};
+use smo_ops_types::{Change, ChangeFault};
 use std::alloc::Global;
-use table_columns::{OwnColumns, has_name, type_in};
 
 /// What checking an accepted change finds: where its table stands in the schema, from 0 in the
 /// order of names, and the number of the node after the change.

@@ -5,19 +5,19 @@ ghost use Rattle.prima_base.specs.declared.refusal.What.TheVariants.{Nodes, Dept
 ghost use Rattle.prima_base.specs.declared.refusal.What.TheVariants.{Inverse};
 ghost use Rattle.cond_expr.specs.Seen.{tree, test};
 ghost use Rattle.cond_expr.specs.Constants.{HasValid};
-ghost use Rattle.smo_meaning.specs.ValidValues.{CellsHold, SetsHold, ChangeHolds, ChangesHold};
-ghost use Rattle.smo_meaning.specs.ValidValues.{OperatorHolds, OperatorsHold, BodyHolds};
-ghost use Rattle.smo_types.specs.Operators.{operator_of, operators_of};
-ghost use Rattle.smo_types.specs.Changes.{change_of, changes_of, sets_of};
-ghost use Rattle.smo_types.specs.Commands.{changing, evolving, body_of};
-ghost use Rattle.smo_meaning.specs.First.{first_refusal};
-ghost use Rattle.smo_meaning.specs.Counts.{at_most, tree_counts, test_counts, set_counts};
-ghost use Rattle.smo_meaning.specs.Counts.{change_counts, operator_counts, first_excess};
+ghost use Rattle.smo_ops_spec.specs.ValidValues.{CellsHold, SetsHold, ChangeHolds, ChangesHold};
+ghost use Rattle.smo_ops_spec.specs.ValidValues.{OperatorHolds, OperatorsHold, BodyHolds};
+ghost use Rattle.smo_ops_types.specs.Operators.{operator_of, operators_of};
+ghost use Rattle.smo_ops_types.specs.Changes.{change_of, changes_of, sets_of};
+ghost use Rattle.smo_ops_types.specs.Commands.{changing, evolving, body_of};
+ghost use Rattle.smo_ops_spec.specs.First.{first_refusal};
+ghost use Rattle.smo_ops_spec.specs.Counts.{at_most, tree_counts, test_counts, set_counts};
+ghost use Rattle.smo_ops_spec.specs.Counts.{change_counts, operator_counts, first_excess};
 
 use cond_expr::{Cond, Expr, TreeSize, cond_size, expr_size};
 use prima_base::limits::{MAX_CHANGES, MAX_DEPTH, MAX_INVERSE, MAX_NODES, MAX_PARTS};
 use prima_base::{Name, Value, What};
-use smo_types::{Body, Change, Command, Op};
+use smo_ops_types::{Body, Change, Command, Op};
 
 /// Whether a tree's nodes, depth and parts are within their limits: else the first that is not,
 /// with its limit. It takes no memory.

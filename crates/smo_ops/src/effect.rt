@@ -4,22 +4,22 @@
 ghost use Rattle.std.specs.Prelude.{◌≡◌, All, IfOk, IfSome, List, Option, map};
 ghost use Rattle.std.specs.List.{AllZip, zip};
 ghost use Rattle.std.specs.Option.{option_map, unwrap_or};
-ghost use Rattle.relations.specs.Sets.{set_of};
+ghost use Rattle.relations_spec.specs.Sets.{set_of};
 ghost use Rattle.prima_base.specs.declared.value.Val.{Val as OneVal};
 ghost use Rattle.prima_base.specs.Order.{row_cmp, shown, IsBorrowed};
 ghost use Rattle.prima_base.specs.Columns.{Column as TableColumn, AreColumns, IsValid, IsRow};
 ghost use Rattle.cond_expr.specs.Rows.{AreValid};
 ghost use Rattle.cond_expr.specs.Seen.{tree, test};
 ghost use Rattle.cond_expr.specs.Values.{value};
-ghost use Rattle.smo_meaning.specs.OneRow.{own_cells, meets, given, row_of, set_value, with_sets};
+ghost use Rattle.smo_ops_spec.specs.OneRow.{own_cells, meets, given, row_of, set_value, with_sets};
 ghost use Rattle.cond_expr.specs.AtomColumns.{columns_at};
-ghost use Rattle.smo_types.specs.Changes.{sets_of};
+ghost use Rattle.smo_ops_types.specs.Changes.{sets_of};
 ghost use Rattle.schema_catalog.specs.Databases.{cell};
 
 use cond_expr::{Column, Cond, Expr, eval, holds};
 use prima_base::{ColType, Name, NoMemory, Row, Val, Value};
+use smo_ops_columns::OwnColumns;
 use std::alloc::Global;
-use table_columns::OwnColumns;
 
 /// The relation that the rows stand for: each row once, ascending. It takes no memory.
 pub fn make_set(rows: &mut Vec<Row>)

@@ -1,9 +1,9 @@
 //! Schema modification operators, changes of rows, and the commands that are made of them: what
 //! each means, and the checks before a command is accepted.
 //!
-//! The types stand in `smo_types`, with their plain mirrors that contracts see; what they mean in
-//! `smo_meaning`, and the ways from version to version in `version_ways`; the schema after an
-//! operator in `smo_schemas`. The checks and the effects of changes stand here, and all is exported
+//! The types stand in `smo_ops_types`, with their plain mirrors that contracts see; what they mean in
+//! `smo_ops_spec`, and the ways from version to version in `smo_ops_versions_spec`; the schema after an
+//! operator in `smo_ops_operators`. The checks and the effects of changes stand here, and all is exported
 //! again.
 #![tactic(auto)]
 
@@ -17,7 +17,12 @@ pub use check::{CheckedChange, check_change, check_changes};
 pub use count::{check_counts, check_evolve, check_size};
 pub use effect::{inserted_row, make_set, row_meets, row_value, row_with_sets};
 pub use prima_base::OpRefusal;
-pub use smo_meaning::{
+pub use smo_ops_columns::OwnColumns;
+pub use smo_ops_operators::{
+    Made, after, check_inverse, check_way_back, consumed, made, made_of, operator_refusal,
+    schema_after,
+};
+pub use smo_ops_spec::{
     a_command_is_judged_by_the_newest_schema, a_command_is_seen_from_its_stamp_on,
     a_past_has_the_states_of_its_history, a_version_is_in_force_up_to_the_next,
     add_column_keeps_the_cells, an_inverse_leads_back, carried_database_is_of_the_next_schema,
@@ -31,17 +36,12 @@ pub use smo_meaning::{
     partition_is_in_two_parts, pasts_that_agree_have_the_same_states,
     rename_column_keeps_the_cells, rename_keeps_the_rows, valid_values_stay,
 };
-pub use smo_schemas::{
-    Made, after, check_inverse, check_way_back, consumed, made, made_of, operator_refusal,
-    schema_after,
-};
-pub use smo_types::{
+pub use smo_ops_types::{
     Body, Change, ChangeFault, Command, InverseFault, Op, OpFault, Version, Versions,
 };
-pub use table_columns::OwnColumns;
-pub use version::begins_at;
-pub use version_ways::{
+pub use smo_ops_versions_spec::{
     a_lost_table_may_be_taken_for_an_empty_one, copied_and_dropped_is_as_before,
     names_tell_what_is_lost, partitioned_and_merged_is_as_before, renamed_back_is_as_before,
     the_way_is_step_by_step, the_way_keeps_a_database, the_way_keeps_valid_values,
 };
+pub use version::begins_at;

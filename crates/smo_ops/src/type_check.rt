@@ -2,18 +2,17 @@ ghost use Rattle.std.specs.Prelude.{◌≡◌, ◌++◌, ◌+◌, ◌<◌, ◌�
 ghost use Rattle.cond_expr.specs.Seen.{tree, test};
 ghost use Rattle.cond_expr.specs.Sizes.{nodes_of, test_nodes};
 ghost use Rattle.cond_expr.specs.Faults.{references, test_references, first_unknown};
-ghost use Rattle.smo_types.specs.Changes.{sets_of};
-ghost use Rattle.smo_meaning.specs.OneRow.{own_kinds};
+ghost use Rattle.smo_ops_types.specs.Changes.{sets_of};
+ghost use Rattle.smo_ops_spec.specs.OneRow.{own_kinds};
 ghost use Rattle.prima_base.specs.Faults.{IsTested};
-ghost use Rattle.smo_meaning.specs.Checks.{AreSmall, reference_fault, set_references, set_tests};
-ghost use Rattle.smo_meaning.specs.Checks.{set_faults, sets_nodes, test_fault};
+ghost use Rattle.smo_ops_spec.specs.Checks.{AreSmall, reference_fault, set_references, set_tests};
+ghost use Rattle.smo_ops_spec.specs.Checks.{set_faults, sets_nodes, test_fault};
 ghost use Rattle.smo_ops.specs.Walks.{IsWalked};
 
-use cond_expr::{Cond, Expr};
-use expr_typing::{typed_cond, typed_expr, unknown_of_cond, unknown_of_expr};
+use cond_expr::{Cond, Expr, typed_cond, typed_expr, unknown_of_cond, unknown_of_expr};
 use prima_base::{Name, Refusal};
-use smo_types::ChangeFault;
-use table_columns::{OwnColumns, type_in};
+use smo_ops_columns::{OwnColumns, type_in};
+use smo_ops_types::ChangeFault;
 
 // The first reference of an expression to no column of the table.
 fn check_references(own: &OwnColumns<'_>, expr: &Expr) -> Result<(), ChangeFault>

@@ -1,11 +1,11 @@
 //! When versions are in force.
 
 ghost use Rattle.std.specs.Prelude.{◌≡◌, map};
-ghost use Rattle.smo_types.specs.Commands.{version_of};
-ghost use Rattle.smo_meaning.specs.InForce.{begins_at};
+ghost use Rattle.smo_ops_types.specs.Commands.{version_of};
+ghost use Rattle.smo_ops_spec.specs.InForce.{begins_at};
 
 use prima_base::FOREVER;
-use smo_types::Version;
+use smo_ops_types::Version;
 
 /// The moment from which on the version with this number is in force, as `versions` are those from
 /// version 1 on: moment 0 of version 0, the stamp of another. Of one that is not there it is

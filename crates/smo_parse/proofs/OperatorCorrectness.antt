@@ -3,25 +3,25 @@ use Rattle.std.proofs.Common.{◌≡◌, ℕ, Bool, false, cond, ◌||◌, List,
 use Rattle.std.proofs.Common.{ap, codes}
 use Rattle.prima_base.specs.declared.value.ColType.TheVariants.{Int, Text}
 use Rattle.cond_expr.specs.Trees.{always}
-use Rattle.smo_types.specs.Operators.{Operator, nop, create_table, drop_table, rename_table}
-use Rattle.smo_types.specs.Operators.{copy_table, merge_table, partition_table, decompose_table}
-use Rattle.smo_types.specs.Operators.{join_table, add_column, drop_column, rename_column}
-use Rattle.lexical_grammar.specs.Lexemes.{Lexeme, word, sign, is_word, is_sign, is_one_of}
-use Rattle.parser_combinators.specs.Grammar.{Grammar}
-use Rattle.parser_combinators.specs.Parsing.{Parser, Arm, IsCorrectParser, No, Takes, bind, pure}
-use Rattle.parser_combinators.specs.Parsing.{lead, map_to}
-use Rattle.parser_combinators.specs.Grammar.{Size, nothing_counted}
-use Rattle.parser_combinators.specs.Grammar as grammar
-use Rattle.expr_grammar.specs.Reader.{outermost, follow_expr, follow_cond}
-use Rattle.expr_grammar.specs.Constants.{name, name_grammar, names, names_grammar}
-use Rattle.parser_combinators.proofs.Parsing.{correct_iff, correct_follow, bind_correct, bind_lead}
-use Rattle.parser_combinators.proofs.Parsing.{lead_correct, map_correct, pure_correct}
-use Rattle.parser_combinators.proofs.Parsing.{choose_correct, option_takes_correct, ArmCorrect}
-use Rattle.lexical_grammar.proofs.LexemeTests.{word_is, word_exact, sign_is, sign_exact}
-use Rattle.expr_grammar.proofs.Singles.{name_correct, names_correct, comma}
-use Rattle.expr_grammar.proofs.Correctness.{outermost_correct}
-use Rattle.expr_grammar.specs.Where.{IsWhere, outer_where, follow_where}
-use Rattle.expr_grammar.proofs.Where.{outer_where_correct}
+use Rattle.smo_ops_types.specs.Operators.{Operator, nop, create_table, drop_table, rename_table}
+use Rattle.smo_ops_types.specs.Operators.{copy_table, merge_table, partition_table, decompose_table}
+use Rattle.smo_ops_types.specs.Operators.{join_table, add_column, drop_column, rename_column}
+use Rattle.lexer_spec.specs.Lexemes.{Lexeme, word, sign, is_word, is_sign, is_one_of}
+use Rattle.lexer_combinators.specs.Grammar.{Grammar}
+use Rattle.lexer_combinators.specs.Parsing.{Parser, Arm, IsCorrectParser, No, Takes, bind, pure}
+use Rattle.lexer_combinators.specs.Parsing.{lead, map_to}
+use Rattle.lexer_combinators.specs.Grammar.{Size, nothing_counted}
+use Rattle.lexer_combinators.specs.Grammar as grammar
+use Rattle.lexer_trees_spec.specs.Reader.{outermost, follow_expr, follow_cond}
+use Rattle.lexer_trees_spec.specs.Constants.{name, name_grammar, names, names_grammar}
+use Rattle.lexer_combinators.proofs.Parsing.{correct_iff, correct_follow, bind_correct, bind_lead}
+use Rattle.lexer_combinators.proofs.Parsing.{lead_correct, map_correct, pure_correct}
+use Rattle.lexer_combinators.proofs.Parsing.{choose_correct, option_takes_correct, ArmCorrect}
+use Rattle.lexer_spec.proofs.LexemeTests.{word_is, word_exact, sign_is, sign_exact}
+use Rattle.lexer_trees_spec.proofs.Singles.{name_correct, names_correct, comma}
+use Rattle.lexer_trees_spec.proofs.Correctness.{outermost_correct}
+use Rattle.lexer_trees_spec.specs.Where.{IsWhere, outer_where, follow_where}
+use Rattle.lexer_trees_spec.proofs.Where.{outer_where_correct}
 use Rattle.smo_parse.specs.Productions.{IsType, IsColumn, AreColumns, IsPart, IsTest, IsTree}
 use Rattle.smo_parse.specs.Productions.{IsOperator}
 use Rattle.smo_parse.specs.OperatorReader.{type_arm, column_type, column, columns, create_rest}
@@ -30,10 +30,10 @@ use Rattle.smo_parse.specs.OperatorReader.{rename_table_rest, rename_column_rest
 use Rattle.smo_parse.specs.OperatorReader.{rename_rest, copy_rest, merge_rest, partition_rest, part}
 use Rattle.smo_parse.specs.OperatorReader.{decompose_rest, join_rest, add_rest, operator_arm}
 use Rattle.smo_parse.specs.OperatorReader.{operator, follow_operator}
-use Rattle.parser_combinators.proofs.Alternatives.{stops_never, or_left, or_right, NotFirst}
-use Rattle.parser_combinators.proofs.Alternatives.{NotNone, lead_not_none, lead_not_first}
-use Rattle.parser_combinators.proofs.Alternatives.{either_not_none, either_not_first, list_correct}
-use Rattle.parser_combinators.proofs.Alternatives.{last_arm, first_arm}
+use Rattle.lexer_combinators.proofs.Alternatives.{stops_never, or_left, or_right, NotFirst}
+use Rattle.lexer_combinators.proofs.Alternatives.{NotNone, lead_not_none, lead_not_first}
+use Rattle.lexer_combinators.proofs.Alternatives.{either_not_none, either_not_first, list_correct}
+use Rattle.lexer_combinators.proofs.Alternatives.{last_arm, first_arm}
 
 -- goes on with nothing
 abbrev pub ends : Lexeme → Bool

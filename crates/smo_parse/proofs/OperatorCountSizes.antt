@@ -3,13 +3,13 @@ use Rattle.std.proofs.Common.{◌≡◌, ℕ, zero, suc, max, false, List, [], �
 use Rattle.std.proofs.Common.{sym, ap, ◌∙◌, arith}
 use Rattle.std.proofs.Math.Nat.{zero-max}
 use Rattle.cond_expr.specs.Trees.{Test}
-use Rattle.smo_types.specs.Operators.{Operator}
-use Rattle.lexical_grammar.specs.Lexemes.{Lexeme}
-use Rattle.parser_combinators.specs.Grammar.{Size, nothing_counted}
-use Rattle.parser_combinators.specs.TokenCounts.{TokenCounts, plain, nodes_in, deepest, AddUp}
-use Rattle.expr_grammar.specs.TreeCounts.{expr_counts, cond_counts}
-use Rattle.expr_grammar.proofs.CountSizes.{nodes_append, expr_adds_up, cond_adds_up}
-use Rattle.expr_grammar.specs.Where.{IsWhere}
+use Rattle.smo_ops_types.specs.Operators.{Operator}
+use Rattle.lexer_spec.specs.Lexemes.{Lexeme}
+use Rattle.lexer_combinators.specs.Grammar.{Size, nothing_counted}
+use Rattle.lexer_combinators.specs.TokenCounts.{TokenCounts, plain, nodes_in, deepest, AddUp}
+use Rattle.lexer_trees_spec.specs.TreeCounts.{expr_counts, cond_counts}
+use Rattle.lexer_trees_spec.proofs.CountSizes.{nodes_append, expr_adds_up, cond_adds_up}
+use Rattle.lexer_trees_spec.specs.Where.{IsWhere}
 use Rattle.smo_parse.specs.Productions.{IsPartitionTable, IsJoinTable, IsAddColumn, IsOperator}
 use Rattle.smo_parse.specs.OperatorCounts.{uncounted, partition_counts, where_counts, join_counts}
 use Rattle.smo_parse.specs.OperatorCounts.{add_counts, operator_counts}

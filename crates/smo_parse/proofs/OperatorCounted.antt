@@ -4,25 +4,25 @@ use Rattle.std.proofs.Common.{Some, inl, inr, refl, sym, ap, ◌∙◌, subst, a
 use Rattle.std.proofs.Common.{length-append}
 use Rattle.prima_base.specs.declared.refusal.What.{What}
 use Rattle.cond_expr.specs.Trees.{Tree, Test}
-use Rattle.smo_types.specs.Operators.{Operator, partition_table, join_table, add_column}
-use Rattle.lexical_grammar.specs.Lexemes.{Lexeme, word, sign, is_word, is_sign}
-use Rattle.parser_combinators.specs.Grammar.{Grammar}
-use Rattle.parser_combinators.specs.Parsing.{Out, Parsed, Unexpected, LimitExceeded, Parser, Stops}
-use Rattle.parser_combinators.specs.Parsing.{Fine, Exceeds, limit, arm_run, single_arm, and_then}
-use Rattle.parser_combinators.specs.Parsing.{bind, pure, map_to, lead}
-use Rattle.parser_combinators.specs.Grammar.{Size, nothing_counted, both, no_end, AreMore}
-use Rattle.parser_combinators.specs.Grammar as grammar
-use Rattle.parser_combinators.specs.Derivations.{Derivation}
-use Rattle.expr_grammar.specs.Constants.{as_name, name, name_grammar, names_grammar}
-use Rattle.parser_combinators.specs.TokenCounts.{TokenCounts, plain}
-use Rattle.expr_grammar.specs.TreeCounts.{expr_counts, cond_counts}
-use Rattle.expr_grammar.specs.Reader.{outermost, level, follow_expr, follow_cond}
-use Rattle.expr_grammar.proofs.Endings.{expr_free, cond_free}
-use Rattle.parser_combinators.proofs.Counted.{along, bind_along, map_along, plain_along}
-use Rattle.expr_grammar.proofs.CountSizes.{expr_length, cond_length}
-use Rattle.expr_grammar.proofs.CountsJoined.{expr_read, cond_read, cond_counted}
-use Rattle.expr_grammar.specs.Where.{IsWhere, outer_where}
-use Rattle.parser_combinators.proofs.Places.{length_map}
+use Rattle.smo_ops_types.specs.Operators.{Operator, partition_table, join_table, add_column}
+use Rattle.lexer_spec.specs.Lexemes.{Lexeme, word, sign, is_word, is_sign}
+use Rattle.lexer_combinators.specs.Grammar.{Grammar}
+use Rattle.lexer_combinators.specs.Parsing.{Out, Parsed, Unexpected, LimitExceeded, Parser, Stops}
+use Rattle.lexer_combinators.specs.Parsing.{Fine, Exceeds, limit, arm_run, single_arm, and_then}
+use Rattle.lexer_combinators.specs.Parsing.{bind, pure, map_to, lead}
+use Rattle.lexer_combinators.specs.Grammar.{Size, nothing_counted, both, no_end, AreMore}
+use Rattle.lexer_combinators.specs.Grammar as grammar
+use Rattle.lexer_combinators.specs.Derivations.{Derivation}
+use Rattle.lexer_trees_spec.specs.Constants.{as_name, name, name_grammar, names_grammar}
+use Rattle.lexer_combinators.specs.TokenCounts.{TokenCounts, plain}
+use Rattle.lexer_trees_spec.specs.TreeCounts.{expr_counts, cond_counts}
+use Rattle.lexer_trees_spec.specs.Reader.{outermost, level, follow_expr, follow_cond}
+use Rattle.lexer_trees_spec.proofs.Endings.{expr_free, cond_free}
+use Rattle.lexer_combinators.proofs.Counted.{along, bind_along, map_along, plain_along}
+use Rattle.lexer_trees_spec.proofs.CountSizes.{expr_length, cond_length}
+use Rattle.lexer_trees_spec.proofs.CountsJoined.{expr_read, cond_read, cond_counted}
+use Rattle.lexer_trees_spec.specs.Where.{IsWhere, outer_where}
+use Rattle.lexer_combinators.proofs.Places.{length_map}
 use Rattle.smo_parse.specs.Productions.{IsType, IsColumn, AreColumns, IsPart, IsTest, IsTree, IsNop}
 use Rattle.smo_parse.specs.Productions.{IsCreateTable, IsDropTable, IsRenameTable, IsCopyTable}
 use Rattle.smo_parse.specs.Productions.{IsMergeTable, IsPartitionTable, IsDecomposeTable}

@@ -3,21 +3,21 @@ use Rattle.std.proofs.Common.{◌≡◌, ℕ, suc, ◌+◌, true, false, cond, L
 use Rattle.std.proofs.Common.{take, codes, inl, inr, refl, sym, ap, ◌∙◌, subst, arith}
 use Rattle.std.proofs.Common.{length-append}
 use Rattle.cond_expr.specs.Trees.{Test, always}
-use Rattle.smo_types.specs.Operators.{Operator, join_table}
-use Rattle.lexical_grammar.specs.Lexemes.{Lexeme, word, is_word}
-use Rattle.parser_combinators.specs.Grammar.{Grammar}
-use Rattle.parser_combinators.specs.Parsing.{Out, Parsed, Unexpected, LimitExceeded, Parser, Fine}
-use Rattle.parser_combinators.specs.Parsing.{Valid, CanGoOn, IsCorrectParser, and_then, pure}
-use Rattle.parser_combinators.specs.Grammar.{Size, nothing_counted, both}
-use Rattle.parser_combinators.specs.Derivations.{Derivation}
-use Rattle.expr_grammar.specs.Grammar as g
-use Rattle.expr_grammar.specs.Grammar.{leaf, IsCond}
-use Rattle.expr_grammar.specs.Reader.{outermost}
-use Rattle.parser_combinators.specs.Found.{Ends}
-use Rattle.lexical_grammar.proofs.Cases.{by_test}
-use Rattle.lexical_grammar.proofs.LexemeTests.{word_exact}
-use Rattle.expr_grammar.proofs.Longest.{cond_longest}
-use Rattle.expr_grammar.specs.Where.{IsWhere, outer_where}
+use Rattle.smo_ops_types.specs.Operators.{Operator, join_table}
+use Rattle.lexer_spec.specs.Lexemes.{Lexeme, word, is_word}
+use Rattle.lexer_combinators.specs.Grammar.{Grammar}
+use Rattle.lexer_combinators.specs.Parsing.{Out, Parsed, Unexpected, LimitExceeded, Parser, Fine}
+use Rattle.lexer_combinators.specs.Parsing.{Valid, CanGoOn, IsCorrectParser, and_then, pure}
+use Rattle.lexer_combinators.specs.Grammar.{Size, nothing_counted, both}
+use Rattle.lexer_combinators.specs.Derivations.{Derivation}
+use Rattle.lexer_trees_spec.specs.Grammar as g
+use Rattle.lexer_trees_spec.specs.Grammar.{leaf, IsCond}
+use Rattle.lexer_trees_spec.specs.Reader.{outermost}
+use Rattle.lexer_combinators.specs.Found.{Ends}
+use Rattle.lexer_spec.proofs.Cases.{by_test}
+use Rattle.lexer_spec.proofs.LexemeTests.{word_exact}
+use Rattle.lexer_trees_spec.proofs.Longest.{cond_longest}
+use Rattle.lexer_trees_spec.specs.Where.{IsWhere, outer_where}
 use Rattle.smo_parse.specs.Productions.{IsTest, IsNop, IsCreateTable, IsDropTable, IsRenameTable}
 use Rattle.smo_parse.specs.Productions.{IsCopyTable, IsMergeTable, IsPartitionTable}
 use Rattle.smo_parse.specs.Productions.{IsDecomposeTable, IsJoinTable, IsAddColumn, IsDropColumn}
@@ -25,7 +25,7 @@ use Rattle.smo_parse.specs.Productions.{IsRenameColumn, IsOperator}
 use Rattle.smo_parse.specs.OperatorReader.{operator, create_rest, drop_rest, rename_rest, copy_rest}
 use Rattle.smo_parse.specs.OperatorReader.{merge_rest, partition_rest, decompose_rest, add_rest}
 use Rattle.smo_parse.specs.OperatorReader.{follow_operator}
-use Rattle.parser_combinators.proofs.Alternatives.{stops_never}
+use Rattle.lexer_combinators.proofs.Alternatives.{stops_never}
 use Rattle.smo_parse.proofs.OperatorCorrectness.{ends, create_correct, drop_correct, rename_correct}
 use Rattle.smo_parse.proofs.OperatorCorrectness.{copy_correct, merge_correct, partition_correct}
 use Rattle.smo_parse.proofs.OperatorCorrectness.{decompose_correct, add_correct}

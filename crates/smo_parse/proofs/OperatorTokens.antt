@@ -1,17 +1,17 @@
 -- The parts of the operators that have a tree, by name, and the tokens that they are.
 use Rattle.std.proofs.Common.{◌≡◌, ℕ, List, [], ◌∷◌, ◌++◌, codes, Some, false, ap, ◌∙◌}
 use Rattle.std.proofs.Common.{refl}
-use Rattle.smo_types.specs.Operators.{Operator, partition_table, join_table, add_column}
-use Rattle.lexical_grammar.specs.Lexemes.{Lexeme, word, sign}
-use Rattle.parser_combinators.specs.Grammar.{Grammar, Size}
-use Rattle.parser_combinators.specs.Grammar as grammar
-use Rattle.parser_combinators.specs.Derivations.{Derivation, derivation, after_lexeme, first_of}
-use Rattle.parser_combinators.specs.Derivations.{rest_of, source_of, lexeme_of}
-use Rattle.parser_combinators.proofs.DerivationLaws.{made_value, lexeme_first, lexemes_joined}
-use Rattle.parser_combinators.proofs.DerivationLaws.{size_of_rest, size_of_first, lexeme_says}
-use Rattle.parser_combinators.proofs.DerivationLaws.{lexeme_size, lexeme_alone}
-use Rattle.expr_grammar.specs.Constants.{as_name, name_grammar}
-use Rattle.expr_grammar.specs.Where.{IsWhere}
+use Rattle.smo_ops_types.specs.Operators.{Operator, partition_table, join_table, add_column}
+use Rattle.lexer_spec.specs.Lexemes.{Lexeme, word, sign}
+use Rattle.lexer_combinators.specs.Grammar.{Grammar, Size}
+use Rattle.lexer_combinators.specs.Grammar as grammar
+use Rattle.lexer_combinators.specs.Derivations.{Derivation, derivation, after_lexeme, first_of}
+use Rattle.lexer_combinators.specs.Derivations.{rest_of, source_of, lexeme_of}
+use Rattle.lexer_combinators.proofs.DerivationLaws.{made_value, lexeme_first, lexemes_joined}
+use Rattle.lexer_combinators.proofs.DerivationLaws.{size_of_rest, size_of_first, lexeme_says}
+use Rattle.lexer_combinators.proofs.DerivationLaws.{lexeme_size, lexeme_alone}
+use Rattle.lexer_trees_spec.specs.Constants.{as_name, name_grammar}
+use Rattle.lexer_trees_spec.specs.Where.{IsWhere}
 use Rattle.smo_parse.specs.Productions.{IsTest, IsTree, IsPartitionTable, IsJoinTable, IsAddColumn}
 use Rattle.smo_parse.specs.OperatorParts.{partition_condition, join_condition, column_value}
 

@@ -5,21 +5,21 @@ use Rattle.std.proofs.Common.{arith}
 use Rattle.std.proofs.Math.Nat.{max-le}
 use Rattle.prima_base.specs.declared.refusal.What.{What}
 use Rattle.prima_base.specs.declared.refusal.What.TheVariants as what
-use Rattle.smo_types.specs.declared.op.Op.{Op}
-use Rattle.smo_types.specs.Operators.{Operator, operator_of}
-use Rattle.lexical_grammar.specs.declared.token.Token.{Token}
-use Rattle.lexical_grammar.specs.declared.kind.TokenKind.{TokenKind}
-use Rattle.lexical_grammar.specs.declared.kind.TokenKind.TheVariants.{Word, Number, Text, Sign}
-use Rattle.lexical_grammar.specs.declared.scanned.Scanned.TheVariants.{Of}
-use Rattle.parser_combinators.specs.declared.fault.ParseFault.{ParseFault}
-use Rattle.parser_combinators.specs.declared.fault.ParseFault.TheVariants as fault
-use Rattle.lexical_grammar.specs.Bytes.{scanned}
-use Rattle.lexical_grammar.specs.Lexemes.{Lexeme, says, lexeme}
-use Rattle.parser_combinators.specs.Parsing.{Out, Parsed, Unexpected, LimitExceeded, Fine, Exceeds}
-use Rattle.parser_combinators.specs.Parsing.{Valid as WithinLimits, limit}
-use Rattle.parser_combinators.specs.Grammar.{Size}
-use Rattle.parser_combinators.specs.Found.{IsRead, AnswersAs, lexemes_from}
-use Rattle.lexical_grammar.proofs.Valid.{named, texted}
+use Rattle.smo_ops_types.specs.declared.op.Op.{Op}
+use Rattle.smo_ops_types.specs.Operators.{Operator, operator_of}
+use Rattle.lexer_spec.specs.declared.token.Token.{Token}
+use Rattle.lexer_spec.specs.declared.kind.TokenKind.{TokenKind}
+use Rattle.lexer_spec.specs.declared.kind.TokenKind.TheVariants.{Word, Number, Text, Sign}
+use Rattle.lexer_spec.specs.declared.scanned.Scanned.TheVariants.{Of}
+use Rattle.lexer_combinators.specs.declared.fault.ParseFault.{ParseFault}
+use Rattle.lexer_combinators.specs.declared.fault.ParseFault.TheVariants as fault
+use Rattle.lexer_spec.specs.Bytes.{scanned}
+use Rattle.lexer_spec.specs.Lexemes.{Lexeme, says, lexeme}
+use Rattle.lexer_combinators.specs.Parsing.{Out, Parsed, Unexpected, LimitExceeded, Fine, Exceeds}
+use Rattle.lexer_combinators.specs.Parsing.{Valid as WithinLimits, limit}
+use Rattle.lexer_combinators.specs.Grammar.{Size}
+use Rattle.lexer_combinators.specs.Found.{IsRead, AnswersAs, lexemes_from}
+use Rattle.lexer_spec.proofs.Valid.{named, texted}
 use Rattle.smo_parse.specs.Productions.{IsOperator}
 use Rattle.smo_parse.specs.OperatorReader.{operator}
 use Rattle.smo_parse.specs.Texts.{operator_text}

@@ -3,12 +3,12 @@
 use Rattle.std.proofs.Common.{◌≤◌, false, List, ◌++◌, codes, map, inl, inr, refl, sym, ap, subst}
 use Rattle.std.proofs.Common.{arith}
 use Rattle.prima_base.specs.declared.refusal.What.{What}
-use Rattle.smo_types.specs.Operators.{Operator, nop, merge_table, partition_table, decompose_table}
-use Rattle.smo_types.specs.Operators.{join_table, rename_column}
-use Rattle.lexical_grammar.specs.Lexemes.{Lexeme}
-use Rattle.parser_combinators.specs.Grammar.{Grammar}
-use Rattle.parser_combinators.specs.Parsing.{limit}
-use Rattle.parser_combinators.specs.Grammar.{Size}
+use Rattle.smo_ops_types.specs.Operators.{Operator, nop, merge_table, partition_table, decompose_table}
+use Rattle.smo_ops_types.specs.Operators.{join_table, rename_column}
+use Rattle.lexer_spec.specs.Lexemes.{Lexeme}
+use Rattle.lexer_combinators.specs.Grammar.{Grammar}
+use Rattle.lexer_combinators.specs.Parsing.{limit}
+use Rattle.lexer_combinators.specs.Grammar.{Size}
 use Rattle.smo_parse.specs.Productions.{AreColumns, IsPart, IsTest, IsTree, IsNop, IsCreateTable}
 use Rattle.smo_parse.specs.Productions.{IsDropTable, IsRenameTable, IsCopyTable, IsMergeTable}
 use Rattle.smo_parse.specs.Productions.{IsPartitionTable, IsDecomposeTable, IsJoinTable}
@@ -26,7 +26,7 @@ use Rattle.smo_parse.proofs.PrintedParts.{test_printed, where_printed, columns_p
 use Rattle.smo_parse.proofs.PrintedParts.{part_printed, CREATE, TABLE, DROP, RENAME, COPY, MERGE}
 use Rattle.smo_parse.proofs.PrintedParts.{PARTITION, DECOMPOSE, JOIN, ADD, COLUMN, INTO, WITH, AS}
 use Rattle.smo_parse.proofs.PrintedParts.{FROM, IN, TO, NOP}
-use Rattle.expr_grammar.specs.Where.{IsWhere}
+use Rattle.lexer_trees_spec.specs.Where.{IsWhere}
 
 -- an operator of one production
 abbrev Prints : Grammar Operator → Operator → Type 0

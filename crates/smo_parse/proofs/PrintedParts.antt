@@ -9,16 +9,16 @@ use Rattle.prima_base.specs.declared.value.ColType.{ColType}
 use Rattle.prima_base.specs.declared.value.ColType.TheVariants.{Int, Text}
 use Rattle.cond_expr.specs.Trees.{Tree, Test, always}
 use Rattle.cond_expr.specs.Sizes.{depth_of, test_depth}
-use Rattle.lexical_grammar.specs.Lexemes.{Lexeme, word, sign, is_name}
-use Rattle.parser_combinators.specs.Grammar.{Grammar}
-use Rattle.parser_combinators.specs.Parsing.{limit}
-use Rattle.parser_combinators.specs.Grammar.{Size, nothing_counted, both, no_end, AreMore}
-use Rattle.parser_combinators.specs.Grammar as grammar
-use Rattle.expr_grammar.specs.Grammar as g
-use Rattle.expr_grammar.specs.Grammar.{leaf, IsExpr, IsCond}
-use Rattle.expr_grammar.specs.Constants.{name_grammar, names_grammar}
-use Rattle.expr_grammar.proofs.Singles.{name_is}
-use Rattle.expr_grammar.specs.Where.{IsWhere}
+use Rattle.lexer_spec.specs.Lexemes.{Lexeme, word, sign, is_name}
+use Rattle.lexer_combinators.specs.Grammar.{Grammar}
+use Rattle.lexer_combinators.specs.Parsing.{limit}
+use Rattle.lexer_combinators.specs.Grammar.{Size, nothing_counted, both, no_end, AreMore}
+use Rattle.lexer_combinators.specs.Grammar as grammar
+use Rattle.lexer_trees_spec.specs.Grammar as g
+use Rattle.lexer_trees_spec.specs.Grammar.{leaf, IsExpr, IsCond}
+use Rattle.lexer_trees_spec.specs.Constants.{name_grammar, names_grammar}
+use Rattle.lexer_trees_spec.proofs.Singles.{name_is}
+use Rattle.lexer_trees_spec.specs.Where.{IsWhere}
 use Rattle.smo_parse.specs.Productions.{IsType, IsColumn, AreColumns, IsPart, IsTest, IsTree, IsNop}
 use Rattle.smo_parse.specs.Productions.{IsCreateTable, IsDropTable, IsRenameTable, IsCopyTable}
 use Rattle.smo_parse.specs.Productions.{IsMergeTable, IsPartitionTable, IsDecomposeTable}

@@ -12,12 +12,12 @@ use Rattle.cond_expr.specs.Trees.{Tree, Test, never, always, all_of, some_of, fa
 use Rattle.cond_expr.specs.Trees.{a_test}
 use Rattle.cond_expr.specs.Seen.{trees_of, tests_of}
 use Rattle.cond_expr.specs.Sizes.{depth_of, trees_depth, test_depth, tests_depth}
-use Rattle.lexical_grammar.specs.Lexemes.{Lexeme, word, number, text, sign, is_name}
-use Rattle.parser_combinators.specs.Grammar.{Size, nothing_counted, both, one_node, one_open}
-use Rattle.parser_combinators.specs.Grammar.{so_wide}
-use Rattle.expr_grammar.specs.Grammar as g
-use Rattle.expr_grammar.specs.Grammar.{spelled, leaf, IsExpr, AreParts, IsFact, AreFacts, IsConj}
-use Rattle.expr_grammar.specs.Grammar.{AreConjs, IsCond}
+use Rattle.lexer_spec.specs.Lexemes.{Lexeme, word, number, text, sign, is_name}
+use Rattle.lexer_combinators.specs.Grammar.{Size, nothing_counted, both, one_node, one_open}
+use Rattle.lexer_combinators.specs.Grammar.{so_wide}
+use Rattle.lexer_trees_spec.specs.Grammar as g
+use Rattle.lexer_trees_spec.specs.Grammar.{spelled, leaf, IsExpr, AreParts, IsFact, AreFacts, IsConj}
+use Rattle.lexer_trees_spec.specs.Grammar.{AreConjs, IsCond}
 use Rattle.smo_parse.specs.TreeTexts.{sign_text, tree_text, more_trees_text, test_text}
 use Rattle.smo_parse.specs.TreeTexts.{more_tests_text}
 use Rattle.smo_parse.proofs.Spellings.{Closing}

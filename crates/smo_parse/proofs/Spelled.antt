@@ -2,14 +2,14 @@
 use Rattle.std.proofs.Common.{◌≡◌, ℕ, suc, ◌+◌, Bool, true, false, cond, not, ◌==◌, List, [], ◌∷◌}
 use Rattle.std.proofs.Common.{◌++◌, length, map, take, drop, codes, Option, None, refl, sym, ap}
 use Rattle.std.proofs.Common.{◌∙◌, subst, arith, append_assoc, append-nil}
-use Rattle.lexical_grammar.specs.declared.token.Token.{Token as Scanned_token}
-use Rattle.lexical_grammar.specs.declared.kind.TokenKind.{TokenKind}
-use Rattle.lexical_grammar.specs.declared.scanned.Scanned.{Scanned}
-use Rattle.lexical_grammar.specs.declared.scanned.Scanned.TheVariants.{End, Of}
-use Rattle.lexical_grammar.specs.declared.fault.LexFault.{LexFault}
-use Rattle.lexical_grammar.specs.Bytes.{is_blank, gap_len, gap_dash, scanned}
-use Rattle.lexical_grammar.specs.Lexed.{Lexes, EndsBy, after_gap}
-use Rattle.lexical_grammar.specs.Lexemes.{Lexeme, sign, says, lexeme}
+use Rattle.lexer_spec.specs.declared.token.Token.{Token as Scanned_token}
+use Rattle.lexer_spec.specs.declared.kind.TokenKind.{TokenKind}
+use Rattle.lexer_spec.specs.declared.scanned.Scanned.{Scanned}
+use Rattle.lexer_spec.specs.declared.scanned.Scanned.TheVariants.{End, Of}
+use Rattle.lexer_spec.specs.declared.fault.LexFault.{LexFault}
+use Rattle.lexer_spec.specs.Bytes.{is_blank, gap_len, gap_dash, scanned}
+use Rattle.lexer_spec.specs.Lexed.{Lexes, EndsBy, after_gap}
+use Rattle.lexer_spec.specs.Lexemes.{Lexeme, sign, says, lexeme}
 use Rattle.smo_parse.proofs.Spellings.{kind_of, written, Writable, Closing, closing_append, Token}
 use Rattle.smo_parse.proofs.Spellings.{token_of, open_token, point_token}
 

@@ -11,22 +11,22 @@ use Rattle.std.proofs.lemmas.Bool.Decides.{nat_tests}
 use Rattle.std.proofs.lemmas.Fmt.{digits_decimal, digits_value-decimal, decimal_nonempty}
 use Rattle.std.proofs.lemmas.Str.Parse.{IsNumeralModel, numerals_by_fold}
 use Rattle.prima_base.specs.Bytes.{is_control, is_digit, is_name_byte, first_from, IsName, IsTxt}
-use Rattle.lexical_grammar.specs.declared.kind.TokenKind.{TokenKind}
-use Rattle.lexical_grammar.specs.declared.kind.TokenKind.TheVariants.{Word, Number, Text, Sign}
-use Rattle.lexical_grammar.specs.declared.scanned.Scanned.TheVariants.{Of, Long, Big}
-use Rattle.lexical_grammar.specs.Bytes.{is_word_start, is_blank, gap_len, gap_dash, number_from}
-use Rattle.lexical_grammar.specs.Bytes.{number as value_of, is_big, scanned_number, digits_of}
-use Rattle.lexical_grammar.specs.Bytes.{text_value, text_from, text_quote, sized}
-use Rattle.lexical_grammar.specs.Bytes.{sign as scanned_sign, scanned}
-use Rattle.lexical_grammar.specs.Spaced.{Each, NoneNext, is_quote}
-use Rattle.lexical_grammar.specs.Lexemes.{Lexeme, word, number, text, sign, signed, integer, says}
-use Rattle.lexical_grammar.specs.Lexemes.{is_int, is_one_of}
-use Rattle.lexical_grammar.proofs.Cases.{true_false, by_test}
-use Rattle.lexical_grammar.proofs.Whole.{at_word, at_digit, at_quote, at_minus, at_sign, quote_step}
-use Rattle.lexical_grammar.proofs.Whole.{plain_step, doubled_step, closed_step, last_step}
-use Rattle.lexical_grammar.proofs.Whole.{value_plain, value_doubled, value_closed, value_last}
-use Rattle.lexical_grammar.proofs.Whole.{or_true}
-use Rattle.lexical_grammar.proofs.LexemeTests.{sign_exact}
+use Rattle.lexer_spec.specs.declared.kind.TokenKind.{TokenKind}
+use Rattle.lexer_spec.specs.declared.kind.TokenKind.TheVariants.{Word, Number, Text, Sign}
+use Rattle.lexer_spec.specs.declared.scanned.Scanned.TheVariants.{Of, Long, Big}
+use Rattle.lexer_spec.specs.Bytes.{is_word_start, is_blank, gap_len, gap_dash, number_from}
+use Rattle.lexer_spec.specs.Bytes.{number as value_of, is_big, scanned_number, digits_of}
+use Rattle.lexer_spec.specs.Bytes.{text_value, text_from, text_quote, sized}
+use Rattle.lexer_spec.specs.Bytes.{sign as scanned_sign, scanned}
+use Rattle.lexer_spec.specs.Spaced.{Each, NoneNext, is_quote}
+use Rattle.lexer_spec.specs.Lexemes.{Lexeme, word, number, text, sign, signed, integer, says}
+use Rattle.lexer_spec.specs.Lexemes.{is_int, is_one_of}
+use Rattle.lexer_spec.proofs.Cases.{true_false, by_test}
+use Rattle.lexer_spec.proofs.Whole.{at_word, at_digit, at_quote, at_minus, at_sign, quote_step}
+use Rattle.lexer_spec.proofs.Whole.{plain_step, doubled_step, closed_step, last_step}
+use Rattle.lexer_spec.proofs.Whole.{value_plain, value_doubled, value_closed, value_last}
+use Rattle.lexer_spec.proofs.Whole.{or_true}
+use Rattle.lexer_spec.proofs.LexemeTests.{sign_exact}
 use Rattle.smo_parse.specs.TreeTexts.{doubled}
 
 abbrev pub kind_of : Lexeme → TokenKind

@@ -9,17 +9,17 @@ use Rattle.cond_expr.specs.declared.expr.Whose.TheVariants.{Atom}
 use Rattle.cond_expr.specs.declared.expr.CmpOp.TheVariants.{Eq}
 use Rattle.cond_expr.specs.Trees.{Tree, Test, column, constant, length_of, always, compared, all_of}
 use Rattle.cond_expr.specs.Trees.{no_tests, a_test}
-use Rattle.smo_types.specs.Operators.{Operator, nop, create_table, drop_table, rename_table}
-use Rattle.smo_types.specs.Operators.{copy_table, merge_table, partition_table, decompose_table}
-use Rattle.smo_types.specs.Operators.{join_table, add_column, drop_column, rename_column}
-use Rattle.lexical_grammar.specs.Lexemes.{Lexeme, word, number, sign, is_name}
-use Rattle.parser_combinators.specs.Parsing.{Out, Parsed, Unexpected, LimitExceeded, as_many, more}
-use Rattle.parser_combinators.specs.Parsing.{nodes_more}
-use Rattle.parser_combinators.specs.Grammar.{nothing_counted}
-use Rattle.expr_grammar.specs.Constants.{name, names}
-use Rattle.expr_grammar.specs.Reader.{ref_rest, length_rest, concat_rest, expr, comparison}
-use Rattle.expr_grammar.specs.Reader.{bracketed, fact, facts, conj, conjs, cond, outermost}
-use Rattle.expr_grammar.specs.Where.{outer_where}
+use Rattle.smo_ops_types.specs.Operators.{Operator, nop, create_table, drop_table, rename_table}
+use Rattle.smo_ops_types.specs.Operators.{copy_table, merge_table, partition_table, decompose_table}
+use Rattle.smo_ops_types.specs.Operators.{join_table, add_column, drop_column, rename_column}
+use Rattle.lexer_spec.specs.Lexemes.{Lexeme, word, number, sign, is_name}
+use Rattle.lexer_combinators.specs.Parsing.{Out, Parsed, Unexpected, LimitExceeded, as_many, more}
+use Rattle.lexer_combinators.specs.Parsing.{nodes_more}
+use Rattle.lexer_combinators.specs.Grammar.{nothing_counted}
+use Rattle.lexer_trees_spec.specs.Constants.{name, names}
+use Rattle.lexer_trees_spec.specs.Reader.{ref_rest, length_rest, concat_rest, expr, comparison}
+use Rattle.lexer_trees_spec.specs.Reader.{bracketed, fact, facts, conj, conjs, cond, outermost}
+use Rattle.lexer_trees_spec.specs.Where.{outer_where}
 use Rattle.smo_parse.specs.Productions.{IsOperator}
 use Rattle.smo_parse.specs.OperatorReader.{operator, column_type, column as a_column, columns}
 use Rattle.smo_parse.specs.OperatorReader.{create_rest, drop_table_rest, drop_column_rest}

@@ -8,9 +8,9 @@ use Rattle.cond_expr.specs.declared.expr.CmpOp.TheVariants.{Eq, Ne, Lt, Le, Gt, 
 use Rattle.cond_expr.specs.Trees.{Tree, Test, Tests, column, constant, length_of, joined, choose}
 use Rattle.cond_expr.specs.Trees.{no_trees, a_tree, never, always, compared, all_of, some_of, fails}
 use Rattle.cond_expr.specs.Trees.{no_tests, a_test}
-use Rattle.smo_types.specs.Operators.{nop, create_table, drop_table, rename_table, copy_table}
-use Rattle.smo_types.specs.Operators.{merge_table, partition_table, decompose_table, join_table}
-use Rattle.smo_types.specs.Operators.{add_column, drop_column, rename_column}
+use Rattle.smo_ops_types.specs.Operators.{nop, create_table, drop_table, rename_table, copy_table}
+use Rattle.smo_ops_types.specs.Operators.{merge_table, partition_table, decompose_table, join_table}
+use Rattle.smo_ops_types.specs.Operators.{add_column, drop_column, rename_column}
 use Rattle.smo_parse.specs.TreeTexts.{tree_text}
 use Rattle.smo_parse.specs.Texts.{operator_text, cond_text, expr_text}
 

@@ -2,14 +2,14 @@
 -- counted there, and at each other nothing.
 use Rattle.std.specs.Prelude.{false, List, [], ◌∷◌, ◌++◌, map}
 use mathlib.Core.Logic.{inl, inr}
-use Rattle.smo_types.specs.Operators.{Operator}
+use Rattle.smo_ops_types.specs.Operators.{Operator}
 use Rattle.cond_expr.specs.Trees.{Test}
-use Rattle.lexical_grammar.specs.Lexemes.{Lexeme}
-use Rattle.parser_combinators.specs.Grammar.{Size}
-use Rattle.parser_combinators.specs.TokenCounts.{TokenCounts, plain}
-use Rattle.parser_combinators.specs.ListCrossings.{Crossing, count_crossing}
-use Rattle.expr_grammar.specs.TreeCounts.{expr_counts, cond_counts}
-use Rattle.expr_grammar.specs.Where.{IsWhere}
+use Rattle.lexer_spec.specs.Lexemes.{Lexeme}
+use Rattle.lexer_combinators.specs.Grammar.{Size}
+use Rattle.lexer_combinators.specs.TokenCounts.{TokenCounts, plain}
+use Rattle.lexer_combinators.specs.ListCrossings.{Crossing, count_crossing}
+use Rattle.lexer_trees_spec.specs.TreeCounts.{expr_counts, cond_counts}
+use Rattle.lexer_trees_spec.specs.Where.{IsWhere}
 use Rattle.smo_parse.specs.Productions.{IsPartitionTable, IsJoinTable, IsAddColumn, IsOperator}
 use Rattle.smo_parse.specs.OperatorParts.{partition_condition, join_condition, column_value}
 

@@ -1,12 +1,12 @@
 -- The parts of an operator that are trees: the condition of a PARTITION or JOIN, and the expression
 -- of an ADD COLUMN.
 use Rattle.std.specs.Prelude.{false, List}
-use Rattle.smo_types.specs.Operators.{Operator}
-use Rattle.lexical_grammar.specs.Lexemes.{Lexeme}
-use Rattle.parser_combinators.specs.Grammar.{Size}
-use Rattle.parser_combinators.specs.Derivations.{Derivation, derivation, after_lexeme, first_of}
-use Rattle.parser_combinators.specs.Derivations.{rest_of, source_of}
-use Rattle.expr_grammar.specs.Where.{IsWhere}
+use Rattle.smo_ops_types.specs.Operators.{Operator}
+use Rattle.lexer_spec.specs.Lexemes.{Lexeme}
+use Rattle.lexer_combinators.specs.Grammar.{Size}
+use Rattle.lexer_combinators.specs.Derivations.{Derivation, derivation, after_lexeme, first_of}
+use Rattle.lexer_combinators.specs.Derivations.{rest_of, source_of}
+use Rattle.lexer_trees_spec.specs.Where.{IsWhere}
 use Rattle.smo_parse.specs.Productions.{IsTest, IsTree, IsPartitionTable, IsJoinTable, IsAddColumn}
 
 -- PARTITION TABLE name INTO name WITH, and then the condition

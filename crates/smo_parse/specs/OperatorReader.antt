@@ -4,15 +4,15 @@ use Rattle.prima_base.specs.declared.value.ColType.{ColType}
 use Rattle.prima_base.specs.declared.value.ColType.TheVariants.{Int, Text}
 use Rattle.prima_base.specs.Columns.{Column}
 use Rattle.cond_expr.specs.Trees.{Test, always}
-use Rattle.smo_types.specs.Operators.{Operator, nop, create_table, drop_table, rename_table}
-use Rattle.smo_types.specs.Operators.{copy_table, merge_table, partition_table, decompose_table}
-use Rattle.smo_types.specs.Operators.{join_table, add_column, drop_column, rename_column}
-use Rattle.lexical_grammar.specs.Lexemes.{Lexeme, is_word, is_sign}
-use Rattle.parser_combinators.specs.Parsing.{Parser, Arm, No, Takes, bind, pure, map_to, lead}
-use Rattle.parser_combinators.specs.Parsing.{choose, option, many}
-use Rattle.expr_grammar.specs.Reader.{outermost, follow_cond}
-use Rattle.expr_grammar.specs.Constants.{name, names}
-use Rattle.expr_grammar.specs.Where.{outer_where, follow_where}
+use Rattle.smo_ops_types.specs.Operators.{Operator, nop, create_table, drop_table, rename_table}
+use Rattle.smo_ops_types.specs.Operators.{copy_table, merge_table, partition_table, decompose_table}
+use Rattle.smo_ops_types.specs.Operators.{join_table, add_column, drop_column, rename_column}
+use Rattle.lexer_spec.specs.Lexemes.{Lexeme, is_word, is_sign}
+use Rattle.lexer_combinators.specs.Parsing.{Parser, Arm, No, Takes, bind, pure, map_to, lead}
+use Rattle.lexer_combinators.specs.Parsing.{choose, option, many}
+use Rattle.lexer_trees_spec.specs.Reader.{outermost, follow_cond}
+use Rattle.lexer_trees_spec.specs.Constants.{name, names}
+use Rattle.lexer_trees_spec.specs.Where.{outer_where, follow_where}
 
 -- ---- parts of operators
 

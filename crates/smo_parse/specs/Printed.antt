@@ -1,18 +1,18 @@
 -- Printing an operator and reading it again.
 use Rattle.std.specs.Prelude.{◌≡◌, ℕ, List, [], length, Option, None, Result, Ok, Err}
 use Rattle.cond_expr.specs.Sizes.{depth_of, test_depth}
-use Rattle.smo_types.specs.declared.op.Op.{Op}
-use Rattle.smo_types.specs.Operators.{Operator, operator_of, nop, create_table, drop_table}
-use Rattle.smo_types.specs.Operators.{rename_table, copy_table, merge_table, partition_table}
-use Rattle.smo_types.specs.Operators.{decompose_table, join_table, add_column, drop_column}
-use Rattle.smo_types.specs.Operators.{rename_column}
-use Rattle.lexical_grammar.specs.declared.token.Token.{Token}
-use Rattle.lexical_grammar.specs.declared.fault.LexFault.{LexFault}
-use Rattle.parser_combinators.specs.declared.fault.ParseFault.{ParseFault}
-use Rattle.parser_combinators.specs.declared.fault.ParseFault.TheVariants as fault
-use Rattle.lexical_grammar.specs.Lexed.{Lexes}
-use Rattle.parser_combinators.specs.Parsing.{Parsed}
-use Rattle.parser_combinators.specs.Found.{IsRead, AnswersAs, lexemes_from}
+use Rattle.smo_ops_types.specs.declared.op.Op.{Op}
+use Rattle.smo_ops_types.specs.Operators.{Operator, operator_of, nop, create_table, drop_table}
+use Rattle.smo_ops_types.specs.Operators.{rename_table, copy_table, merge_table, partition_table}
+use Rattle.smo_ops_types.specs.Operators.{decompose_table, join_table, add_column, drop_column}
+use Rattle.smo_ops_types.specs.Operators.{rename_column}
+use Rattle.lexer_spec.specs.declared.token.Token.{Token}
+use Rattle.lexer_spec.specs.declared.fault.LexFault.{LexFault}
+use Rattle.lexer_combinators.specs.declared.fault.ParseFault.{ParseFault}
+use Rattle.lexer_combinators.specs.declared.fault.ParseFault.TheVariants as fault
+use Rattle.lexer_spec.specs.Lexed.{Lexes}
+use Rattle.lexer_combinators.specs.Parsing.{Parsed}
+use Rattle.lexer_combinators.specs.Found.{IsRead, AnswersAs, lexemes_from}
 use Rattle.smo_parse.specs.Productions.{IsOperator}
 use Rattle.smo_parse.specs.OperatorReader.{operator}
 use Rattle.smo_parse.specs.Texts.{operator_text}

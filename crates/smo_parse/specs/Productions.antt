@@ -5,15 +5,15 @@ use Rattle.prima_base.specs.declared.value.ColType.{ColType}
 use Rattle.prima_base.specs.declared.value.ColType.TheVariants.{Int, Text}
 use Rattle.prima_base.specs.Columns.{Column}
 use Rattle.cond_expr.specs.Trees.{Tree, Test, always}
-use Rattle.smo_types.specs.Operators.{Operator, nop, create_table, drop_table, rename_table}
-use Rattle.smo_types.specs.Operators.{copy_table, merge_table, partition_table, decompose_table}
-use Rattle.smo_types.specs.Operators.{join_table, add_column, drop_column, rename_column}
-use Rattle.lexical_grammar.specs.Lexemes.{word, sign}
-use Rattle.parser_combinators.specs.Grammar.{Grammar}
-use Rattle.parser_combinators.specs.Grammar as grammar
-use Rattle.expr_grammar.specs.Grammar.{IsExpr, IsCond}
-use Rattle.expr_grammar.specs.Constants.{name_grammar, names_grammar}
-use Rattle.expr_grammar.specs.Where.{IsWhere}
+use Rattle.smo_ops_types.specs.Operators.{Operator, nop, create_table, drop_table, rename_table}
+use Rattle.smo_ops_types.specs.Operators.{copy_table, merge_table, partition_table, decompose_table}
+use Rattle.smo_ops_types.specs.Operators.{join_table, add_column, drop_column, rename_column}
+use Rattle.lexer_spec.specs.Lexemes.{word, sign}
+use Rattle.lexer_combinators.specs.Grammar.{Grammar}
+use Rattle.lexer_combinators.specs.Grammar as grammar
+use Rattle.lexer_trees_spec.specs.Grammar.{IsExpr, IsCond}
+use Rattle.lexer_trees_spec.specs.Constants.{name_grammar, names_grammar}
+use Rattle.lexer_trees_spec.specs.Where.{IsWhere}
 
 -- ---- parts of operators
 

@@ -4,9 +4,9 @@ use Rattle.prima_base.specs.declared.value.ColType.{ColType}
 use Rattle.prima_base.specs.declared.value.ColType.TheVariants.{Int, Text}
 use Rattle.prima_base.specs.Columns.{Column}
 use Rattle.cond_expr.specs.Trees.{Tree, Test}
-use Rattle.smo_types.specs.Operators.{Operator, nop, create_table, drop_table, rename_table}
-use Rattle.smo_types.specs.Operators.{copy_table, merge_table, partition_table, decompose_table}
-use Rattle.smo_types.specs.Operators.{join_table, add_column, drop_column, rename_column}
+use Rattle.smo_ops_types.specs.Operators.{Operator, nop, create_table, drop_table, rename_table}
+use Rattle.smo_ops_types.specs.Operators.{copy_table, merge_table, partition_table, decompose_table}
+use Rattle.smo_ops_types.specs.Operators.{join_table, add_column, drop_column, rename_column}
 use Rattle.smo_parse.specs.TreeTexts.{tree_text, test_text}
 
 -- each after a comma

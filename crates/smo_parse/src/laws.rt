@@ -1,14 +1,14 @@
 //! Laws of the texts of operators. Each is proved and does nothing.
 
 ghost use Rattle.std.specs.Prelude.{ℕ, ◌≤◌, List, map, Ok};
-ghost use Rattle.smo_types.specs.Operators.{Operator, operator_of};
-ghost use Rattle.smo_types.specs.declared.op.Op.{Op as AnOp};
-ghost use Rattle.lexical_grammar.specs.declared.token.Token.{Token};
-ghost use Rattle.lexical_grammar.specs.Lexemes.{Lexeme, lexeme};
-ghost use Rattle.parser_combinators.specs.TokenCounts.{AddUp};
-ghost use Rattle.parser_combinators.specs.Parsing.{IsCorrectParser, Valid};
-ghost use Rattle.parser_combinators.specs.Grammar.{Size};
-ghost use Rattle.parser_combinators.specs.Found.{IsRead};
+ghost use Rattle.smo_ops_types.specs.Operators.{Operator, operator_of};
+ghost use Rattle.smo_ops_types.specs.declared.op.Op.{Op as AnOp};
+ghost use Rattle.lexer_spec.specs.declared.token.Token.{Token};
+ghost use Rattle.lexer_spec.specs.Lexemes.{Lexeme, lexeme};
+ghost use Rattle.lexer_combinators.specs.TokenCounts.{AddUp};
+ghost use Rattle.lexer_combinators.specs.Parsing.{IsCorrectParser, Valid};
+ghost use Rattle.lexer_combinators.specs.Grammar.{Size};
+ghost use Rattle.lexer_combinators.specs.Found.{IsRead};
 ghost use Rattle.smo_parse.specs.Productions.{IsOperator};
 ghost use Rattle.smo_parse.specs.OperatorReader.{operator, follow_operator};
 ghost use Rattle.smo_parse.specs.OperatorCounts.{operator_counts};

@@ -2,10 +2,10 @@
 
 ghost use Rattle.std.specs.Prelude.{◌≡◌, ◌<◌, length, codes};
 ghost use Rattle.cond_expr.specs.Seen.{tree, test};
-ghost use Rattle.smo_types.specs.Operators.{operator_of};
-ghost use Rattle.lexical_grammar.specs.Lexemes.{is_word, is_sign};
-ghost use Rattle.parser_combinators.specs.Parsing.{many};
-ghost use Rattle.parser_combinators.specs.Reads.{Reads, ReadsMore, ahead};
+ghost use Rattle.smo_ops_types.specs.Operators.{operator_of};
+ghost use Rattle.lexer_spec.specs.Lexemes.{is_word, is_sign};
+ghost use Rattle.lexer_combinators.specs.Parsing.{many};
+ghost use Rattle.lexer_combinators.specs.Reads.{Reads, ReadsMore, ahead};
 ghost use Rattle.smo_parse.specs.OperatorReader as spec;
 
 use lexer::{Cursor, Stop, name, names, outer_cond, outer_expr, outer_where};
@@ -14,7 +14,7 @@ use smo_ops::Op;
 use std::alloc::Global;
 
 // A column's type.
-#[tactic(auto, unfolding(crate::specs::OperatorReader::column_type), using(parser_combinators::proofs::ReadSteps::choose_takes, parser_combinators::proofs::ReadSteps::choose_no))]
+#[tactic(auto, unfolding(crate::specs::OperatorReader::column_type), using(lexer_combinators::proofs::ReadSteps::choose_takes, lexer_combinators::proofs::ReadSteps::choose_no))]
 fn column_type(c: &mut Cursor<'_, '_>) -> Result<ColType, Stop>
     ensures { Reads (λ k. k) (spec.column_type c.old.nodes (ahead c.old)) result c.new }
 {
@@ -67,7 +67,7 @@ fn columns(alloc: Global, c: &mut Cursor<'_, '_>) -> Result<Vec<(Name, ColType)>
 }
 
 // A table's name and, in brackets, the names of its columns.
-#[tactic(auto, unfolding(crate::specs::OperatorReader::part), using(parser_combinators::proofs::ReadSteps::lead_seen, parser_combinators::proofs::ReadSteps::lead_not))]
+#[tactic(auto, unfolding(crate::specs::OperatorReader::part), using(lexer_combinators::proofs::ReadSteps::lead_seen, lexer_combinators::proofs::ReadSteps::lead_not))]
 fn part(alloc: Global, c: &mut Cursor<'_, '_>) -> Result<(Name, Vec<Name>), Stop>
     ensures { Reads (λ p. (p.0, p.1.items)) (spec.part c.old.nodes (ahead c.old)) result c.new }
 {
@@ -79,7 +79,7 @@ fn part(alloc: Global, c: &mut Cursor<'_, '_>) -> Result<(Name, Vec<Name>), Stop
 }
 
 // What stands after CREATE.
-#[tactic(auto, unfolding(crate::specs::OperatorReader::create_rest), using(parser_combinators::proofs::ReadSteps::lead_seen, parser_combinators::proofs::ReadSteps::lead_not))]
+#[tactic(auto, unfolding(crate::specs::OperatorReader::create_rest), using(lexer_combinators::proofs::ReadSteps::lead_seen, lexer_combinators::proofs::ReadSteps::lead_not))]
 fn create_rest(alloc: Global, c: &mut Cursor<'_, '_>) -> Result<Op, Stop>
     ensures { Reads operator_of (spec.create_rest c.old.nodes (ahead c.old)) result c.new }
 {
@@ -101,7 +101,7 @@ fn drop_table_rest(alloc: Global, c: &mut Cursor<'_, '_>) -> Result<Op, Stop>
 }
 
 // What stands after DROP COLUMN.
-#[tactic(auto, unfolding(crate::specs::OperatorReader::drop_column_rest), using(parser_combinators::proofs::ReadSteps::lead_seen, parser_combinators::proofs::ReadSteps::lead_not))]
+#[tactic(auto, unfolding(crate::specs::OperatorReader::drop_column_rest), using(lexer_combinators::proofs::ReadSteps::lead_seen, lexer_combinators::proofs::ReadSteps::lead_not))]
 fn drop_column_rest(alloc: Global, c: &mut Cursor<'_, '_>) -> Result<Op, Stop>
     ensures { Reads operator_of (spec.drop_column_rest c.old.nodes (ahead c.old)) result c.new }
 {
@@ -112,7 +112,7 @@ fn drop_column_rest(alloc: Global, c: &mut Cursor<'_, '_>) -> Result<Op, Stop>
 }
 
 // What stands after DROP.
-#[tactic(auto, unfolding(crate::specs::OperatorReader::drop_rest), using(parser_combinators::proofs::ReadSteps::choose_takes, parser_combinators::proofs::ReadSteps::choose_no))]
+#[tactic(auto, unfolding(crate::specs::OperatorReader::drop_rest), using(lexer_combinators::proofs::ReadSteps::choose_takes, lexer_combinators::proofs::ReadSteps::choose_no))]
 fn drop_rest(alloc: Global, c: &mut Cursor<'_, '_>) -> Result<Op, Stop>
     ensures { Reads operator_of (spec.drop_rest c.old.nodes (ahead c.old)) result c.new }
 {
@@ -128,7 +128,7 @@ fn drop_rest(alloc: Global, c: &mut Cursor<'_, '_>) -> Result<Op, Stop>
 }
 
 // What stands after RENAME TABLE.
-#[tactic(auto, unfolding(crate::specs::OperatorReader::rename_table_rest), using(parser_combinators::proofs::ReadSteps::lead_seen, parser_combinators::proofs::ReadSteps::lead_not))]
+#[tactic(auto, unfolding(crate::specs::OperatorReader::rename_table_rest), using(lexer_combinators::proofs::ReadSteps::lead_seen, lexer_combinators::proofs::ReadSteps::lead_not))]
 fn rename_table_rest(alloc: Global, c: &mut Cursor<'_, '_>) -> Result<Op, Stop>
     ensures { Reads operator_of (spec.rename_table_rest c.old.nodes (ahead c.old)) result c.new }
 {
@@ -139,7 +139,7 @@ fn rename_table_rest(alloc: Global, c: &mut Cursor<'_, '_>) -> Result<Op, Stop>
 }
 
 // What stands after RENAME COLUMN.
-#[tactic(auto, unfolding(crate::specs::OperatorReader::rename_column_rest), using(parser_combinators::proofs::ReadSteps::lead_seen, parser_combinators::proofs::ReadSteps::lead_not))]
+#[tactic(auto, unfolding(crate::specs::OperatorReader::rename_column_rest), using(lexer_combinators::proofs::ReadSteps::lead_seen, lexer_combinators::proofs::ReadSteps::lead_not))]
 fn rename_column_rest(alloc: Global, c: &mut Cursor<'_, '_>) -> Result<Op, Stop>
     ensures { Reads operator_of (spec.rename_column_rest c.old.nodes (ahead c.old)) result c.new }
 {
@@ -156,7 +156,7 @@ fn rename_column_rest(alloc: Global, c: &mut Cursor<'_, '_>) -> Result<Op, Stop>
 }
 
 // What stands after RENAME.
-#[tactic(auto, unfolding(crate::specs::OperatorReader::rename_rest), using(parser_combinators::proofs::ReadSteps::choose_takes, parser_combinators::proofs::ReadSteps::choose_no))]
+#[tactic(auto, unfolding(crate::specs::OperatorReader::rename_rest), using(lexer_combinators::proofs::ReadSteps::choose_takes, lexer_combinators::proofs::ReadSteps::choose_no))]
 fn rename_rest(alloc: Global, c: &mut Cursor<'_, '_>) -> Result<Op, Stop>
     ensures { Reads operator_of (spec.rename_rest c.old.nodes (ahead c.old)) result c.new }
 {
@@ -172,7 +172,7 @@ fn rename_rest(alloc: Global, c: &mut Cursor<'_, '_>) -> Result<Op, Stop>
 }
 
 // What stands after COPY.
-#[tactic(auto, unfolding(crate::specs::OperatorReader::copy_rest), using(parser_combinators::proofs::ReadSteps::lead_seen, parser_combinators::proofs::ReadSteps::lead_not))]
+#[tactic(auto, unfolding(crate::specs::OperatorReader::copy_rest), using(lexer_combinators::proofs::ReadSteps::lead_seen, lexer_combinators::proofs::ReadSteps::lead_not))]
 fn copy_rest(alloc: Global, c: &mut Cursor<'_, '_>) -> Result<Op, Stop>
     ensures { Reads operator_of (spec.copy_rest c.old.nodes (ahead c.old)) result c.new }
 {
@@ -184,7 +184,7 @@ fn copy_rest(alloc: Global, c: &mut Cursor<'_, '_>) -> Result<Op, Stop>
 }
 
 // What stands after MERGE.
-#[tactic(auto, unfolding(crate::specs::OperatorReader::merge_rest), using(parser_combinators::proofs::ReadSteps::lead_seen, parser_combinators::proofs::ReadSteps::lead_not))]
+#[tactic(auto, unfolding(crate::specs::OperatorReader::merge_rest), using(lexer_combinators::proofs::ReadSteps::lead_seen, lexer_combinators::proofs::ReadSteps::lead_not))]
 fn merge_rest(alloc: Global, c: &mut Cursor<'_, '_>) -> Result<Op, Stop>
     ensures { Reads operator_of (spec.merge_rest c.old.nodes (ahead c.old)) result c.new }
 {
@@ -198,7 +198,7 @@ fn merge_rest(alloc: Global, c: &mut Cursor<'_, '_>) -> Result<Op, Stop>
 }
 
 // What stands after PARTITION.
-#[tactic(auto, unfolding(crate::specs::OperatorReader::partition_rest), using(parser_combinators::proofs::ReadSteps::lead_seen, parser_combinators::proofs::ReadSteps::lead_not))]
+#[tactic(auto, unfolding(crate::specs::OperatorReader::partition_rest), using(lexer_combinators::proofs::ReadSteps::lead_seen, lexer_combinators::proofs::ReadSteps::lead_not))]
 fn partition_rest(alloc: Global, c: &mut Cursor<'_, '_>) -> Result<Op, Stop>
     ensures { Reads operator_of (spec.partition_rest c.old.nodes (ahead c.old)) result c.new }
 {
@@ -219,7 +219,7 @@ fn partition_rest(alloc: Global, c: &mut Cursor<'_, '_>) -> Result<Op, Stop>
 }
 
 // What stands after DECOMPOSE.
-#[tactic(auto, unfolding(crate::specs::OperatorReader::decompose_rest), using(parser_combinators::proofs::ReadSteps::lead_seen, parser_combinators::proofs::ReadSteps::lead_not))]
+#[tactic(auto, unfolding(crate::specs::OperatorReader::decompose_rest), using(lexer_combinators::proofs::ReadSteps::lead_seen, lexer_combinators::proofs::ReadSteps::lead_not))]
 fn decompose_rest(alloc: Global, c: &mut Cursor<'_, '_>) -> Result<Op, Stop>
     ensures { Reads operator_of (spec.decompose_rest c.old.nodes (ahead c.old)) result c.new }
 {
@@ -239,7 +239,7 @@ fn decompose_rest(alloc: Global, c: &mut Cursor<'_, '_>) -> Result<Op, Stop>
 }
 
 // What stands after JOIN.
-#[tactic(auto, unfolding(crate::specs::OperatorReader::join_rest), using(parser_combinators::proofs::ReadSteps::lead_seen, parser_combinators::proofs::ReadSteps::lead_not))]
+#[tactic(auto, unfolding(crate::specs::OperatorReader::join_rest), using(lexer_combinators::proofs::ReadSteps::lead_seen, lexer_combinators::proofs::ReadSteps::lead_not))]
 fn join_rest(alloc: Global, c: &mut Cursor<'_, '_>) -> Result<Op, Stop>
     ensures { Reads operator_of (spec.join_rest c.old.nodes (ahead c.old)) result c.new }
 {
@@ -259,7 +259,7 @@ fn join_rest(alloc: Global, c: &mut Cursor<'_, '_>) -> Result<Op, Stop>
 }
 
 // What stands after ADD.
-#[tactic(auto, unfolding(crate::specs::OperatorReader::add_rest), using(parser_combinators::proofs::ReadSteps::lead_seen, parser_combinators::proofs::ReadSteps::lead_not))]
+#[tactic(auto, unfolding(crate::specs::OperatorReader::add_rest), using(lexer_combinators::proofs::ReadSteps::lead_seen, lexer_combinators::proofs::ReadSteps::lead_not))]
 fn add_rest(alloc: Global, c: &mut Cursor<'_, '_>) -> Result<Op, Stop>
     ensures { Reads operator_of (spec.add_rest c.old.nodes (ahead c.old)) result c.new }
 {
@@ -277,7 +277,7 @@ fn add_rest(alloc: Global, c: &mut Cursor<'_, '_>) -> Result<Op, Stop>
 }
 
 /// An operator, with the counts of its tree after those that the cursor has.
-#[tactic(auto, unfolding(crate::specs::OperatorReader::operator), using(parser_combinators::proofs::ReadSteps::choose_takes, parser_combinators::proofs::ReadSteps::choose_no))]
+#[tactic(auto, unfolding(crate::specs::OperatorReader::operator), using(lexer_combinators::proofs::ReadSteps::choose_takes, lexer_combinators::proofs::ReadSteps::choose_no))]
 pub fn operator(alloc: Global, c: &mut Cursor<'_, '_>) -> Result<Op, Stop>
     ensures { Reads operator_of (spec.operator c.old.nodes (ahead c.old)) result c.new }
 {

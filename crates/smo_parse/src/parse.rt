@@ -1,14 +1,14 @@
 //! An operator from a list of tokens.
 
 ghost use Rattle.std.specs.Prelude.{◌≡◌, ◌++◌, ◌<◌, ◌≤◌, ◌+◌, ◌∷◌, List, length, drop};
-ghost use Rattle.smo_types.specs.Operators.{Operator, operator_of};
-ghost use Rattle.lexical_grammar.specs.Lexemes.{Lexeme};
-ghost use Rattle.parser_combinators.specs.declared.cursor.Stop.TheVariants as stop;
-ghost use Rattle.parser_combinators.specs.Parsing.{Stops, limit};
-ghost use Rattle.parser_combinators.specs.Grammar.{Size};
-ghost use Rattle.parser_combinators.specs.Found.{IsRead, Finds, Ends, IsTooMany, AnswersAs};
-ghost use Rattle.parser_combinators.specs.Found.{FaultAt, lexemes_from};
-ghost use Rattle.parser_combinators.specs.Crossings.{IsFirstCrossing, IsFaultOf};
+ghost use Rattle.smo_ops_types.specs.Operators.{Operator, operator_of};
+ghost use Rattle.lexer_spec.specs.Lexemes.{Lexeme};
+ghost use Rattle.lexer_combinators.specs.declared.cursor.Stop.TheVariants as stop;
+ghost use Rattle.lexer_combinators.specs.Parsing.{Stops, limit};
+ghost use Rattle.lexer_combinators.specs.Grammar.{Size};
+ghost use Rattle.lexer_combinators.specs.Found.{IsRead, Finds, Ends, IsTooMany, AnswersAs};
+ghost use Rattle.lexer_combinators.specs.Found.{FaultAt, lexemes_from};
+ghost use Rattle.lexer_combinators.specs.Crossings.{IsFirstCrossing, IsFaultOf};
 ghost use Rattle.prima_base.specs.declared.refusal.What.{What as Counted};
 ghost use Rattle.smo_parse.specs.Productions.{IsOperator};
 ghost use Rattle.smo_parse.specs.OperatorCounts.{operator_crossings};

@@ -108,7 +108,7 @@ fn sign_of(op: CmpOp) -> &'static [u8]
 }
 
 // The expressions after the first.
-#[tactic(auto, using(lexical_grammar::proofs::Cuts::tail_is))]
+#[tactic(auto, using(lexer_spec::proofs::Cuts::tail_is))]
 fn exprs_after(parts: &[Expr]) -> &[Expr]
     requires { 0 < length parts.now }
     ensures { result.now ≡ drop 1 parts.now }
@@ -117,7 +117,7 @@ fn exprs_after(parts: &[Expr]) -> &[Expr]
 }
 
 // The conditions after the first.
-#[tactic(auto, using(lexical_grammar::proofs::Cuts::tail_is))]
+#[tactic(auto, using(lexer_spec::proofs::Cuts::tail_is))]
 fn conds_after(parts: &[Cond]) -> &[Cond]
     requires { 0 < length parts.now }
     ensures { result.now ≡ drop 1 parts.now }

@@ -6,19 +6,19 @@ use Rattle.std.specs.Prelude.{Option, Some, None, slice_get, slice_index_or, con
 use Rattle.std.proofs.lemmas.Bool.{cases_lt}
 use Rattle.std.proofs.lemmas.Bool.Decides.{nat_tests}
 use Rattle.std.proofs.lemmas.List.{get_or_default}
-use Rattle.relations.specs.Sets.{In}
-use Rattle.relations.specs.Spans.{Span, forever}
+use Rattle.relations_spec.specs.Sets.{In}
+use Rattle.relations_spec.specs.Spans.{Span, forever}
 use Rattle.prima_base.specs.OrderLaws.{same_is}
-use Rattle.table_histories.specs.Store.{Cell, Store, IsBefore, AllBefore, relation_at}
-use Rattle.smo_meaning.specs.ValidPast.{IsLater}
-use Rattle.smo_meaning.specs.OneRow.{same}
-use Rattle.smo_meaning.specs.Sizes.{Written, Size}
-use Rattle.lifelines.specs.Lifelines.{Lifeline, covers, is_up_to, Covers, IsUpTo as GoesTo}
-use Rattle.image_spelling.specs.Images.{StoredLine, IsUpTo, EndsUpTo, store_of}
-use Rattle.image_spelling.specs.ShownPast.{cells_written, line_size}
-use Rattle.version_tables.specs.declared.made_table.MadeTable.{MadeTable}
-use Rattle.version_tables.specs.Places.{with_table, at_places}
-use Rattle.version_tables.specs.Stored.{stored_as}
+use Rattle.history_store_spec.specs.Store.{Cell, Store, IsBefore, AllBefore, relation_at}
+use Rattle.smo_ops_spec.specs.ValidPast.{IsLater}
+use Rattle.smo_ops_spec.specs.OneRow.{same}
+use Rattle.smo_ops_spec.specs.Sizes.{Written, Size}
+use Rattle.smo_ops_versions_spec.specs.Lifelines.{Lifeline, covers, is_up_to, Covers, IsUpTo as GoesTo}
+use Rattle.store_image_spec.specs.Images.{StoredLine, IsUpTo, EndsUpTo, store_of}
+use Rattle.store_image_spec.specs.ShownPast.{cells_written, line_size}
+use Rattle.version_groups_tables.specs.declared.made_table.MadeTable.{MadeTable}
+use Rattle.version_groups_tables.specs.Places.{with_table, at_places}
+use Rattle.version_groups_tables.specs.Stored.{stored_as}
 use Rattle.version_groups.specs.Covering.{line_of}
 use Rattle.version_groups.specs.Representation.{AreUpTo}
 use Rattle.version_groups.specs.Sizes.{IsWritten, AreWritten, HasSize, HaveSizes}

@@ -5,11 +5,11 @@ use Rattle.std.specs.Prelude.{Option, Some, None}
 use Rattle.std.specs.List.{flat_map}
 use Rattle.std.proofs.lemmas.List.{drop_more}
 use Rattle.std.proofs.lemmas.List.Concat.{flat_map-cons}
-use Rattle.relations.specs.Spans.{Span}
-use Rattle.table_histories.specs.Store.{Cell}
-use Rattle.command_spelling.specs.Spelling.{number, list_bytes}
-use Rattle.command_encoder.proofs.Lengths.{number_length}
-use Rattle.image_spelling.specs.Spelling.{span_bytes, cell_bytes, last_bytes}
+use Rattle.relations_spec.specs.Spans.{Span}
+use Rattle.history_store_spec.specs.Store.{Cell}
+use Rattle.command_codec_spec.specs.Spelling.{number, list_bytes}
+use Rattle.command_codec_writer.proofs.Lengths.{number_length}
+use Rattle.store_image_spec.specs.Spelling.{span_bytes, cell_bytes, last_bytes}
 
 pub span_length : (p : Span) → length (span_bytes p) ≡ 16
 span_length p = length-append (number 8 p.start) (number 8 p.end)

@@ -7,27 +7,27 @@ use Rattle.std.proofs.lemmas.Bool.{cases_lt}
 use Rattle.std.proofs.lemmas.List.{length-map}
 use Rattle.std.proofs.lemmas.List.Elements.{All-head, All-tail}
 use Rattle.std.proofs.lemmas.Option.{slice_get-map}
-use Rattle.relations.specs.Sets.{In}
-use Rattle.relations.specs.Spans.{Span, forever}
-use Rattle.relations.proofs.SetLaws.{in_map}
-use Rattle.table_histories.specs.Store.{Cell, Store, IsPeriod, IsBefore, AllBefore, relation_at}
-use Rattle.smo_types.specs.Commands.{PlainVersion, version_of}
-use Rattle.smo_meaning.specs.Effects.{rows_under}
-use Rattle.smo_meaning.specs.InForce.{stamp_of}
-use Rattle.smo_meaning.specs.ValidPast.{IsLater, IsPast}
-use Rattle.smo_meaning.specs.Past.{Past, version_at, database_at}
-use Rattle.smo_meaning.specs.Sizes.{Size, none_written}
-use Rattle.lifelines.specs.Lifelines.{Lifeline, Covers, lifelines_of, lifeline_columns}
-use Rattle.image_spelling.specs.Images.{StoredLine, Image, IsImage, IsStoredLine, IsUpTo, EndsUpTo}
-use Rattle.image_spelling.specs.Images.{lines_in, store_of}
-use Rattle.image_spelling.specs.ShownPast.{cells_written, line_size, image_past}
-use Rattle.image_spelling.proofs.ShownPasts.{is_past, past_holds, table_shown}
-use Rattle.image_spelling.proofs.DueLifelines.{due_lifelines}
-use Rattle.image_reader.specs.Seen.{stored_seen, cells_seen, lines_seen}
-use Rattle.image_reader.specs.Ordered.{IsOrdered}
-use Rattle.image_reader.specs.declared.line.ReadLine.{ReadLine}
-use Rattle.version_tables.specs.declared.made_table.MadeTable.{MadeTable}
-use Rattle.version_tables.specs.Restoring.{stores_of}
+use Rattle.relations_spec.specs.Sets.{In}
+use Rattle.relations_spec.specs.Spans.{Span, forever}
+use Rattle.relations_spec.proofs.SetLaws.{in_map}
+use Rattle.history_store_spec.specs.Store.{Cell, Store, IsPeriod, IsBefore, AllBefore, relation_at}
+use Rattle.smo_ops_types.specs.Commands.{PlainVersion, version_of}
+use Rattle.smo_ops_spec.specs.Effects.{rows_under}
+use Rattle.smo_ops_spec.specs.InForce.{stamp_of}
+use Rattle.smo_ops_spec.specs.ValidPast.{IsLater, IsPast}
+use Rattle.smo_ops_spec.specs.Past.{Past, version_at, database_at}
+use Rattle.smo_ops_spec.specs.Sizes.{Size, none_written}
+use Rattle.smo_ops_versions_spec.specs.Lifelines.{Lifeline, Covers, lifelines_of, lifeline_columns}
+use Rattle.store_image_spec.specs.Images.{StoredLine, Image, IsImage, IsStoredLine, IsUpTo, EndsUpTo}
+use Rattle.store_image_spec.specs.Images.{lines_in, store_of}
+use Rattle.store_image_spec.specs.ShownPast.{cells_written, line_size, image_past}
+use Rattle.store_image_spec.proofs.ShownPasts.{is_past, past_holds, table_shown}
+use Rattle.store_image_spec.proofs.DueLifelines.{due_lifelines}
+use Rattle.store_image_reader.specs.Seen.{stored_seen, cells_seen, lines_seen}
+use Rattle.store_image_reader.specs.Ordered.{IsOrdered}
+use Rattle.store_image_reader.specs.declared.line.ReadLine.{ReadLine}
+use Rattle.version_groups_tables.specs.declared.made_table.MadeTable.{MadeTable}
+use Rattle.version_groups_tables.specs.Restoring.{stores_of}
 use Rattle.version_groups.specs.Covering.{line_of, AreOfLifelines}
 use Rattle.version_groups.specs.Groups.{Kept, versions_in, places_of, table_in}
 use Rattle.version_groups.specs.Restoring.{IsPastOf, store_columns}

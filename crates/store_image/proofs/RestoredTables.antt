@@ -4,11 +4,11 @@ use Rattle.std.proofs.Common.{sym, ap, subst, ◌∙◌, append_assoc, append-ni
 use Rattle.std.proofs.lemmas.List.{drop_more, drop_all, map-append}
 use Rattle.std.proofs.lemmas.Slice.Zip.{get_or-zip, length-zip}
 use Rattle.std.specs.List.{zip}
-use Rattle.table_histories.specs.Store.{Store}
-use Rattle.image_spelling.specs.Images.{StoredLine, store_of}
-use Rattle.image_reader.specs.Seen.{line_seen, stored_seen, lines_seen}
-use Rattle.image_reader.specs.declared.due.DueLine.{DueLine}
-use Rattle.image_reader.specs.declared.line.ReadLine.{ReadLine}
+use Rattle.history_store_spec.specs.Store.{Store}
+use Rattle.store_image_spec.specs.Images.{StoredLine, store_of}
+use Rattle.store_image_reader.specs.Seen.{line_seen, stored_seen, lines_seen}
+use Rattle.store_image_reader.specs.declared.due.DueLine.{DueLine}
+use Rattle.store_image_reader.specs.declared.line.ReadLine.{ReadLine}
 use Rattle.store_image.specs.ImageIn.{bare, CanBeMade, CanAllBeMade}
 
 -- a line and what it is over, at a place of both lists

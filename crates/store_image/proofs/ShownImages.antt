@@ -5,28 +5,28 @@ use Rattle.std.specs.FinMap.{get, same_map, slice_cmp-IsAntisymmetric, nat_cmp-I
 use Rattle.std.specs.Cmp.Lexicographic.{nat_list_cmp_total}
 use Rattle.std.proofs.lemmas.List.{length-map}
 use Rattle.std.proofs.lemmas.Option.{slice_get-map}
-use Rattle.relations.specs.Sets.{In}
-use Rattle.relations.specs.Spans.{forever}
-use Rattle.relations.proofs.SetLaws.{in_map, from_map}
+use Rattle.relations_spec.specs.Sets.{In}
+use Rattle.relations_spec.specs.Spans.{forever}
+use Rattle.relations_spec.proofs.SetLaws.{in_map, from_map}
 use Rattle.prima_base.specs.Columns.{Column}
 use Rattle.prima_base.specs.Limits.{max_versions}
 use Rattle.schema_catalog.specs.Tables.{Tables}
 use Rattle.schema_catalog.specs.Databases.{DatabaseEntry, Rows, Lost, IsEntry, IsDatabase}
-use Rattle.table_histories.specs.Store.{Cell, Store, AllBefore, relation_at}
-use Rattle.smo_types.specs.Commands.{PlainVersion, version_of}
-use Rattle.smo_meaning.specs.Effects.{rows_under}
-use Rattle.smo_meaning.specs.ValidPast.{last_or_nought, IsLater, AllInForce, AreVersions, IsPast}
-use Rattle.smo_meaning.specs.Past.{Past, no_tables, tables_from, tables_of, begun_at, version_at}
-use Rattle.smo_meaning.specs.Past.{database_at}
-use Rattle.smo_meaning.proofs.PastMoments.{few_begun}
-use Rattle.lifelines.specs.Lifelines.{Covers}
-use Rattle.image_spelling.specs.Images.{Image, IsStoredLine, IsImage, store_of}
-use Rattle.image_spelling.specs.ShownPast.{image_past}
-use Rattle.image_spelling.specs.Lengths.{image_length}
-use Rattle.image_spelling.proofs.ImageLengths.{has_length}
-use Rattle.image_spelling.proofs.SamePasts.{known_past}
-use Rattle.image_spelling.proofs.ShownPasts.{is_past, table_shown}
-use Rattle.version_tables.specs.declared.made_table.MadeTable.{MadeTable}
+use Rattle.history_store_spec.specs.Store.{Cell, Store, AllBefore, relation_at}
+use Rattle.smo_ops_types.specs.Commands.{PlainVersion, version_of}
+use Rattle.smo_ops_spec.specs.Effects.{rows_under}
+use Rattle.smo_ops_spec.specs.ValidPast.{last_or_nought, IsLater, AllInForce, AreVersions, IsPast}
+use Rattle.smo_ops_spec.specs.Past.{Past, no_tables, tables_from, tables_of, begun_at, version_at}
+use Rattle.smo_ops_spec.specs.Past.{database_at}
+use Rattle.smo_ops_spec.proofs.PastMoments.{few_begun}
+use Rattle.smo_ops_versions_spec.specs.Lifelines.{Covers}
+use Rattle.store_image_spec.specs.Images.{Image, IsStoredLine, IsImage, store_of}
+use Rattle.store_image_spec.specs.ShownPast.{image_past}
+use Rattle.store_image_spec.specs.Lengths.{image_length}
+use Rattle.store_image_spec.proofs.ImageLengths.{has_length}
+use Rattle.store_image_spec.proofs.SamePasts.{known_past}
+use Rattle.store_image_spec.proofs.ShownPasts.{is_past, table_shown}
+use Rattle.version_groups_tables.specs.declared.made_table.MadeTable.{MadeTable}
 use Rattle.version_groups.specs.Covering.{line_of}
 use Rattle.version_groups.specs.Groups.{Kept, versions_in, places_of, table_in}
 use Rattle.version_groups.specs.Representation.{Represents, RepresentsTable, RepresentsEntry}

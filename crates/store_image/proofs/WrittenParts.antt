@@ -5,20 +5,20 @@ use Rattle.std.specs.Prelude.{Option}
 use Rattle.std.specs.List.{flat_map, AllByRecursion}
 use Rattle.std.proofs.lemmas.List.{drop_more}
 use Rattle.std.proofs.lemmas.List.Concat.{flat_map-cons}
-use Rattle.relations.specs.Spans.{Span}
+use Rattle.relations_spec.specs.Spans.{Span}
 use Rattle.prima_base.specs.Columns.{IsValid}
 use Rattle.schema_catalog.specs.Tables.{Tables}
 use Rattle.history_store.specs.Scans.{keys_from}
 use Rattle.history_store.specs.declared.scan.KeyEntry.{KeyEntry}
-use Rattle.table_histories.specs.Store.{Cell}
-use Rattle.smo_types.specs.Commands.{PlainVersion}
-use Rattle.smo_meaning.specs.After.{IsValid as AreTables}
-use Rattle.smo_meaning.specs.ValidPast.{AreVersions}
-use Rattle.smo_meaning.proofs.NextSchemas.{next_is_valid}
-use Rattle.command_spelling.specs.Spelling.{number, list_bytes}
-use Rattle.image_spelling.specs.Spelling.{span_bytes, cell_bytes, stored_bytes}
-use Rattle.image_spelling.proofs.ValidVersions.{version_writable}
-use Rattle.version_tables.specs.declared.made_table.MadeTable.{MadeTable}
+use Rattle.history_store_spec.specs.Store.{Cell}
+use Rattle.smo_ops_types.specs.Commands.{PlainVersion}
+use Rattle.smo_ops_spec.specs.After.{IsValid as AreTables}
+use Rattle.smo_ops_spec.specs.ValidPast.{AreVersions}
+use Rattle.smo_ops_spec.proofs.NextSchemas.{next_is_valid}
+use Rattle.command_codec_spec.specs.Spelling.{number, list_bytes}
+use Rattle.store_image_spec.specs.Spelling.{span_bytes, cell_bytes, stored_bytes}
+use Rattle.store_image_spec.proofs.ValidVersions.{version_writable}
+use Rattle.version_groups_tables.specs.declared.made_table.MadeTable.{MadeTable}
 use Rattle.store_image.specs.ImageIn.{kept_line, CanBeWritten, AreValid}
 
 -- one part more

@@ -1,22 +1,22 @@
 -- The image of an archive's groups.
 use Rattle.std.specs.Prelude.{◌≡◌, ◌<◌, ◌^◌, ℕ, List, [], ◌∷◌, length, map, Option, All, ⊤}
-use Rattle.relations.specs.Sets.{In}
+use Rattle.relations_spec.specs.Sets.{In}
 use Rattle.prima_base.specs.Columns.{IsValid}
-use Rattle.table_histories.specs.Store.{Cell, Store, IsStore}
-use Rattle.smo_types.specs.Commands.{PlainVersion, evolving}
-use Rattle.smo_meaning.specs.Past.{Past}
-use Rattle.command_spelling.specs.Valid.{IsWritableBody, BodyNamed}
-use Rattle.lifelines.specs.Lifelines.{Lifeline}
+use Rattle.history_store_spec.specs.Store.{Cell, Store, IsStore}
+use Rattle.smo_ops_types.specs.Commands.{PlainVersion, evolving}
+use Rattle.smo_ops_spec.specs.Past.{Past}
+use Rattle.command_codec_spec.specs.Valid.{IsWritableBody, BodyNamed}
+use Rattle.smo_ops_versions_spec.specs.Lifelines.{Lifeline}
 use Rattle.history_store.specs.Restoring.{IsInOrder}
-use Rattle.image_reader.specs.Seen.{stored_seen, cells_seen}
-use Rattle.image_reader.specs.declared.line.ReadLine.{ReadLine}
-use Rattle.version_tables.specs.declared.made_table.MadeTable.{MadeTable}
+use Rattle.store_image_reader.specs.Seen.{stored_seen, cells_seen}
+use Rattle.store_image_reader.specs.declared.line.ReadLine.{ReadLine}
+use Rattle.version_groups_tables.specs.declared.made_table.MadeTable.{MadeTable}
 use Rattle.version_groups.specs.Covering.{line_of}
 use Rattle.version_groups.specs.Groups.{Kept, versions_in}
-use Rattle.image_spelling.specs.Images.{StoredLine, Image, IsImage, VersionsNamed, store_of}
-use Rattle.image_spelling.specs.Spelling.{image_bytes}
-use Rattle.image_spelling.specs.ShownPast.{image_past}
-use Rattle.image_spelling.specs.Lengths.{image_length}
+use Rattle.store_image_spec.specs.Images.{StoredLine, Image, IsImage, VersionsNamed, store_of}
+use Rattle.store_image_spec.specs.Spelling.{image_bytes}
+use Rattle.store_image_spec.specs.ShownPast.{image_past}
+use Rattle.store_image_spec.specs.Lengths.{image_length}
 
 -- what is kept over a lifeline
 abbrev pub kept_line : MadeTable → StoredLine

@@ -7,29 +7,31 @@ ghost use Rattle.prima_base.specs.Columns.{IsValid};
 ghost use Rattle.prima_base.specs.Order.{shown};
 ghost use Rattle.history_store.specs.Scans.{seen_cell};
 ghost use Rattle.history_store.specs.Store.{IsStore};
-ghost use Rattle.smo_types.specs.Commands.{version_of};
-ghost use Rattle.smo_meaning.specs.ValidPast.{AreVersions};
-ghost use Rattle.smo_meaning.specs.Past.{Past, no_tables};
-ghost use Rattle.command_spelling.specs.Spelling.{list_bytes};
-ghost use Rattle.image_spelling.specs.Spelling.{span_bytes, cell_bytes, line_bytes, stored_bytes};
-ghost use Rattle.image_spelling.specs.Spelling.{last_bytes, version_bytes, image_bytes};
+ghost use Rattle.smo_ops_types.specs.Commands.{version_of};
+ghost use Rattle.smo_ops_spec.specs.ValidPast.{AreVersions};
+ghost use Rattle.smo_ops_spec.specs.Past.{Past, no_tables};
+ghost use Rattle.command_codec_spec.specs.Spelling.{list_bytes};
+ghost use Rattle.store_image_spec.specs.Spelling.{span_bytes, cell_bytes, line_bytes, stored_bytes};
+ghost use Rattle.store_image_spec.specs.Spelling.{last_bytes, version_bytes, image_bytes};
 ghost use Rattle.version_groups.specs.Groups.{versions_in};
 ghost use Rattle.version_groups.specs.Covering.{line_of};
 ghost use Rattle.version_groups.specs.Representation.{Represents};
-ghost use Rattle.image_spelling.specs.Images.{VersionsNamed};
+ghost use Rattle.store_image_spec.specs.Images.{VersionsNamed};
 ghost use Rattle.store_image.specs.ImageIn.{kept_line, image_in, CanBeWritten, IsNamed, AreValid};
 ghost use Rattle.store_image.specs.ImageIn.{ColumnHolds, TableHolds, GroupsHold, IsImageOf};
 
 use crate::an_image_shows_its_archive;
 use crate::size::image_size;
-use command_encoder::{put, put_u32, put_u64, write_borrowed, write_name, write_op, write_ops};
+use command_codec_writer::{
+    put, put_u32, put_u64, write_borrowed, write_name, write_op, write_ops,
+};
 use history_store::{CellEntry, CellScan, KeyScan, StoredTable};
-use image_reader::last_number;
 use prima_base::{NoMemory, Period, Steps};
-use smo_types::Version;
+use smo_ops_types::Version;
 use std::alloc::Global;
 use std::marker::Brand;
 use std::sync::ledger::{Blank, Ledger};
+use store_image_reader::last_number;
 use version_groups::{Groups, MadeTable};
 
 // A start and an end.

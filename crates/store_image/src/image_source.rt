@@ -2,24 +2,24 @@
 
 ghost use Rattle.std.specs.Prelude.{◌≡◌, ◌+◌, ◌<◌, ◌≤◌, ◌^◌, ℕ, [], List, All, length, map, IfOk};
 ghost use Rattle.std.specs.Prelude.{Err};
-ghost use Rattle.smo_types.specs.Commands.{versions_of};
-ghost use Rattle.command_spelling.specs.Reading.{Parsed, Unexpected};
-ghost use Rattle.lifelines.specs.Lifelines.{lifelines_of};
-ghost use Rattle.image_spelling.specs.Images.{Image, IsImage, store_of};
-ghost use Rattle.image_spelling.specs.Reader as spec;
-ghost use Rattle.image_spelling.specs.ShownPast.{image_past};
-ghost use Rattle.image_reader.specs.Seen.{line_seen, stored_seen, lines_seen, image_seen};
-ghost use Rattle.image_reader.specs.declared.fault.ImageFault.TheVariants as fault;
+ghost use Rattle.smo_ops_types.specs.Commands.{versions_of};
+ghost use Rattle.command_codec_spec.specs.Reading.{Parsed, Unexpected};
+ghost use Rattle.smo_ops_versions_spec.specs.Lifelines.{lifelines_of};
+ghost use Rattle.store_image_spec.specs.Images.{Image, IsImage, store_of};
+ghost use Rattle.store_image_spec.specs.Reader as spec;
+ghost use Rattle.store_image_spec.specs.ShownPast.{image_past};
+ghost use Rattle.store_image_reader.specs.Seen.{line_seen, stored_seen, lines_seen, image_seen};
+ghost use Rattle.store_image_reader.specs.declared.fault.ImageFault.TheVariants as fault;
 ghost use Rattle.version_groups.specs.Representation.{Represents};
-ghost use Rattle.image_reader.specs.Ordered.{IsOrdered};
+ghost use Rattle.store_image_reader.specs.Ordered.{IsOrdered};
 ghost use Rattle.store_image.specs.ImageIn.{image_in, bare, CanBeMade, CanAllBeMade};
 
 use history_store::StoredTable;
-use image_reader::{DueLine, ImageFault, ReadImage, ReadLine, due_lines, read};
-use image_spelling::an_image_is_what_is_read;
 use prima_base::NoMemory;
-use smo_types::Versions;
+use smo_ops_types::Versions;
 use std::alloc::Global;
+use store_image_reader::{DueLine, ImageFault, ReadImage, ReadLine, due_lines, read};
+use store_image_spec::an_image_is_what_is_read;
 use version_groups::{Groups, restored_groups_represent};
 
 // The table that was kept over a lifeline.

@@ -1,7 +1,7 @@
 //! Laws of the images of groups. Each is proved and does nothing.
 
 ghost use Rattle.std.specs.Prelude.{◌≡◌, ℕ, Option};
-ghost use Rattle.smo_meaning.specs.Past.{Past};
+ghost use Rattle.smo_ops_spec.specs.Past.{Past};
 ghost use Rattle.version_groups.specs.Groups.{Kept};
 ghost use Rattle.version_groups.specs.Representation.{Represents};
 ghost use Rattle.store_image.specs.ImageIn.{image_in, GroupsHold, IsImageOf};

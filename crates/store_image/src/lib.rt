@@ -2,7 +2,7 @@
 //!
 //! `image_of` writes the image of groups into one buffer of just its bytes, and `read_image` makes
 //! groups again of the bytes of an image, or says where they break. Which bytes are an image says
-//! image_spelling; that the image of groups shows just the past that they represent, a law here.
+//! store_image_spec; that the image of groups shows just the past that they represent, a law here.
 #![tactic(auto)]
 
 mod image_of_store;
@@ -11,6 +11,6 @@ mod laws;
 mod size;
 
 pub use image_of_store::image_of;
-pub use image_reader::ImageFault;
 pub use image_source::read_image;
 pub use laws::an_image_shows_its_archive;
+pub use store_image_reader::ImageFault;

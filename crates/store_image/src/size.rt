@@ -2,21 +2,21 @@
 
 ghost use Rattle.std.specs.Prelude.{◌≡◌, ◌+◌, ◌≤◌, ℕ, Option, map, min, length};
 ghost use Rattle.std.specs.List.{flat_map};
-ghost use Rattle.smo_types.specs.Commands.{version_of};
-ghost use Rattle.command_spelling.specs.Spelling.{list_bytes};
-ghost use Rattle.image_spelling.specs.Spelling.{cell_bytes, stored_bytes, version_bytes};
-ghost use Rattle.image_spelling.specs.Spelling.{image_bytes};
+ghost use Rattle.smo_ops_types.specs.Commands.{version_of};
+ghost use Rattle.command_codec_spec.specs.Spelling.{list_bytes};
+ghost use Rattle.store_image_spec.specs.Spelling.{cell_bytes, stored_bytes, version_bytes};
+ghost use Rattle.store_image_spec.specs.Spelling.{image_bytes};
 ghost use Rattle.store_image.specs.ImageIn.{kept_line, image_in};
 
-use command_encoder::{borrowed_size, name_size, op_size, ops_size};
+use command_codec_writer::{borrowed_size, name_size, op_size, ops_size};
 use history_store::{CellScan, StoredTable};
 use prima_base::Steps;
-use smo_types::Version;
+use smo_ops_types::Version;
 use std::sync::ledger::Ledger;
 use version_groups::{Groups, MadeTable};
 
 // The bytes of entries, without their count.
-#[tactic(auto, using(command_encoder::proofs::Lengths::lengths))]
+#[tactic(auto, using(command_codec_writer::proofs::Lengths::lengths))]
 fn cells_size<L: Ledger>(mut cells: CellScan<'_>, steps: &mut Steps<L>) -> u64
     ensures { result ≡ min (length (flat_map cell_bytes cells.entry)) u64.MAX }
 {
@@ -28,7 +28,7 @@ fn cells_size<L: Ledger>(mut cells: CellScan<'_>, steps: &mut Steps<L>) -> u64
 }
 
 // The bytes of the columns of a table, each with its count.
-#[tactic(auto, using(command_encoder::proofs::Lengths::lengths))]
+#[tactic(auto, using(command_codec_writer::proofs::Lengths::lengths))]
 fn columns_size<L: Ledger>(store: &StoredTable, steps: &mut Steps<L>) -> u64
     ensures { result ≡ min (length (flat_map (list_bytes 8 cell_bytes) store.now.cells)) u64.MAX }
 {
@@ -41,7 +41,7 @@ fn columns_size<L: Ledger>(store: &StoredTable, steps: &mut Steps<L>) -> u64
 }
 
 // The bytes of a lifeline, and of what is kept over it.
-#[tactic(auto, using(command_encoder::proofs::Lengths::lengths, crate::proofs::Lengths::spans_length))]
+#[tactic(auto, using(command_codec_writer::proofs::Lengths::lengths, crate::proofs::Lengths::spans_length))]
 fn line_size<L: Ledger>(table: &MadeTable, steps: &mut Steps<L>) -> u64
     ensures { result ≡ min (length (stored_bytes (kept_line table.now))) u64.MAX }
 {
@@ -52,7 +52,7 @@ fn line_size<L: Ledger>(table: &MadeTable, steps: &mut Steps<L>) -> u64
 }
 
 // The bytes of lifelines, without their count.
-#[tactic(auto, using(command_encoder::proofs::Lengths::lengths))]
+#[tactic(auto, using(command_codec_writer::proofs::Lengths::lengths))]
 fn lines_size<L: Ledger>(tables: &[MadeTable], steps: &mut Steps<L>) -> u64
     ensures { result ≡ min (length (flat_map stored_bytes (map kept_line tables.now))) u64.MAX }
 {
@@ -64,7 +64,7 @@ fn lines_size<L: Ledger>(tables: &[MadeTable], steps: &mut Steps<L>) -> u64
 }
 
 // The bytes of a version.
-#[tactic(auto, using(command_encoder::proofs::Lengths::lengths))]
+#[tactic(auto, using(command_codec_writer::proofs::Lengths::lengths))]
 fn version_size(version: &Version) -> u64
     ensures { result ≡ min (length (version_bytes (version_of version.now))) u64.MAX }
 {
@@ -73,7 +73,7 @@ fn version_size(version: &Version) -> u64
 }
 
 // The bytes of versions, without their count.
-#[tactic(auto, using(command_encoder::proofs::Lengths::lengths))]
+#[tactic(auto, using(command_codec_writer::proofs::Lengths::lengths))]
 fn versions_size(versions: &[Version]) -> u64
     ensures { result ≡ min (length (flat_map version_bytes (map version_of versions.now))) u64.MAX }
 {
@@ -85,7 +85,7 @@ fn versions_size(versions: &[Version]) -> u64
 }
 
 /// The bytes of the image of the groups, with any last stamp.
-#[tactic(auto, using(command_encoder::proofs::Lengths::lengths, crate::proofs::Lengths::last_length))]
+#[tactic(auto, using(command_codec_writer::proofs::Lengths::lengths, crate::proofs::Lengths::last_length))]
 pub(crate) fn image_size<L: Ledger>(groups: &Groups, steps: &mut Steps<L>) -> u64
     ensures { (last : Option ℕ) → result ≡ min (length (image_bytes (image_in groups.now last)))
         u64.MAX }

@@ -5,18 +5,18 @@ use Rattle.prima_base.specs.declared.refusal.Refusal.{Refusal}
 use Rattle.schema_catalog.specs.Tables.{Tables}
 use Rattle.cond_expr.specs.Kinds.{Kinds}
 use Rattle.cond_expr.specs.Faults.{first_unknown}
-use Rattle.smo_meaning.specs.First.{first_refusal}
-use Rattle.smo_meaning.proofs.Firsts.{first_after, first_before, drop_at}
-use Rattle.query_types.specs.declared.branch.Branch.{Branch}
+use Rattle.smo_ops_spec.specs.First.{first_refusal}
+use Rattle.smo_ops_spec.proofs.Firsts.{first_after, first_before, drop_at}
+use Rattle.temporal_lang_types.specs.declared.branch.Branch.{Branch}
 use Rattle.prima_base.specs.declared.fault.CallFault.{CallFault}
 use Rattle.prima_base.specs.declared.fault.CallFault.TheVariants.{Refused, NoMemory}
-use Rattle.plain_answers.specs.Branches.{PlainBranch}
-use Rattle.query_types.specs.Branches.{branch_of, branches_of}
-use Rattle.query_meaning.specs.Atoms.{atom_kinds}
+use Rattle.plain_answers_spec.specs.Branches.{PlainBranch}
+use Rattle.temporal_lang_types.specs.Branches.{branch_of, branches_of}
+use Rattle.temporal_lang_spec.specs.Atoms.{atom_kinds}
 use Rattle.prima_base.specs.Faults.{IsTested}
-use Rattle.query_meaning.specs.Checking.{branch_types, branch_nodes, branch_references, types_from}
-use Rattle.query_meaning.specs.Checking.{typing_tests, arities, output_kinds}
-use Rattle.query_meaning.specs.Resolved.{IsSmall, AllSmall, AllKnown, HaveFew}
+use Rattle.temporal_lang_spec.specs.Checking.{branch_types, branch_nodes, branch_references, types_from}
+use Rattle.temporal_lang_spec.specs.Checking.{typing_tests, arities, output_kinds}
+use Rattle.temporal_lang_spec.specs.Resolved.{IsSmall, AllSmall, AllKnown, HaveFew}
 use Rattle.temporal_lang.specs.Typings.{BranchTyped, BranchesTyped}
 
 module _ (tables : Tables) (xs : List Branch) (i : ℕ) (x : Branch) (below : i < length xs)

@@ -6,22 +6,22 @@ use Rattle.std.proofs.lemmas.List.{length-map}
 use Rattle.prima_base.specs.declared.keep.Keep.{Keep}
 use Rattle.prima_base.specs.declared.refusal.Refusal.{Refusal}
 use Rattle.schema_catalog.specs.Tables.{Tables}
-use Rattle.smo_meaning.specs.First.{first_refusal}
-use Rattle.smo_meaning.specs.Checks.{Fault}
-use Rattle.smo_meaning.proofs.Firsts.{first_after, first_before, first_later}
-use Rattle.query_types.specs.declared.branch.Branch.{Branch}
-use Rattle.query_types.specs.declared.query.Query.{Query}
-use Rattle.query_types.specs.declared.when.When.{When}
+use Rattle.smo_ops_spec.specs.First.{first_refusal}
+use Rattle.smo_ops_spec.specs.Checks.{Fault}
+use Rattle.smo_ops_spec.proofs.Firsts.{first_after, first_before, first_later}
+use Rattle.temporal_lang_types.specs.declared.branch.Branch.{Branch}
+use Rattle.temporal_lang_types.specs.declared.query.Query.{Query}
+use Rattle.temporal_lang_types.specs.declared.when.When.{When}
 use Rattle.prima_base.specs.declared.fault.CallFault.{CallFault}
 use Rattle.prima_base.specs.declared.fault.CallFault.TheVariants.{Refused, NoMemory}
-use Rattle.plain_answers.specs.Branches.{PlainBranch}
-use Rattle.query_types.specs.Branches.{branch_of, branches_of, IsQuery}
-use Rattle.query_types.specs.Queries.{PlainQuery}
-use Rattle.query_meaning.specs.Atoms.{branch_with_atoms, branches_with_atoms}
+use Rattle.plain_answers_spec.specs.Branches.{PlainBranch}
+use Rattle.temporal_lang_types.specs.Branches.{branch_of, branches_of, IsQuery}
+use Rattle.temporal_lang_types.specs.Queries.{PlainQuery}
+use Rattle.temporal_lang_spec.specs.Atoms.{branch_with_atoms, branches_with_atoms}
 use Rattle.prima_base.specs.Faults.{IsTested}
-use Rattle.query_meaning.specs.Checking.{IsQueryChecked, excess_of, excess_fault, names_tests}
-use Rattle.query_meaning.specs.Checking.{typing_tests, period_tests, query_tests, query_fault}
-use Rattle.query_meaning.proofs.BranchLaws.{still_parts}
+use Rattle.temporal_lang_spec.specs.Checking.{IsQueryChecked, excess_of, excess_fault, names_tests}
+use Rattle.temporal_lang_spec.specs.Checking.{typing_tests, period_tests, query_tests, query_fault}
+use Rattle.temporal_lang_spec.proofs.BranchLaws.{still_parts}
 
 -- ---- which test decides
 

@@ -2,8 +2,8 @@
 use Rattle.std.specs.Prelude.{◌≡◌, ℕ, ◌<◌, ◌≤◌, Bool, true, false, nat_le, Some, None}
 use Rattle.std.proofs.Common.{refl, arith}
 use Rattle.prima_base.specs.declared.refusal.What.{What}
-use Rattle.smo_meaning.specs.First.{unless}
-use Rattle.smo_meaning.specs.Counts.{at_most}
+use Rattle.smo_ops_spec.specs.First.{unless}
+use Rattle.smo_ops_spec.specs.Counts.{at_most}
 
 pub above_limit : (what : What) (limit n : ℕ) → limit < n
     → at_most what limit n ≡ Some (what, limit)

@@ -4,11 +4,11 @@ use Rattle.std.specs.Prelude.{◌≡◌, ℕ, zero, suc, ◌+◌, ◌<◌, ◌�
 use Rattle.std.proofs.Common.{sym, ap, subst, ◌∙◌, get_or, arith}
 use Rattle.std.proofs.lemmas.List.{take_more}
 use Rattle.schema_catalog.specs.Tables.{Tables}
-use Rattle.query_types.specs.declared.branch.Branch.{Branch}
-use Rattle.query_types.specs.Branches.{branch_of, branches_of}
-use Rattle.query_meaning.specs.Atoms.{branch_with_atoms, branches_with_atoms}
-use Rattle.query_meaning.specs.Resolved.{HaveFew}
-use Rattle.query_meaning.proofs.FillLaws.{map_both}
+use Rattle.temporal_lang_types.specs.declared.branch.Branch.{Branch}
+use Rattle.temporal_lang_types.specs.Branches.{branch_of, branches_of}
+use Rattle.temporal_lang_spec.specs.Atoms.{branch_with_atoms, branches_with_atoms}
+use Rattle.temporal_lang_spec.specs.Resolved.{HaveFew}
+use Rattle.temporal_lang_spec.proofs.FillLaws.{map_both}
 
 pub few_at : (xs : List Branch) (i : ℕ) (x : Branch) → HaveFew (branches_of xs) → i < length xs
     → x ≡ get_or xs i x → length x.from.items ≤ 8

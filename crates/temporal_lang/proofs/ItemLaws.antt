@@ -6,13 +6,13 @@ use Rattle.std.proofs.lemmas.List.{take_more}
 use Rattle.std.specs.FinMap.{contains_key}
 use Rattle.prima_base.specs.declared.refusal.Refusal.TheVariants.{NoTable, Ambiguous}
 use Rattle.schema_catalog.specs.Tables.{Tables}
-use Rattle.smo_meaning.specs.First.{unless, where_so, first_refusal}
-use Rattle.smo_meaning.specs.Checks.{Fault}
-use Rattle.smo_meaning.specs.Preconditions.{among}
-use Rattle.smo_meaning.proofs.Firsts.{drop_at}
-use Rattle.plain_answers.specs.Branches.{Item}
-use Rattle.query_types.specs.Branches.{aliases_of}
-use Rattle.query_meaning.specs.Checking.{items_after}
+use Rattle.smo_ops_spec.specs.First.{unless, where_so, first_refusal}
+use Rattle.smo_ops_spec.specs.Checks.{Fault}
+use Rattle.smo_ops_spec.specs.Preconditions.{among}
+use Rattle.smo_ops_spec.proofs.Firsts.{drop_at}
+use Rattle.plain_answers_spec.specs.Branches.{Item}
+use Rattle.temporal_lang_types.specs.Branches.{aliases_of}
+use Rattle.temporal_lang_spec.specs.Checking.{items_after}
 
 aliases_append : (a b : List Item) → aliases_of (a ++ b) ≡ aliases_of a ++ aliases_of b
 aliases_append [] b = refl

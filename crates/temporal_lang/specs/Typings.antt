@@ -9,15 +9,15 @@ use Rattle.cond_expr.specs.Trees.{Tree, Test}
 use Rattle.cond_expr.specs.Sizes.{nodes_of, test_nodes}
 use Rattle.cond_expr.specs.Kinds.{Kinds, kind_of}
 use Rattle.cond_expr.specs.Faults.{untyped, test_untyped, first_of}
-use Rattle.expr_typing.specs.declared.expr_type.TypedExpr.{TypedExpr}
-use Rattle.smo_meaning.specs.First.{first_refusal}
+use Rattle.cond_expr.specs.declared.expr_type.TypedExpr.{TypedExpr}
+use Rattle.smo_ops_spec.specs.First.{first_refusal}
 use Rattle.prima_base.specs.declared.refusal.Refusal.{Refusal}
 use Rattle.prima_base.specs.declared.fault.CallFault.{CallFault}
 use Rattle.prima_base.specs.Faults.{IsTestedAs}
 use Rattle.temporal_lang.specs.declared.type_check.Typed.{Typed}
-use Rattle.plain_answers.specs.Branches.{PlainBranch}
-use Rattle.query_meaning.specs.Checking.{trees_types, outputs_nodes, branch_types, branch_nodes}
-use Rattle.query_meaning.specs.Checking.{types_from, output_kinds}
+use Rattle.plain_answers_spec.specs.Branches.{PlainBranch}
+use Rattle.temporal_lang_spec.specs.Checking.{trees_types, outputs_nodes, branch_types, branch_nodes}
+use Rattle.temporal_lang_spec.specs.Checking.{types_from, output_kinds}
 
 -- the type and the number of nodes, where no node is ill-typed; else the place of the first that
 -- is, the root being node `at`

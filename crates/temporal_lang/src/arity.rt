@@ -1,6 +1,6 @@
 ghost use Rattle.std.specs.Prelude.{◌≡◌, ◌<◌, ◌^◌, ◌+◌, map, length, Some};
-ghost use Rattle.smo_meaning.specs.First.{first_refusal};
-ghost use Rattle.query_meaning.specs.Checking.{alike, arities_from, arities};
+ghost use Rattle.smo_ops_spec.specs.First.{first_refusal};
+ghost use Rattle.temporal_lang_spec.specs.Checking.{alike, arities_from, arities};
 ghost use Rattle.temporal_lang.specs.Typings.{kind_lists};
 ghost use Rattle.prima_base.specs.Faults.{IsTested};
 

@@ -1,7 +1,7 @@
 ghost use Rattle.std.specs.Prelude.{◌≡◌, ◌++◌, ◌≤◌, ◌<◌, OnOk, IfOk, length};
 ghost use Rattle.cond_expr.specs.AtomColumns.{columns_at, atoms_from};
-ghost use Rattle.plain_answers.specs.Branches.{item_columns};
-ghost use Rattle.smo_meaning.specs.Effects.{columns_of};
+ghost use Rattle.plain_answers_spec.specs.Branches.{item_columns};
+ghost use Rattle.smo_ops_spec.specs.Effects.{columns_of};
 
 use cond_expr::{Column, push_columns_at};
 use prima_base::{Name, NoMemory};

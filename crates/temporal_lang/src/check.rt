@@ -2,8 +2,8 @@ ghost use Rattle.std.specs.Prelude.{◌≡◌, IfOk, IsOkUnless, IsErrOf, ◌⊎
 ghost use Rattle.prima_base.specs.declared.refusal.Refusal.{Refusal as OneRefusal};
 ghost use Rattle.prima_base.specs.declared.fault.CallFault.TheVariants.{Refused};
 ghost use Rattle.prima_base.specs.declared.fault.CallFault.TheVariants.{NoMemory as OutOfMemory};
-ghost use Rattle.query_types.specs.Queries.{query_of, IsLasting};
-ghost use Rattle.query_meaning.specs.Checking.{query_fault, IsQueryChecked};
+ghost use Rattle.temporal_lang_types.specs.Queries.{query_of, IsLasting};
+ghost use Rattle.temporal_lang_spec.specs.Checking.{query_fault, IsQueryChecked};
 
 use crate::count::check_query_counts;
 use crate::name::check_names;
@@ -12,9 +12,9 @@ use crate::resolution::resolve_branches;
 use crate::type_check::check_typing;
 use crate::{Query, QueryFault};
 use prima_base::Refusal;
-use query_types::copy_keeps;
 use schema_catalog::Schema;
 use std::alloc::Global;
+use temporal_lang_types::copy_keeps;
 
 /// The query with each reference made one to an atom, which is the place of its item in its branch;
 /// else the first refusal in the one order: what there is too much of (38); then names, branch

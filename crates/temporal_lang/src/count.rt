@@ -3,12 +3,12 @@
 ghost use Rattle.std.specs.Prelude.{◌≡◌, map};
 ghost use Rattle.std.specs.List.{flat_map};
 ghost use Rattle.cond_expr.specs.Seen.{tree, test};
-ghost use Rattle.smo_meaning.specs.First.{first_refusal};
-ghost use Rattle.smo_meaning.specs.Counts.{tree_counts, test_counts};
-ghost use Rattle.query_types.specs.Branches.{branch_of, branches_of};
-ghost use Rattle.query_types.specs.Queries.{query_of};
-ghost use Rattle.query_meaning.specs.Checking.{output_counts, branch_counts, branches_counts};
-ghost use Rattle.query_meaning.specs.Checking.{excess_of};
+ghost use Rattle.smo_ops_spec.specs.First.{first_refusal};
+ghost use Rattle.smo_ops_spec.specs.Counts.{tree_counts, test_counts};
+ghost use Rattle.temporal_lang_types.specs.Branches.{branch_of, branches_of};
+ghost use Rattle.temporal_lang_types.specs.Queries.{query_of};
+ghost use Rattle.temporal_lang_spec.specs.Checking.{output_counts, branch_counts, branches_counts};
+ghost use Rattle.temporal_lang_spec.specs.Checking.{excess_of};
 ghost use Rattle.std.specs.Result.{result_err};
 
 use crate::{Branch, Query};

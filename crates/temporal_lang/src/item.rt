@@ -2,18 +2,18 @@ ghost use Rattle.std.specs.Prelude.{◌≡◌, ◌≤◌, length, map, Some};
 ghost use Rattle.std.specs.FinMap.{contains_key};
 ghost use Rattle.prima_base.specs.Columns.{names_of};
 ghost use Rattle.schema_catalog.specs.Tables.{Tables};
-ghost use Rattle.smo_meaning.specs.Effects.{columns_of};
-ghost use Rattle.smo_meaning.specs.Preconditions.{among};
-ghost use Rattle.smo_meaning.specs.First.{first_refusal};
-ghost use Rattle.query_types.specs.Branches.{aliases_of};
-ghost use Rattle.query_meaning.specs.Atoms.{sources_of, place_of_column, place_of_alias};
-ghost use Rattle.query_meaning.specs.Checking.{item_tests, holders};
+ghost use Rattle.smo_ops_spec.specs.Effects.{columns_of};
+ghost use Rattle.smo_ops_spec.specs.Preconditions.{among};
+ghost use Rattle.smo_ops_spec.specs.First.{first_refusal};
+ghost use Rattle.temporal_lang_types.specs.Branches.{aliases_of};
+ghost use Rattle.temporal_lang_spec.specs.Atoms.{sources_of, place_of_column, place_of_alias};
+ghost use Rattle.temporal_lang_spec.specs.Checking.{item_tests, holders};
 ghost use Rattle.prima_base.specs.Faults.{IsTested};
 
 use crate::QueryFault;
 use prima_base::{Name, Refusal};
 use schema_catalog::Schema;
-use table_columns::has_name;
+use smo_ops_columns::has_name;
 
 /// Whether the table has the column; false where there is no such table.
 pub(crate) fn has_column(schema: &Schema, table: &Name, name: &Name) -> bool

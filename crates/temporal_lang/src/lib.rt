@@ -1,6 +1,6 @@
-//! The query language: queries are checked. A facade over query_types (what a query is),
-//! query_grammar (which tokens spell it), query_parse (how it is read) and query_meaning (what it
-//! lists, and what is wrong with it): what crates above name of these is exported again.
+//! The query language: queries are read from tokens, from left to right, and checked. What a query
+//! is says temporal_lang_types, which tokens spell it temporal_lang_grammar_spec, what it lists and
+//! what is wrong with it temporal_lang_spec: what crates above name of these is exported again.
 #![tactic(auto)]
 
 mod arity;
@@ -11,20 +11,26 @@ mod fault;
 mod item;
 mod list;
 mod name;
+mod parse;
 mod period;
+mod query_reader;
 mod reference;
 mod resolution;
 mod to_atom;
 mod type_check;
+mod when_reader;
 
 pub use check::check_query;
 pub use count::check_query_counts;
 pub use fault::QueryFault;
+pub use parse::parse_query;
 pub use prima_base::Keep;
-pub use query_grammar::{crossings_tell_what_is_too_much, queries_are_correct, queries_are_one};
-pub use query_meaning::{
+pub use query_reader::ask;
+pub use temporal_lang_grammar_spec::{
+    crossings_tell_what_is_too_much, queries_are_correct, queries_are_one,
+};
+pub use temporal_lang_spec::{
     a_query_is_refused_for_want_of_a_named_inverse_alone, first_loss_is_at_the_least_moment,
     listing_is_the_one_list,
 };
-pub use query_parse::{ask, parse_query};
-pub use query_types::{Branch, Query, When, slice};
+pub use temporal_lang_types::{Branch, Query, When, slice};

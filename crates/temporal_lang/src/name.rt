@@ -1,10 +1,10 @@
 ghost use Rattle.std.specs.Prelude.{◌≡◌, map};
-ghost use Rattle.smo_meaning.specs.First.{first_refusal};
-ghost use Rattle.query_types.specs.Branches.{branch_of, branches_of};
-ghost use Rattle.query_meaning.specs.Atoms.{sources_of};
+ghost use Rattle.smo_ops_spec.specs.First.{first_refusal};
+ghost use Rattle.temporal_lang_types.specs.Branches.{branch_of, branches_of};
+ghost use Rattle.temporal_lang_spec.specs.Atoms.{sources_of};
 ghost use Rattle.prima_base.specs.Faults.{IsTested};
-ghost use Rattle.query_meaning.specs.Checking.{whose_fault, column_fault, reference_test};
-ghost use Rattle.query_meaning.specs.Checking.{branch_names, names_tests};
+ghost use Rattle.temporal_lang_spec.specs.Checking.{whose_fault, column_fault, reference_test};
+ghost use Rattle.temporal_lang_spec.specs.Checking.{branch_names, names_tests};
 ghost use Rattle.cond_expr.specs.References.{borrowed};
 
 use crate::item::{alias_place, check_items, has_column, holders_of};

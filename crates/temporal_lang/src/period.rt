@@ -1,8 +1,8 @@
 //! The periods that a query names: each has a moment.
 
 ghost use Rattle.std.specs.Prelude.{◌≡◌, map};
-ghost use Rattle.smo_meaning.specs.First.{first_refusal};
-ghost use Rattle.query_meaning.specs.Checking.{bounds_fault, when_fault, keep_fault, period_tests};
+ghost use Rattle.smo_ops_spec.specs.First.{first_refusal};
+ghost use Rattle.temporal_lang_spec.specs.Checking.{bounds_fault, when_fault, keep_fault, period_tests};
 ghost use Rattle.prima_base.specs.Faults.{IsTested};
 
 use crate::{Keep, QueryFault, When};

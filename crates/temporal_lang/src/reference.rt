@@ -1,7 +1,7 @@
 ghost use Rattle.std.specs.Prelude.{◌≡◌, ◌++◌, OnOk};
 ghost use Rattle.cond_expr.specs.References.{borrowed};
-ghost use Rattle.query_types.specs.Branches.{branch_of};
-ghost use Rattle.query_meaning.specs.Checking.{branch_references};
+ghost use Rattle.temporal_lang_types.specs.Branches.{branch_of};
+ghost use Rattle.temporal_lang_spec.specs.Checking.{branch_references};
 
 use crate::Branch;
 use cond_expr::{ColRef, gather_references};

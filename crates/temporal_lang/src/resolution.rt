@@ -3,19 +3,19 @@
 ghost use Rattle.std.specs.Prelude.{◌≡◌, ◌≤◌, IfOk, map, length};
 ghost use Rattle.cond_expr.specs.Trees.{fill, fill_test};
 ghost use Rattle.cond_expr.specs.Seen.{tree, test};
-ghost use Rattle.query_types.specs.Branches.{branch_of, branches_of};
-ghost use Rattle.query_meaning.specs.Atoms.{sources_of, to_atoms, branch_with_atoms};
-ghost use Rattle.query_meaning.specs.Atoms.{branches_with_atoms};
-ghost use Rattle.query_meaning.specs.Resolved.{HaveFew};
+ghost use Rattle.temporal_lang_types.specs.Branches.{branch_of, branches_of};
+ghost use Rattle.temporal_lang_spec.specs.Atoms.{sources_of, to_atoms, branch_with_atoms};
+ghost use Rattle.temporal_lang_spec.specs.Atoms.{branches_with_atoms};
+ghost use Rattle.temporal_lang_spec.specs.Resolved.{HaveFew};
 
 use crate::Branch;
 use crate::list::push;
 use crate::to_atom::ToAtoms;
 use cond_expr::{Expr, fill_cond, fill_expr};
 use prima_base::NoMemory;
-use query_types::copy_items;
 use schema_catalog::Schema;
 use std::alloc::Global;
+use temporal_lang_types::copy_items;
 
 fn resolve_outputs(by: &ToAtoms<'_>, alloc: Global, outs: &[Expr]) -> Result<Vec<Expr>, NoMemory>
     ensures { IfOk result (λ v. map tree v.items

@@ -27,7 +27,7 @@ fn atom(place: usize, name: &Name) -> Result<Expr, NoMemory>
 }
 
 impl<'a> Fill for ToAtoms<'a> {
-    ghost use Rattle.query_meaning.specs.Atoms.{sources_of, to_atoms};
+    ghost use Rattle.temporal_lang_spec.specs.Atoms.{sources_of, to_atoms};
 
     ghost puts = { λ s. to_atoms (sources_of s.schema.now s.from.now) };
 

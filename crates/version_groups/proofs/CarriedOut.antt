@@ -4,28 +4,28 @@ use Rattle.std.proofs.Common.{sym, ap, subst, ◌∙◌, arith, inl, inr}
 use Rattle.std.specs.Prelude.{Option, Some, None, ◌^◌}
 use Rattle.std.specs.FinMap.{get}
 use Rattle.std.proofs.lemmas.List.{length-map, map-append}
-use Rattle.relations.specs.Spans.{forever}
-use Rattle.relations.specs.Sets.{In, Ascends}
+use Rattle.relations_spec.specs.Spans.{forever}
+use Rattle.relations_spec.specs.Sets.{In, Ascends}
 use Rattle.prima_base.specs.Order.{bytes_cmp}
 use Rattle.history_store.specs.Store.{Store, relation_at}
 use Rattle.history_store.specs.Change.{PreparedChange}
-use Rattle.smo_types.specs.declared.version.Version.{Version}
-use Rattle.smo_meaning.specs.Effects.{rows_under}
-use Rattle.smo_meaning.specs.OneRow.{Relation}
-use Rattle.smo_meaning.specs.Accepts.{command_fault}
-use Rattle.smo_meaning.specs.ValidValues.{BodyHolds}
-use Rattle.smo_types.specs.Commands.{PlainBody, changing, evolving, PlainVersion, version_of}
-use Rattle.smo_meaning.specs.Past.{Past, next_database, past_with}
-use Rattle.version_tables.specs.declared.made_table.MadeTable.{MadeTable}
-use Rattle.version_tables.specs.Stored.{stored_as, stored_names}
-use Rattle.version_tables.specs.Places.{at_places, AreWithin}
-use Rattle.version_tables.specs.Becoming.{HasRoom, Leads, IsMade, IsAmong, IsMadeBy}
-use Rattle.version_tables.specs.Changing.{HaveRoom}
+use Rattle.smo_ops_types.specs.declared.version.Version.{Version}
+use Rattle.smo_ops_spec.specs.Effects.{rows_under}
+use Rattle.smo_ops_spec.specs.OneRow.{Relation}
+use Rattle.smo_ops_spec.specs.Accepts.{command_fault}
+use Rattle.smo_ops_spec.specs.ValidValues.{BodyHolds}
+use Rattle.smo_ops_types.specs.Commands.{PlainBody, changing, evolving, PlainVersion, version_of}
+use Rattle.smo_ops_spec.specs.Past.{Past, next_database, past_with}
+use Rattle.version_groups_tables.specs.declared.made_table.MadeTable.{MadeTable}
+use Rattle.version_groups_tables.specs.Stored.{stored_as, stored_names}
+use Rattle.version_groups_tables.specs.Places.{at_places, AreWithin}
+use Rattle.version_groups_tables.specs.Becoming.{HasRoom, Leads, IsMade, IsAmong, IsMadeBy}
+use Rattle.version_groups_tables.specs.Changing.{HaveRoom}
 use Rattle.version_groups.specs.Groups.{Kept, versions_in, group_of, newest_group, table_in}
 use Rattle.version_groups.specs.Representation.{IsInForce, Represents}
 use Rattle.version_groups.specs.Installing.{Stays, StaysEntry, HasChanges, HasVersion, ComeWith}
 use Rattle.version_groups.specs.Steps.{changed, evolved, a_command, AreChanges, IsStep}
-use Rattle.smo_meaning.proofs.PastMoments.{before_or_not}
+use Rattle.smo_ops_spec.proofs.PastMoments.{before_or_not}
 use Rattle.version_groups.proofs.Pairs.{Paired, paired}
 use Rattle.version_groups.proofs.SizesChanged.{sizes_follow, stamps_follow}
 use Rattle.version_groups.proofs.SizesEvolved.{sizes_begin, stamps_begin, comes_with}

@@ -4,50 +4,50 @@ use Rattle.std.proofs.Common.{refl, sym, ap, subst, ◌∙◌, arith, inl, inr}
 use Rattle.std.specs.Prelude.{Option, Some, None, nat_lt}
 use Rattle.std.specs.Option.{option_map}
 use Rattle.std.specs.FinMap.{get, get-empty}
-use Rattle.relations.specs.Sets.{Ascends}
-use Rattle.relations.specs.Spans.{forever}
+use Rattle.relations_spec.specs.Sets.{Ascends}
+use Rattle.relations_spec.specs.Spans.{forever}
 use Rattle.prima_base.specs.Order.{bytes_cmp}
 use Rattle.prima_base.specs.Columns.{Column}
 use Rattle.schema_catalog.specs.Tables.{Tables}
 use Rattle.history_store.specs.Store.{Store, AllBefore}
 use Rattle.history_store.specs.Change.{PreparedChange}
-use Rattle.smo_types.specs.declared.version.Version.{Version}
-use Rattle.smo_meaning.specs.Accepts.{command_fault, operator_refusal}
-use Rattle.smo_meaning.specs.Accepts.{body_tests}
-use Rattle.smo_meaning.specs.After.{op_fault}
-use Rattle.smo_meaning.specs.First.{unless, first_refusal}
-use Rattle.smo_meaning.specs.ValidPast.{IsLater}
-use Rattle.smo_meaning.specs.ValidValues.{BodyHolds}
-use Rattle.smo_meaning.specs.Inverses.{inverse_tests}
+use Rattle.smo_ops_types.specs.declared.version.Version.{Version}
+use Rattle.smo_ops_spec.specs.Accepts.{command_fault, operator_refusal}
+use Rattle.smo_ops_spec.specs.Accepts.{body_tests}
+use Rattle.smo_ops_spec.specs.After.{op_fault}
+use Rattle.smo_ops_spec.specs.First.{unless, first_refusal}
+use Rattle.smo_ops_spec.specs.ValidPast.{IsLater}
+use Rattle.smo_ops_spec.specs.ValidValues.{BodyHolds}
+use Rattle.smo_ops_spec.specs.Inverses.{inverse_tests}
 use Rattle.prima_base.specs.declared.refusal.What.TheVariants.{Versions}
 use Rattle.prima_base.specs.declared.refusal.Refusal.TheVariants.{TooMany as OverLimit}
 use Rattle.prima_base.specs.Limits.{max_versions}
 use Rattle.std.proofs.lemmas.Bool.Decides.{nat_tests}
-use Rattle.smo_meaning.proofs.Firsts.{met, none_of_first}
-use Rattle.smo_types.specs.Changes.{PlainChange}
-use Rattle.smo_types.specs.Commands.{changing, evolving, version_of}
-use Rattle.smo_types.specs.Operators.{Operator}
-use Rattle.smo_meaning.specs.Past.{Past, beginning, no_tables, newest_from, tables_of}
-use Rattle.smo_meaning.specs.Past.{newest_tables, newest_database, next_database}
-use Rattle.smo_meaning.specs.Sizes.{Size}
-use Rattle.smo_meaning.proofs.PastSteps.{beginning_is_past, body_accepted}
-use Rattle.smo_meaning.proofs.ValueLaws.{beginning_holds}
-use Rattle.version_tables.specs.declared.made_table.MadeTable.{MadeTable}
-use Rattle.version_tables.specs.Stored.{stored_as, stored_names}
-use Rattle.version_tables.specs.Room.{IsSameTable, AreSameTables}
-use Rattle.version_tables.specs.Changing.{AreChangeable, AreOfSchema, AreReady, all_gained}
-use Rattle.version_tables.specs.Changing.{all_lost}
-use Rattle.version_tables.specs.Evolving.{IsEvolved}
-use Rattle.version_tables.specs.NewestTables.{AreStored}
-use Rattle.version_tables.specs.Places.{at_places}
-use Rattle.version_tables.proofs.TablesInTurn.{same_table, same_after}
-use Rattle.version_tables.proofs.Places.{same_at}
-use Rattle.version_tables.proofs.SchemaTables.{of_schema}
+use Rattle.smo_ops_spec.proofs.Firsts.{met, none_of_first}
+use Rattle.smo_ops_types.specs.Changes.{PlainChange}
+use Rattle.smo_ops_types.specs.Commands.{changing, evolving, version_of}
+use Rattle.smo_ops_types.specs.Operators.{Operator}
+use Rattle.smo_ops_spec.specs.Past.{Past, beginning, no_tables, newest_from, tables_of}
+use Rattle.smo_ops_spec.specs.Past.{newest_tables, newest_database, next_database}
+use Rattle.smo_ops_spec.specs.Sizes.{Size}
+use Rattle.smo_ops_spec.proofs.PastSteps.{beginning_is_past, body_accepted}
+use Rattle.smo_ops_spec.proofs.ValueLaws.{beginning_holds}
+use Rattle.version_groups_tables.specs.declared.made_table.MadeTable.{MadeTable}
+use Rattle.version_groups_tables.specs.Stored.{stored_as, stored_names}
+use Rattle.version_groups_tables.specs.Room.{IsSameTable, AreSameTables}
+use Rattle.version_groups_tables.specs.Changing.{AreChangeable, AreOfSchema, AreReady, all_gained}
+use Rattle.version_groups_tables.specs.Changing.{all_lost}
+use Rattle.version_groups_tables.specs.Evolving.{IsEvolved}
+use Rattle.version_groups_tables.specs.NewestTables.{AreStored}
+use Rattle.version_groups_tables.specs.Places.{at_places}
+use Rattle.version_groups_tables.proofs.TablesInTurn.{same_table, same_after}
+use Rattle.version_groups_tables.proofs.Places.{same_at}
+use Rattle.version_groups_tables.proofs.SchemaTables.{of_schema}
 use Rattle.version_groups.specs.Sizes.{HasSize, AreWritten}
 use Rattle.version_groups.specs.Covering.{line_of, AreCovered}
 use Rattle.version_groups.specs.Lifelines.{lifelines_of}
 use Rattle.version_groups.specs.Groups.{Kept, newest_places, group_of, newest_group, table_in}
-use Rattle.table_changes.proofs.Becoming.{same_relation, same_before, same_columns}
+use Rattle.version_groups_changes.proofs.Becoming.{same_relation, same_before, same_columns}
 use Rattle.version_groups.specs.Representation.{RepresentsTable, RepresentsEntry, AreUpTo}
 use Rattle.version_groups.specs.Representation.{Represents}
 use Rattle.version_groups.specs.Room.{IsSame}

@@ -7,22 +7,22 @@ use Rattle.std.specs.Option.{option_map}
 use Rattle.std.proofs.lemmas.Bool.Decides.{nat_tests}
 use Rattle.std.proofs.lemmas.List.{length-map}
 use Rattle.std.proofs.lemmas.Option.{slice_get-get_or, slice_get_within, get_or_from_slice_get}
-use Rattle.relations.specs.Sets.{In}
+use Rattle.relations_spec.specs.Sets.{In}
 use Rattle.prima_base.specs.Columns.{Column}
 use Rattle.prima_base.specs.OrderLaws.{same_is}
 use Rattle.schema_catalog.specs.Tables.{Tables}
-use Rattle.smo_types.specs.declared.version.Version.{Version}
-use Rattle.smo_types.specs.Commands.{PlainVersion, version_of}
-use Rattle.smo_meaning.specs.OneRow.{same}
-use Rattle.smo_meaning.specs.Past.{no_tables, newest_from}
-use Rattle.smo_meaning.proofs.NameLaws.{same_itself}
-use Rattle.smo_meaning.proofs.PastMoments.{before_or_not}
-use Rattle.version_tables.specs.declared.made_table.MadeTable.{MadeTable}
-use Rattle.version_tables.specs.Ending.{table_after, AreLiving}
-use Rattle.version_tables.specs.Places.{IsFound}
-use Rattle.version_tables.specs.Beginning.{BeginInOrder}
-use Rattle.version_tables.specs.Stored.{stored_as}
-use Rattle.version_tables.proofs.NamedPlaces.{none_named}
+use Rattle.smo_ops_types.specs.declared.version.Version.{Version}
+use Rattle.smo_ops_types.specs.Commands.{PlainVersion, version_of}
+use Rattle.smo_ops_spec.specs.OneRow.{same}
+use Rattle.smo_ops_spec.specs.Past.{no_tables, newest_from}
+use Rattle.smo_ops_spec.proofs.NameLaws.{same_itself}
+use Rattle.smo_ops_spec.proofs.PastMoments.{before_or_not}
+use Rattle.version_groups_tables.specs.declared.made_table.MadeTable.{MadeTable}
+use Rattle.version_groups_tables.specs.Ending.{table_after, AreLiving}
+use Rattle.version_groups_tables.specs.Places.{IsFound}
+use Rattle.version_groups_tables.specs.Beginning.{BeginInOrder}
+use Rattle.version_groups_tables.specs.Stored.{stored_as}
+use Rattle.version_groups_tables.proofs.NamedPlaces.{none_named}
 use Rattle.version_groups.specs.Covering.{line_of, AreCovered, AreOfLifelines}
 use Rattle.version_groups.specs.Groups.{Kept, versions_in, places_of, newest_places, group_of}
 use Rattle.version_groups.specs.Lifelines.{Lifeline, last_after, line_after, line_begun}

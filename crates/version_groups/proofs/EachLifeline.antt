@@ -6,24 +6,24 @@ use Rattle.std.specs.Prelude.{Option, Some, None, nat_le, ◌&&◌}
 use Rattle.std.specs.Option.{option_map}
 use Rattle.std.specs.FinMap.{get, get-empty, get-entries, entries}
 use Rattle.std.proofs.lemmas.Bool.Decides.{nat_tests}
-use Rattle.relations.specs.Sets.{In}
-use Rattle.relations.proofs.SetLaws.{in_left, in_right, in_map, in_filter, from_map}
+use Rattle.relations_spec.specs.Sets.{In}
+use Rattle.relations_spec.proofs.SetLaws.{in_left, in_right, in_map, in_filter, from_map}
 use Rattle.prima_base.specs.Columns.{Column}
 use Rattle.prima_base.specs.Order.{bytes_cmp}
 use Rattle.prima_base.specs.OrderLaws.{same_is}
 use Rattle.schema_catalog.specs.Tables.{Tables}
-use Rattle.smo_types.specs.Commands.{PlainVersion}
-use Rattle.smo_meaning.specs.After.{schema_after}
-use Rattle.smo_meaning.specs.ValidPast.{AreVersions}
-use Rattle.smo_meaning.specs.OneRow.{same}
-use Rattle.smo_meaning.specs.Past.{no_tables, tables_from, newest_from}
-use Rattle.smo_meaning.specs.Touching.{makes, consumes}
-use Rattle.smo_meaning.proofs.NameLaws.{same_itself}
-use Rattle.smo_meaning.proofs.PastLaws.{newest_added}
-use Rattle.smo_meaning.proofs.PastMoments.{newest_tables_from, tables_still, tables_added}
-use Rattle.smo_meaning.proofs.PastMoments.{before_or_not}
-use Rattle.smo_meaning.proofs.TouchedTables.{table_stays, table_gone}
-use Rattle.version_tables.proofs.PlacedTables.{found_among}
+use Rattle.smo_ops_types.specs.Commands.{PlainVersion}
+use Rattle.smo_ops_spec.specs.After.{schema_after}
+use Rattle.smo_ops_spec.specs.ValidPast.{AreVersions}
+use Rattle.smo_ops_spec.specs.OneRow.{same}
+use Rattle.smo_ops_spec.specs.Past.{no_tables, tables_from, newest_from}
+use Rattle.smo_ops_spec.specs.Touching.{makes, consumes}
+use Rattle.smo_ops_spec.proofs.NameLaws.{same_itself}
+use Rattle.smo_ops_spec.proofs.PastLaws.{newest_added}
+use Rattle.smo_ops_spec.proofs.PastMoments.{newest_tables_from, tables_still, tables_added}
+use Rattle.smo_ops_spec.proofs.PastMoments.{before_or_not}
+use Rattle.smo_ops_spec.proofs.TouchedTables.{table_stays, table_gone}
+use Rattle.version_groups_tables.proofs.PlacedTables.{found_among}
 use Rattle.version_groups.specs.Lifelines.{Lifeline, last_after, line_after, line_begun}
 use Rattle.version_groups.specs.Lifelines.{made_tables, lifelines_of, is_up_to, covers, first_place}
 use Rattle.version_groups.specs.Lifelines.{place_in}

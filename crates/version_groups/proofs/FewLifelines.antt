@@ -5,21 +5,21 @@ use Rattle.std.specs.Prelude.{⊤}
 use Rattle.std.specs.List.{filter}
 use Rattle.std.specs.FinMap.{entries, entries_sorted}
 use Rattle.std.proofs.lemmas.List.{length-map}
-use Rattle.relations.specs.Sets.{In, Ascends, BeforeAll}
-use Rattle.relations.proofs.SetLaws.{before_in, from_filter, from_map, below_each, in_map}
+use Rattle.relations_spec.specs.Sets.{In, Ascends, BeforeAll}
+use Rattle.relations_spec.proofs.SetLaws.{before_in, from_filter, from_map, below_each, in_map}
 use Rattle.prima_base.specs.Columns.{Column}
 use Rattle.prima_base.specs.Order.{bytes_cmp}
 use Rattle.schema_catalog.specs.Tables.{Tables}
-use Rattle.smo_types.specs.Commands.{PlainVersion}
-use Rattle.smo_types.specs.Operators.{Operator, nop, create_table, drop_table, rename_table}
-use Rattle.smo_types.specs.Operators.{copy_table, merge_table, partition_table, decompose_table}
-use Rattle.smo_types.specs.Operators.{join_table, add_column, drop_column, rename_column}
-use Rattle.smo_meaning.specs.OperatorTable.{line, made_names}
-use Rattle.smo_meaning.specs.Past.{Past, no_tables}
-use Rattle.smo_meaning.specs.Touching.{makes, consumes}
-use Rattle.smo_meaning.proofs.NameLaws.{among_in}
-use Rattle.version_tables.proofs.BegunTables.{names_rise}
-use Rattle.version_tables.proofs.Places.{not_before_itself}
+use Rattle.smo_ops_types.specs.Commands.{PlainVersion}
+use Rattle.smo_ops_types.specs.Operators.{Operator, nop, create_table, drop_table, rename_table}
+use Rattle.smo_ops_types.specs.Operators.{copy_table, merge_table, partition_table, decompose_table}
+use Rattle.smo_ops_types.specs.Operators.{join_table, add_column, drop_column, rename_column}
+use Rattle.smo_ops_spec.specs.OperatorTable.{line, made_names}
+use Rattle.smo_ops_spec.specs.Past.{Past, no_tables}
+use Rattle.smo_ops_spec.specs.Touching.{makes, consumes}
+use Rattle.smo_ops_spec.proofs.NameLaws.{among_in}
+use Rattle.version_groups_tables.proofs.BegunTables.{names_rise}
+use Rattle.version_groups_tables.proofs.Places.{not_before_itself}
 use Rattle.version_groups.specs.Covering.{line_of}
 use Rattle.version_groups.specs.Groups.{Kept, versions_in}
 use Rattle.version_groups.specs.Lifelines.{Lifeline, line_after, line_begun, made_tables}

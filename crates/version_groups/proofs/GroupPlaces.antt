@@ -6,28 +6,28 @@ use Rattle.std.specs.Global.{Vec}
 use Rattle.std.specs.Prelude.{Option, Some, None, ◌^◌, vec_len, slice_get}
 use Rattle.std.proofs.lemmas.List.{length-map, get_or-map, map-append}
 use Rattle.std.proofs.lemmas.Option.{slice_get_within, get_or_from_slice_get}
-use Rattle.relations.specs.Sets.{In, Ascends}
+use Rattle.relations_spec.specs.Sets.{In, Ascends}
 use Rattle.prima_base.specs.Columns.{Column}
 use Rattle.prima_base.specs.Order.{bytes_cmp}
 use Rattle.history_store.specs.Store.{Store}
 use Rattle.history_store.specs.Change.{PreparedChange}
 use Rattle.schema_catalog.specs.Tables.{Tables}
-use Rattle.smo_types.specs.Operators.{Operator, operator_of}
-use Rattle.smo_types.specs.Commands.{version_of}
-use Rattle.smo_meaning.specs.Past.{no_tables, newest_from}
-use Rattle.smo_meaning.specs.Touching.{consumes}
-use Rattle.smo_types.specs.declared.version.Version.{Version}
-use Rattle.version_tables.specs.declared.made_table.MadeTable.{MadeTable}
-use Rattle.version_tables.specs.Stored.{stored_as, stored_names}
-use Rattle.version_tables.specs.Places.{at_places, AreWithin}
-use Rattle.version_tables.specs.Becoming.{IsMade, IsMadeBy, AreMadeBy}
-use Rattle.version_tables.specs.Changing.{AreMade}
-use Rattle.version_tables.specs.Ending.{table_after}
-use Rattle.version_tables.specs.Room.{AreSameTables}
-use Rattle.version_tables.proofs.LifelinesEnded.{names_with, stored_still, stored_with}
-use Rattle.version_tables.proofs.LifelinesEnded.{written_back}
-use Rattle.version_tables.proofs.NamedPlaces.{one_by_name}
-use Rattle.version_tables.proofs.Places.{places_within, AreAlike, alike_at, at_more}
+use Rattle.smo_ops_types.specs.Operators.{Operator, operator_of}
+use Rattle.smo_ops_types.specs.Commands.{version_of}
+use Rattle.smo_ops_spec.specs.Past.{no_tables, newest_from}
+use Rattle.smo_ops_spec.specs.Touching.{consumes}
+use Rattle.smo_ops_types.specs.declared.version.Version.{Version}
+use Rattle.version_groups_tables.specs.declared.made_table.MadeTable.{MadeTable}
+use Rattle.version_groups_tables.specs.Stored.{stored_as, stored_names}
+use Rattle.version_groups_tables.specs.Places.{at_places, AreWithin}
+use Rattle.version_groups_tables.specs.Becoming.{IsMade, IsMadeBy, AreMadeBy}
+use Rattle.version_groups_tables.specs.Changing.{AreMade}
+use Rattle.version_groups_tables.specs.Ending.{table_after}
+use Rattle.version_groups_tables.specs.Room.{AreSameTables}
+use Rattle.version_groups_tables.proofs.LifelinesEnded.{names_with, stored_still, stored_with}
+use Rattle.version_groups_tables.proofs.LifelinesEnded.{written_back}
+use Rattle.version_groups_tables.proofs.NamedPlaces.{one_by_name}
+use Rattle.version_groups_tables.proofs.Places.{places_within, AreAlike, alike_at, at_more}
 use Rattle.version_groups.specs.declared.groups.Groups.TheInside.{Inside}
 use Rattle.version_groups.specs.Covering.{line_of, AreCovered, AreOfLifelines}
 use Rattle.version_groups.specs.Groups.{versions_in, newest_places, group_of, newest_group}

@@ -3,43 +3,43 @@ use Rattle.std.proofs.Common.{◌≡◌, ◌≤◌, ◌<◌, ◌+◌, ℕ, suc, 
 use Rattle.std.proofs.Common.{ap, subst, ◌∙◌, arith, length-append, inl, inr}
 use Rattle.std.specs.Prelude.{Option, Some, None, ◌⊎◌}
 use Rattle.std.specs.FinMap.{get}
-use Rattle.relations.specs.Sets.{In}
-use Rattle.relations.specs.Spans.{forever}
+use Rattle.relations_spec.specs.Sets.{In}
+use Rattle.relations_spec.specs.Spans.{forever}
 use Rattle.prima_base.specs.Columns.{Column}
 use Rattle.schema_catalog.specs.Tables.{Tables}
 use Rattle.schema_catalog.specs.Databases.{Database}
 use Rattle.history_store.specs.Store.{Store, relation_at}
 use Rattle.history_store.specs.Change.{PreparedChange, rows_after}
-use Rattle.smo_meaning.specs.Accepts.{command_fault}
-use Rattle.smo_types.specs.Changes.{PlainChange}
-use Rattle.smo_types.specs.Commands.{PlainBody, changing, evolving, PlainVersion}
-use Rattle.smo_types.specs.Operators.{Operator}
-use Rattle.smo_meaning.specs.OneRow.{Relation}
-use Rattle.smo_meaning.specs.Effects.{rows_under}
-use Rattle.smo_meaning.specs.ValidPast.{last_or_nought, IsLater, IsPast}
-use Rattle.smo_meaning.specs.ValidValues.{BodyHolds, PastHolds}
-use Rattle.smo_meaning.specs.Past.{Past, no_tables, no_database, tables_of, tables_from}
-use Rattle.smo_meaning.specs.Past.{newest_tables, version_at, database_at, newest_database}
-use Rattle.smo_meaning.specs.Past.{next_version, next_database, past_with}
-use Rattle.smo_meaning.proofs.PastLaws.{newest_holds, up_to_later}
-use Rattle.smo_meaning.proofs.ValueLaws.{past_stays}
-use Rattle.smo_meaning.proofs.PastSteps.{counts_accepted, stamp_accepted, later_stamp}
-use Rattle.smo_meaning.proofs.PastSteps.{body_accepted, stays_valid, before_command, from_command}
-use Rattle.version_tables.specs.declared.made_table.MadeTable.{MadeTable}
-use Rattle.version_tables.specs.Stored.{stored_as}
-use Rattle.version_tables.specs.Becoming.{Becomes, Begins, Leads, IsMade, IsAmong, IsMadeBy}
-use Rattle.version_tables.specs.Becoming.{AreMadeBy}
-use Rattle.version_tables.specs.Places.{at_places}
-use Rattle.version_tables.specs.Evolving.{BeginsEntry}
-use Rattle.version_tables.proofs.Places.{something_at}
+use Rattle.smo_ops_spec.specs.Accepts.{command_fault}
+use Rattle.smo_ops_types.specs.Changes.{PlainChange}
+use Rattle.smo_ops_types.specs.Commands.{PlainBody, changing, evolving, PlainVersion}
+use Rattle.smo_ops_types.specs.Operators.{Operator}
+use Rattle.smo_ops_spec.specs.OneRow.{Relation}
+use Rattle.smo_ops_spec.specs.Effects.{rows_under}
+use Rattle.smo_ops_spec.specs.ValidPast.{last_or_nought, IsLater, IsPast}
+use Rattle.smo_ops_spec.specs.ValidValues.{BodyHolds, PastHolds}
+use Rattle.smo_ops_spec.specs.Past.{Past, no_tables, no_database, tables_of, tables_from}
+use Rattle.smo_ops_spec.specs.Past.{newest_tables, version_at, database_at, newest_database}
+use Rattle.smo_ops_spec.specs.Past.{next_version, next_database, past_with}
+use Rattle.smo_ops_spec.proofs.PastLaws.{newest_holds, up_to_later}
+use Rattle.smo_ops_spec.proofs.ValueLaws.{past_stays}
+use Rattle.smo_ops_spec.proofs.PastSteps.{counts_accepted, stamp_accepted, later_stamp}
+use Rattle.smo_ops_spec.proofs.PastSteps.{body_accepted, stays_valid, before_command, from_command}
+use Rattle.version_groups_tables.specs.declared.made_table.MadeTable.{MadeTable}
+use Rattle.version_groups_tables.specs.Stored.{stored_as}
+use Rattle.version_groups_tables.specs.Becoming.{Becomes, Begins, Leads, IsMade, IsAmong, IsMadeBy}
+use Rattle.version_groups_tables.specs.Becoming.{AreMadeBy}
+use Rattle.version_groups_tables.specs.Places.{at_places}
+use Rattle.version_groups_tables.specs.Evolving.{BeginsEntry}
+use Rattle.version_groups_tables.proofs.Places.{something_at}
 use Rattle.version_groups.specs.Groups.{Kept, versions_in, group_of, table_in}
 use Rattle.version_groups.specs.Covering.{AreOfLifelines}
 use Rattle.version_groups.specs.Sizes.{HaveSizes}
 use Rattle.version_groups.specs.Representation.{AreUpTo, IsInForce, RepresentsTable}
 use Rattle.version_groups.specs.Representation.{RepresentsEntry, Represents}
-use Rattle.smo_meaning.proofs.PastMoments.{not_begun, all_begun, few_begun, all_with_one}
-use Rattle.smo_meaning.proofs.PastMoments.{tables_still, tables_added, is_later, still_later}
-use Rattle.smo_meaning.proofs.PastMoments.{before_or_not}
+use Rattle.smo_ops_spec.proofs.PastMoments.{not_begun, all_begun, few_begun, all_with_one}
+use Rattle.smo_ops_spec.proofs.PastMoments.{tables_still, tables_added, is_later, still_later}
+use Rattle.smo_ops_spec.proofs.PastMoments.{before_or_not}
 use Rattle.version_groups.specs.Steps.{a_command, AreChanges, IsNextVersion}
 use Rattle.version_groups.proofs.Pairs.{Paired, paired}
 use Rattle.version_groups.proofs.OwnMoments.{own_version, own_moment, own_within}

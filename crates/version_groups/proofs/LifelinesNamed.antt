@@ -5,14 +5,14 @@ use Rattle.std.specs.Prelude.{Option, Some, None, if◌then◌else◌}
 use Rattle.std.proofs.lemmas.List.{map-append}
 use Rattle.schema_catalog.specs.Tables.{Tables}
 use Rattle.schema_catalog.specs.Databases.{Database}
-use Rattle.smo_types.specs.Commands.{PlainVersion, PlainBody, changing, evolving}
-use Rattle.smo_types.specs.Operators.{Operator}
-use Rattle.smo_meaning.specs.Past.{Past, newest_tables, newest_database, next_version}
-use Rattle.smo_meaning.specs.Past.{next_database, next_past}
-use Rattle.smo_meaning.specs.Sizes.{Size, if_living, size_changed, living_changed, ended_with}
-use Rattle.smo_meaning.specs.Sizes.{size_after, size_begun, sizes_evolved}
-use Rattle.smo_meaning.specs.Touching.{consumes}
-use Rattle.version_tables.proofs.RestoredTables.{Listed}
+use Rattle.smo_ops_types.specs.Commands.{PlainVersion, PlainBody, changing, evolving}
+use Rattle.smo_ops_types.specs.Operators.{Operator}
+use Rattle.smo_ops_spec.specs.Past.{Past, newest_tables, newest_database, next_version}
+use Rattle.smo_ops_spec.specs.Past.{next_database, next_past}
+use Rattle.smo_ops_spec.specs.Sizes.{Size, if_living, size_changed, living_changed, ended_with}
+use Rattle.smo_ops_spec.specs.Sizes.{size_after, size_begun, sizes_evolved}
+use Rattle.smo_ops_spec.specs.Touching.{consumes}
+use Rattle.version_groups_tables.proofs.RestoredTables.{Listed}
 use Rattle.version_groups.specs.Lifelines.{last_after, Lifeline, line_after, line_begun}
 use Rattle.version_groups.specs.Lifelines.{made_tables, lifelines_after, lifelines_of, Named}
 use Rattle.version_groups.specs.Lifelines.{size_named, line_named, NamesLifelines}

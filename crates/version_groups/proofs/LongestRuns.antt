@@ -4,21 +4,21 @@ use Rattle.std.proofs.Common.{◌++◌, map, length, refl, sym, ap, subst, ◌�
 use Rattle.std.proofs.Common.{length-append, append_assoc, append-nil, is_some}
 use Rattle.std.specs.Prelude.{Option, Some, None, slice_get}
 use Rattle.std.specs.FinMap.{get, entries}
-use Rattle.relations.specs.Sets.{In}
-use Rattle.relations.proofs.SetLaws.{in_append, from_map, from_filter}
+use Rattle.relations_spec.specs.Sets.{In}
+use Rattle.relations_spec.proofs.SetLaws.{in_append, from_map, from_filter}
 use Rattle.prima_base.specs.Columns.{Column}
 use Rattle.schema_catalog.specs.Tables.{Tables}
-use Rattle.smo_types.specs.Commands.{PlainVersion}
-use Rattle.smo_types.specs.Operators.{Operator}
-use Rattle.smo_meaning.specs.After.{op_fault, schema_after}
-use Rattle.smo_meaning.specs.ValidPast.{AreVersions}
-use Rattle.smo_meaning.specs.Past.{no_tables, tables_from, newest_from}
-use Rattle.smo_meaning.specs.Touching.{makes, consumes}
-use Rattle.smo_meaning.proofs.PastLaws.{newest_added}
-use Rattle.smo_meaning.proofs.PastMoments.{newest_tables_from, tables_still, tables_added}
-use Rattle.smo_meaning.proofs.PastMoments.{before_or_not}
-use Rattle.smo_meaning.proofs.TouchedTables.{table_stays, made_is_free}
-use Rattle.version_tables.proofs.PlacedTables.{listed_in}
+use Rattle.smo_ops_types.specs.Commands.{PlainVersion}
+use Rattle.smo_ops_types.specs.Operators.{Operator}
+use Rattle.smo_ops_spec.specs.After.{op_fault, schema_after}
+use Rattle.smo_ops_spec.specs.ValidPast.{AreVersions}
+use Rattle.smo_ops_spec.specs.Past.{no_tables, tables_from, newest_from}
+use Rattle.smo_ops_spec.specs.Touching.{makes, consumes}
+use Rattle.smo_ops_spec.proofs.PastLaws.{newest_added}
+use Rattle.smo_ops_spec.proofs.PastMoments.{newest_tables_from, tables_still, tables_added}
+use Rattle.smo_ops_spec.proofs.PastMoments.{before_or_not}
+use Rattle.smo_ops_spec.proofs.TouchedTables.{table_stays, made_is_free}
+use Rattle.version_groups_tables.proofs.PlacedTables.{listed_in}
 use Rattle.version_groups.specs.Lifelines.{Lifeline, last_after, line_after, line_begun}
 use Rattle.version_groups.specs.Lifelines.{made_tables, lifelines_of, is_up_to, covers}
 use Rattle.version_groups.specs.LongestRuns.{of_operator, with_version, IsLongest}

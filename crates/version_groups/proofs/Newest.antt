@@ -4,8 +4,8 @@ use Rattle.std.proofs.Common.{◌∙◌, arith}
 use Rattle.std.specs.Prelude.{Option, Some, None}
 use Rattle.std.specs.FinMap.{get, same_map, slice_cmp-IsAntisymmetric, nat_cmp-IsAntisymmetric}
 use Rattle.std.specs.Cmp.Lexicographic.{nat_list_cmp_total}
-use Rattle.relations.specs.Spans.{forever}
-use Rattle.relations.specs.Sets.{Ascends}
+use Rattle.relations_spec.specs.Spans.{forever}
+use Rattle.relations_spec.specs.Sets.{Ascends}
 use Rattle.prima_base.specs.Order.{bytes_cmp}
 use Rattle.prima_base.specs.Columns.{Column}
 use Rattle.prima_base.specs.declared.value.Value.{Value}
@@ -13,26 +13,26 @@ use Rattle.schema_catalog.specs.Tables.{Tables, IsSchema}
 use Rattle.schema_catalog.specs.Databases.{Database, DatabaseEntry, Rows, Lost, IsEntry, IsDatabase}
 use Rattle.history_store.specs.Store.{Store, relation_at, AllBefore}
 use Rattle.history_store.specs.Change.{PreparedChange}
-use Rattle.smo_meaning.specs.Accepts.{command_fault}
-use Rattle.smo_types.specs.Changes.{PlainChange}
-use Rattle.smo_meaning.specs.Checks.{changes_fault}
-use Rattle.smo_types.specs.Commands.{PlainBody}
-use Rattle.smo_meaning.specs.Effects.{rows_under, after_each, gained, lost}
-use Rattle.smo_meaning.specs.Past.{Past, no_tables, tables_of, newest_tables, newest_database}
-use Rattle.smo_meaning.proofs.CountingLaws.{self_gains_nothing}
-use Rattle.smo_meaning.proofs.DatabaseLaws.{changes_keep}
-use Rattle.smo_meaning.proofs.PastSteps.{stamp_accepted}
-use Rattle.version_tables.specs.declared.made_table.MadeTable.{MadeTable}
-use Rattle.version_tables.specs.Stored.{stored_as, stored_names}
-use Rattle.version_tables.specs.Becoming.{Leads}
-use Rattle.version_tables.specs.Changing.{rows_now, rows_after, AreChangeable, AreReady, all_gained}
-use Rattle.version_tables.specs.Changing.{all_lost}
-use Rattle.version_tables.specs.NewestTables.{IsStoredEntry, AreStored}
-use Rattle.version_tables.proofs.TablesChanged.{accepted_of, changed_each, stored_there}
-use Rattle.version_tables.proofs.TablesCounted.{with_after, HasNow, counted, got, not_stored}
-use Rattle.version_tables.proofs.TablesCounted.{IsStored, is_stored}
+use Rattle.smo_ops_spec.specs.Accepts.{command_fault}
+use Rattle.smo_ops_types.specs.Changes.{PlainChange}
+use Rattle.smo_ops_spec.specs.Checks.{changes_fault}
+use Rattle.smo_ops_types.specs.Commands.{PlainBody}
+use Rattle.smo_ops_spec.specs.Effects.{rows_under, after_each, gained, lost}
+use Rattle.smo_ops_spec.specs.Past.{Past, no_tables, tables_of, newest_tables, newest_database}
+use Rattle.smo_ops_spec.proofs.CountingLaws.{self_gains_nothing}
+use Rattle.smo_ops_spec.proofs.DatabaseLaws.{changes_keep}
+use Rattle.smo_ops_spec.proofs.PastSteps.{stamp_accepted}
+use Rattle.version_groups_tables.specs.declared.made_table.MadeTable.{MadeTable}
+use Rattle.version_groups_tables.specs.Stored.{stored_as, stored_names}
+use Rattle.version_groups_tables.specs.Becoming.{Leads}
+use Rattle.version_groups_tables.specs.Changing.{rows_now, rows_after, AreChangeable, AreReady, all_gained}
+use Rattle.version_groups_tables.specs.Changing.{all_lost}
+use Rattle.version_groups_tables.specs.NewestTables.{IsStoredEntry, AreStored}
+use Rattle.version_groups_tables.proofs.TablesChanged.{accepted_of, changed_each, stored_there}
+use Rattle.version_groups_tables.proofs.TablesCounted.{with_after, HasNow, counted, got, not_stored}
+use Rattle.version_groups_tables.proofs.TablesCounted.{IsStored, is_stored}
 use Rattle.version_groups.specs.Groups.{Kept, group_of, table_in}
-use Rattle.smo_meaning.proofs.PastMoments.{newest_tables_from, is_later}
+use Rattle.smo_ops_spec.proofs.PastMoments.{newest_tables_from, is_later}
 use Rattle.version_groups.specs.Representation.{RepresentsEntry, Represents}
 use Rattle.version_groups.specs.Steps.{a_command, AreChanges}
 use Rattle.version_groups.proofs.Installed.{newest_own, newest_is}

@@ -1,12 +1,12 @@
 -- The moments at which a version of a valid past is in force.
 use Rattle.std.proofs.Common.{◌≡◌, ◌≤◌, ◌<◌, ℕ, zero, suc, List, [], ◌∷◌, length, subst, arith}
 use Rattle.std.specs.Prelude.{None, slice_get}
-use Rattle.relations.specs.Spans.{forever}
-use Rattle.smo_types.specs.Commands.{PlainVersion}
-use Rattle.smo_meaning.specs.InForce.{stamp_of}
-use Rattle.smo_meaning.specs.ValidPast.{AllInForce, last_or_nought, IsPast}
-use Rattle.smo_meaning.specs.Past.{Past, no_tables, version_at}
-use Rattle.smo_meaning.proofs.VersionsInForce.{in_force_at, is_now}
+use Rattle.relations_spec.specs.Spans.{forever}
+use Rattle.smo_ops_types.specs.Commands.{PlainVersion}
+use Rattle.smo_ops_spec.specs.InForce.{stamp_of}
+use Rattle.smo_ops_spec.specs.ValidPast.{AllInForce, last_or_nought, IsPast}
+use Rattle.smo_ops_spec.specs.Past.{Past, no_tables, version_at}
+use Rattle.smo_ops_spec.proofs.VersionsInForce.{in_force_at, is_now}
 use Rattle.version_groups.specs.Representation.{IsInForce}
 
 -- each version begins before the end of time

@@ -3,9 +3,9 @@ use Rattle.std.proofs.Common.{◌≡◌, ◌<◌, ℕ, suc, Bool, true, false, c
 use Rattle.std.proofs.Common.{get_or, refl, ap, ◌∙◌, arith, inl, inr}
 use Rattle.std.specs.Prelude.{Some, None, ◌⊎◌}
 use Rattle.prima_base.specs.OrderLaws.{same_is}
-use Rattle.smo_meaning.specs.OneRow.{same}
-use Rattle.version_tables.specs.declared.made_table.MadeTable.{MadeTable}
-use Rattle.version_tables.specs.Stored.{stored_as}
+use Rattle.smo_ops_spec.specs.OneRow.{same}
+use Rattle.version_groups_tables.specs.declared.made_table.MadeTable.{MadeTable}
+use Rattle.version_groups_tables.specs.Stored.{stored_as}
 
 -- what is stored under the name before and after
 pub record Found (R : MadeTable → MadeTable → Type 0) (name : List ℕ) (old new : List MadeTable) :

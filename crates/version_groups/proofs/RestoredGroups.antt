@@ -8,19 +8,19 @@ use Rattle.prima_base.specs.Columns.{Column}
 use Rattle.prima_base.specs.Order.{bytes_cmp}
 use Rattle.schema_catalog.specs.Tables.{Tables}
 use Rattle.history_store.specs.Store.{Store}
-use Rattle.smo_types.specs.declared.version.Version.{Version}
-use Rattle.smo_types.specs.Commands.{PlainVersion, version_of}
-use Rattle.smo_types.specs.Operators.{operator_of}
-use Rattle.smo_meaning.specs.After.{IsValid}
-use Rattle.smo_meaning.specs.ValidPast.{AreVersions}
-use Rattle.smo_meaning.specs.Past.{beginning, no_tables, tables_from, newest_from}
-use Rattle.smo_meaning.specs.Touching.{consumes}
-use Rattle.smo_meaning.proofs.NextSchemas.{next_is_valid}
-use Rattle.smo_meaning.proofs.PastLaws.{newest_added}
-use Rattle.version_tables.specs.declared.made_table.MadeTable.{MadeTable}
-use Rattle.version_tables.specs.Stored.{HasEntry}
-use Rattle.version_tables.specs.Restoring.{stores_of, HasColumns, HaveColumns}
-use Rattle.version_tables.proofs.RestoredTables.{Listed}
+use Rattle.smo_ops_types.specs.declared.version.Version.{Version}
+use Rattle.smo_ops_types.specs.Commands.{PlainVersion, version_of}
+use Rattle.smo_ops_types.specs.Operators.{operator_of}
+use Rattle.smo_ops_spec.specs.After.{IsValid}
+use Rattle.smo_ops_spec.specs.ValidPast.{AreVersions}
+use Rattle.smo_ops_spec.specs.Past.{beginning, no_tables, tables_from, newest_from}
+use Rattle.smo_ops_spec.specs.Touching.{consumes}
+use Rattle.smo_ops_spec.proofs.NextSchemas.{next_is_valid}
+use Rattle.smo_ops_spec.proofs.PastLaws.{newest_added}
+use Rattle.version_groups_tables.specs.declared.made_table.MadeTable.{MadeTable}
+use Rattle.version_groups_tables.specs.Stored.{HasEntry}
+use Rattle.version_groups_tables.specs.Restoring.{stores_of, HasColumns, HaveColumns}
+use Rattle.version_groups_tables.proofs.RestoredTables.{Listed}
 use Rattle.version_groups.specs.Covering.{line_of}
 use Rattle.version_groups.specs.Groups.{Kept, versions_in, table_in}
 use Rattle.version_groups.specs.Lifelines.{Lifeline, line_after, line_begun, made_tables}

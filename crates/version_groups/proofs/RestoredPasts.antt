@@ -7,14 +7,14 @@ use Rattle.std.proofs.lemmas.List.{length-map}
 use Rattle.std.proofs.lemmas.Option.{get_or_from_slice_get, slice_get_within}
 use Rattle.prima_base.specs.Columns.{Column}
 use Rattle.history_store.specs.Store.{Store, AllBefore}
-use Rattle.smo_types.specs.Commands.{PlainVersion, version_of}
-use Rattle.smo_meaning.specs.ValidPast.{IsLater}
-use Rattle.smo_meaning.specs.OneRow.{same}
-use Rattle.smo_meaning.specs.Past.{Past, no_tables, tables_from, tables_of}
-use Rattle.version_tables.specs.declared.made_table.MadeTable.{MadeTable}
-use Rattle.version_tables.specs.Stored.{HasEntry, stored_as}
-use Rattle.version_tables.specs.Places.{with_table, at_places}
-use Rattle.version_tables.specs.Restoring.{HasColumns}
+use Rattle.smo_ops_types.specs.Commands.{PlainVersion, version_of}
+use Rattle.smo_ops_spec.specs.ValidPast.{IsLater}
+use Rattle.smo_ops_spec.specs.OneRow.{same}
+use Rattle.smo_ops_spec.specs.Past.{Past, no_tables, tables_from, tables_of}
+use Rattle.version_groups_tables.specs.declared.made_table.MadeTable.{MadeTable}
+use Rattle.version_groups_tables.specs.Stored.{HasEntry, stored_as}
+use Rattle.version_groups_tables.specs.Places.{with_table, at_places}
+use Rattle.version_groups_tables.specs.Restoring.{HasColumns}
 use Rattle.version_groups.specs.Groups.{Kept, places_of, table_in}
 use Rattle.version_groups.specs.Restoring.{AreRestored, IsPastOf}
 use Rattle.version_groups.specs.Representation.{RepresentsEntry, Represents}

@@ -8,24 +8,24 @@ use Rattle.std.proofs.lemmas.List.{length-map, map-append}
 use Rattle.prima_base.specs.Columns.{Column}
 use Rattle.schema_catalog.specs.Tables.{Tables}
 use Rattle.history_store.specs.Store.{Store}
-use Rattle.smo_types.specs.declared.version.Version.{Version}
-use Rattle.smo_types.specs.Commands.{PlainVersion, version_of}
-use Rattle.smo_types.specs.Operators.{Operator, operator_of}
-use Rattle.smo_meaning.specs.After.{op_fault, schema_after}
-use Rattle.smo_meaning.specs.Past.{no_tables, tables_from, newest_from}
-use Rattle.smo_meaning.specs.Touching.{makes, consumes}
-use Rattle.smo_meaning.proofs.PastMoments.{newest_tables_from, tables_still, tables_added}
-use Rattle.smo_meaning.proofs.PastMoments.{before_or_not}
-use Rattle.smo_meaning.proofs.TouchedTables.{table_stays, table_gone}
-use Rattle.version_tables.specs.declared.made_table.MadeTable.{MadeTable}
-use Rattle.version_tables.specs.Evolving.{ComeNext}
-use Rattle.version_tables.specs.Stored.{HasEntry, stored_as}
-use Rattle.version_tables.specs.Ending.{table_after, AreLiving}
-use Rattle.version_tables.specs.Places.{at_places}
-use Rattle.version_tables.specs.Restoring.{stores_of, BeginsOver, HasColumns, IsStored, OthersAre}
-use Rattle.version_tables.specs.Beginning.{ArePlaced}
-use Rattle.version_tables.proofs.LifelinesAfter.{entry_some, entry_none, living_after}
-use Rattle.version_tables.proofs.RestoredTables.{Listed}
+use Rattle.smo_ops_types.specs.declared.version.Version.{Version}
+use Rattle.smo_ops_types.specs.Commands.{PlainVersion, version_of}
+use Rattle.smo_ops_types.specs.Operators.{Operator, operator_of}
+use Rattle.smo_ops_spec.specs.After.{op_fault, schema_after}
+use Rattle.smo_ops_spec.specs.Past.{no_tables, tables_from, newest_from}
+use Rattle.smo_ops_spec.specs.Touching.{makes, consumes}
+use Rattle.smo_ops_spec.proofs.PastMoments.{newest_tables_from, tables_still, tables_added}
+use Rattle.smo_ops_spec.proofs.PastMoments.{before_or_not}
+use Rattle.smo_ops_spec.proofs.TouchedTables.{table_stays, table_gone}
+use Rattle.version_groups_tables.specs.declared.made_table.MadeTable.{MadeTable}
+use Rattle.version_groups_tables.specs.Evolving.{ComeNext}
+use Rattle.version_groups_tables.specs.Stored.{HasEntry, stored_as}
+use Rattle.version_groups_tables.specs.Ending.{table_after, AreLiving}
+use Rattle.version_groups_tables.specs.Places.{at_places}
+use Rattle.version_groups_tables.specs.Restoring.{stores_of, BeginsOver, HasColumns, IsStored, OthersAre}
+use Rattle.version_groups_tables.specs.Beginning.{ArePlaced}
+use Rattle.version_groups_tables.proofs.LifelinesAfter.{entry_some, entry_none, living_after}
+use Rattle.version_groups_tables.proofs.RestoredTables.{Listed}
 use Rattle.version_groups.specs.Covering.{line_of}
 use Rattle.version_groups.specs.Groups.{Kept, versions_in, newest_places, table_in}
 use Rattle.version_groups.specs.Installing.{HasVersion, ComeWith}

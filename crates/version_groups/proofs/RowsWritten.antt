@@ -5,18 +5,18 @@ use Rattle.std.proofs.Common.{length, map, get_or, refl, sym, ap, subst, ◌∙�
 use Rattle.std.proofs.Common.{if◌then◌else◌}
 use Rattle.std.specs.Prelude.{not}
 use Rattle.std.proofs.lemmas.List.{length-map}
-use Rattle.relations.specs.Sets.{In, has}
+use Rattle.relations_spec.specs.Sets.{In, has}
 use Rattle.prima_base.specs.declared.value.Value.{Value}
 use Rattle.prima_base.specs.Order.{row_cmp, value_eq}
 use Rattle.prima_base.specs.Columns.{Column, IsRow}
 use Rattle.history_store.specs.Store.{Cell, weight}
 use Rattle.history_store.specs.Handing.{AllWidth, at_column, is_same, weigh, written}
-use Rattle.smo_meaning.specs.Effects.{gained_rows}
-use Rattle.smo_meaning.specs.OneRow.{Relation}
-use Rattle.smo_meaning.specs.Sizes.{Written, none_written, one_written, value_bytes, if_differs}
-use Rattle.smo_meaning.specs.Sizes.{both_written, with_written, row_written, row_replaced}
-use Rattle.smo_meaning.specs.Sizes.{rows_written}
-use Rattle.column_log.proofs.Weights.{one_each}
+use Rattle.smo_ops_spec.specs.Effects.{gained_rows}
+use Rattle.smo_ops_spec.specs.OneRow.{Relation}
+use Rattle.smo_ops_spec.specs.Sizes.{Written, none_written, one_written, value_bytes, if_differs}
+use Rattle.smo_ops_spec.specs.Sizes.{both_written, with_written, row_written, row_replaced}
+use Rattle.smo_ops_spec.specs.Sizes.{rows_written}
+use Rattle.history_store_columns.proofs.Weights.{one_each}
 use Rattle.version_groups.specs.Sizes.{IsWritten, AreWritten}
 
 -- ---- rows as wide as the columns

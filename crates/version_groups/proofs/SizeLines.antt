@@ -1,7 +1,7 @@
 -- The cells of all columns, by what is written of each.
 use Rattle.std.proofs.Common.{◌≡◌, suc, List, [], ◌∷◌, refl, arith}
 use Rattle.history_store.specs.Store.{Cell, cells_in as cells_stored}
-use Rattle.smo_meaning.specs.Sizes.{Written, cells_in}
+use Rattle.smo_ops_spec.specs.Sizes.{Written, cells_in}
 use Rattle.version_groups.specs.Sizes.{AreWritten}
 
 pub all_cells : (columns : List Written) (cells : List (List Cell)) → AreWritten columns cells

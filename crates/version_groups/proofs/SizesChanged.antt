@@ -4,35 +4,35 @@ use Rattle.std.proofs.Common.{ap, subst, ◌∙◌, arith, inl, inr}
 use Rattle.std.specs.Prelude.{Option, Some, None}
 use Rattle.std.specs.FinMap.{get}
 use Rattle.std.proofs.lemmas.List.{length-map, get_or-map}
-use Rattle.relations.specs.Sets.{In}
-use Rattle.relations.specs.Spans.{forever}
+use Rattle.relations_spec.specs.Sets.{In}
+use Rattle.relations_spec.specs.Spans.{forever}
 use Rattle.prima_base.specs.Columns.{Column, IsRelation}
 use Rattle.schema_catalog.specs.Databases.{Database, DatabaseEntry, Rows, Lost, IsEntry, IsDatabase}
 use Rattle.history_store.specs.Handing.{AllWidth, written}
 use Rattle.history_store.specs.Store.{relation_at, weight, AllBefore}
 use Rattle.history_store.specs.Change.{PreparedChange, rows_along}
-use Rattle.smo_types.specs.Changes.{PlainChange}
-use Rattle.smo_types.specs.Commands.{changing, version_of}
-use Rattle.smo_meaning.specs.Accepts.{command_fault}
-use Rattle.smo_meaning.specs.Effects.{rows_under, gained_rows}
-use Rattle.smo_meaning.specs.OneRow.{Relation}
-use Rattle.smo_meaning.specs.Past.{Past, newest_database, newest_tables, next_database, past_with}
-use Rattle.smo_meaning.specs.Sizes.{Size, if_living, rows_changed, living_changed, size_changed}
-use Rattle.smo_meaning.proofs.CountingLaws.{gains_nothing}
-use Rattle.smo_meaning.proofs.DatabaseLaws.{changes_keep}
-use Rattle.smo_meaning.proofs.PastSteps.{body_accepted}
-use Rattle.version_tables.specs.declared.made_table.MadeTable.{MadeTable}
-use Rattle.version_tables.specs.Becoming.{Leads, IsMade, IsInstalled}
-use Rattle.version_tables.specs.Places.{at_places, AreWithin}
-use Rattle.version_tables.specs.Ending.{AreLiving}
-use Rattle.version_tables.specs.NewestTables.{AreStored}
-use Rattle.version_tables.proofs.Places.{at_count, at_get}
+use Rattle.smo_ops_types.specs.Changes.{PlainChange}
+use Rattle.smo_ops_types.specs.Commands.{changing, version_of}
+use Rattle.smo_ops_spec.specs.Accepts.{command_fault}
+use Rattle.smo_ops_spec.specs.Effects.{rows_under, gained_rows}
+use Rattle.smo_ops_spec.specs.OneRow.{Relation}
+use Rattle.smo_ops_spec.specs.Past.{Past, newest_database, newest_tables, next_database, past_with}
+use Rattle.smo_ops_spec.specs.Sizes.{Size, if_living, rows_changed, living_changed, size_changed}
+use Rattle.smo_ops_spec.proofs.CountingLaws.{gains_nothing}
+use Rattle.smo_ops_spec.proofs.DatabaseLaws.{changes_keep}
+use Rattle.smo_ops_spec.proofs.PastSteps.{body_accepted}
+use Rattle.version_groups_tables.specs.declared.made_table.MadeTable.{MadeTable}
+use Rattle.version_groups_tables.specs.Becoming.{Leads, IsMade, IsInstalled}
+use Rattle.version_groups_tables.specs.Places.{at_places, AreWithin}
+use Rattle.version_groups_tables.specs.Ending.{AreLiving}
+use Rattle.version_groups_tables.specs.NewestTables.{AreStored}
+use Rattle.version_groups_tables.proofs.Places.{at_count, at_get}
 use Rattle.version_groups.specs.Groups.{Kept, newest_places, group_of, newest_group}
 use Rattle.version_groups.specs.Installing.{HasChanges}
 use Rattle.version_groups.specs.Representation.{AreUpTo, Represents}
 use Rattle.version_groups.specs.Sizes.{HasSize, HaveSizes}
 use Rattle.version_groups.proofs.Covered.{newest_living}
-use Rattle.table_changes.proofs.Becoming.{along_length}
+use Rattle.version_groups_changes.proofs.Becoming.{along_length}
 use Rattle.version_groups.specs.Steps.{a_command, AreChanges}
 use Rattle.version_groups.proofs.Installed.{all_later}
 use Rattle.version_groups.proofs.Newest.{Stands, stands, stands_at}

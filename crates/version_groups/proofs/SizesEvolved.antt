@@ -8,8 +8,8 @@ use Rattle.std.specs.List.{filter}
 use Rattle.std.specs.FinMap.{get, entries}
 use Rattle.std.proofs.lemmas.List.{length-map, length-append, get_or-map, get_or_append_left}
 use Rattle.std.proofs.Math.Seq.{get_or-append_right}
-use Rattle.relations.specs.Sets.{In}
-use Rattle.relations.proofs.SetLaws.{from_filter}
+use Rattle.relations_spec.specs.Sets.{In}
+use Rattle.relations_spec.proofs.SetLaws.{from_filter}
 use Rattle.prima_base.specs.declared.refusal.Refusal.TheVariants.{TooMany as OverLimit}
 use Rattle.prima_base.specs.declared.refusal.What.TheVariants.{Versions}
 use Rattle.prima_base.specs.Columns.{Column, IsRelation}
@@ -17,33 +17,33 @@ use Rattle.prima_base.specs.Limits.{max_versions}
 use Rattle.schema_catalog.specs.Tables.{Tables}
 use Rattle.schema_catalog.specs.Databases.{Database, DatabaseEntry, Rows, Lost, IsEntry, IsDatabase}
 use Rattle.history_store.specs.Store.{Store, AllBefore}
-use Rattle.smo_types.specs.Commands.{evolving, PlainVersion, version_of}
-use Rattle.smo_types.specs.declared.version.Version.{Version}
-use Rattle.smo_types.specs.Operators.{Operator, operator_of}
-use Rattle.smo_meaning.specs.Accepts.{command_fault, operator_refusal}
-use Rattle.smo_meaning.specs.After.{op_fault, schema_after}
-use Rattle.smo_meaning.specs.Effects.{rows_under}
-use Rattle.smo_meaning.specs.OneRow.{Relation}
-use Rattle.smo_meaning.specs.First.{unless}
-use Rattle.smo_meaning.specs.Inverses.{inverse_tests}
-use Rattle.smo_meaning.specs.Past.{Past, no_tables, newest_from, tables_of, newest_tables}
-use Rattle.smo_meaning.specs.Past.{newest_database, next_version, next_database, past_with}
-use Rattle.smo_meaning.specs.Sizes.{Size, if_living, ended_with, size_after, size_begun}
-use Rattle.smo_meaning.specs.Sizes.{sizes_evolved}
-use Rattle.smo_meaning.specs.Touching.{makes, consumes}
-use Rattle.smo_meaning.proofs.CarriedDatabases.{carried_database}
-use Rattle.smo_meaning.proofs.Firsts.{none_of_first, none_mapped}
-use Rattle.smo_meaning.proofs.PastMoments.{newest_tables_from, is_later, still_later, before_or_not}
-use Rattle.smo_meaning.proofs.PastSteps.{body_accepted, stamp_accepted}
-use Rattle.version_tables.specs.declared.made_table.MadeTable.{MadeTable}
-use Rattle.version_tables.specs.Becoming.{Begins}
-use Rattle.version_tables.specs.Stored.{stored_as}
-use Rattle.version_tables.specs.Ending.{table_after, AreLiving}
-use Rattle.version_tables.specs.Places.{at_places}
-use Rattle.version_tables.specs.Beginning.{BeginsWith, BeginInOrder, ArePlaced}
-use Rattle.version_tables.specs.Evolving.{BeginsEntry}
-use Rattle.version_tables.proofs.LifelinesAfter.{entry_none, living_after}
-use Rattle.version_tables.proofs.PlacedTables.{listed_in}
+use Rattle.smo_ops_types.specs.Commands.{evolving, PlainVersion, version_of}
+use Rattle.smo_ops_types.specs.declared.version.Version.{Version}
+use Rattle.smo_ops_types.specs.Operators.{Operator, operator_of}
+use Rattle.smo_ops_spec.specs.Accepts.{command_fault, operator_refusal}
+use Rattle.smo_ops_spec.specs.After.{op_fault, schema_after}
+use Rattle.smo_ops_spec.specs.Effects.{rows_under}
+use Rattle.smo_ops_spec.specs.OneRow.{Relation}
+use Rattle.smo_ops_spec.specs.First.{unless}
+use Rattle.smo_ops_spec.specs.Inverses.{inverse_tests}
+use Rattle.smo_ops_spec.specs.Past.{Past, no_tables, newest_from, tables_of, newest_tables}
+use Rattle.smo_ops_spec.specs.Past.{newest_database, next_version, next_database, past_with}
+use Rattle.smo_ops_spec.specs.Sizes.{Size, if_living, ended_with, size_after, size_begun}
+use Rattle.smo_ops_spec.specs.Sizes.{sizes_evolved}
+use Rattle.smo_ops_spec.specs.Touching.{makes, consumes}
+use Rattle.smo_ops_spec.proofs.CarriedDatabases.{carried_database}
+use Rattle.smo_ops_spec.proofs.Firsts.{none_of_first, none_mapped}
+use Rattle.smo_ops_spec.proofs.PastMoments.{newest_tables_from, is_later, still_later, before_or_not}
+use Rattle.smo_ops_spec.proofs.PastSteps.{body_accepted, stamp_accepted}
+use Rattle.version_groups_tables.specs.declared.made_table.MadeTable.{MadeTable}
+use Rattle.version_groups_tables.specs.Becoming.{Begins}
+use Rattle.version_groups_tables.specs.Stored.{stored_as}
+use Rattle.version_groups_tables.specs.Ending.{table_after, AreLiving}
+use Rattle.version_groups_tables.specs.Places.{at_places}
+use Rattle.version_groups_tables.specs.Beginning.{BeginsWith, BeginInOrder, ArePlaced}
+use Rattle.version_groups_tables.specs.Evolving.{BeginsEntry}
+use Rattle.version_groups_tables.proofs.LifelinesAfter.{entry_none, living_after}
+use Rattle.version_groups_tables.proofs.PlacedTables.{listed_in}
 use Rattle.version_groups.specs.Covering.{line_of}
 use Rattle.version_groups.specs.Groups.{Kept, versions_in, newest_places, table_in}
 use Rattle.version_groups.specs.Lifelines.{last_after, line_begun, made_tables}

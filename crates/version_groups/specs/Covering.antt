@@ -1,8 +1,8 @@
 -- The stored tables of versions, over their lifelines.
 use Rattle.std.specs.Prelude.{◌≡◌, ℕ, ◌<◌, ◌≤◌, true, List, [], map, length, Some, slice_get}
 use Rattle.std.specs.Prelude.{slice_index_or}
-use Rattle.relations.specs.Sets.{In}
-use Rattle.version_tables.specs.declared.made_table.MadeTable.{MadeTable}
+use Rattle.relations_spec.specs.Sets.{In}
+use Rattle.version_groups_tables.specs.declared.made_table.MadeTable.{MadeTable}
 use Rattle.version_groups.specs.Groups.{Kept, versions_in}
 use Rattle.version_groups.specs.Lifelines.{Lifeline, lifelines_of, covers}
 

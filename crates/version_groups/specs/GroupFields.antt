@@ -2,12 +2,12 @@
 use Rattle.std.specs.Prelude.{◌≡◌, ℕ, ◌-◌, ◌<◌, ◌^◌, min, List, [], ◌∷◌, ◌++◌, map, length, ⊤}
 use Rattle.std.specs.Prelude.{vec_len, vec_capacity}
 use Rattle.std.specs.Global.{Vec}
-use Rattle.relations.specs.Sets.{Ascends}
+use Rattle.relations_spec.specs.Sets.{Ascends}
 use Rattle.prima_base.specs.Order.{bytes_cmp}
-use Rattle.smo_meaning.specs.Past.{no_tables}
-use Rattle.version_tables.specs.declared.made_table.MadeTable.{MadeTable}
-use Rattle.version_tables.specs.Stored.{stored_names}
-use Rattle.version_tables.specs.Places.{at_places, AreWithin}
+use Rattle.smo_ops_spec.specs.Past.{no_tables}
+use Rattle.version_groups_tables.specs.declared.made_table.MadeTable.{MadeTable}
+use Rattle.version_groups_tables.specs.Stored.{stored_names}
+use Rattle.version_groups_tables.specs.Places.{at_places, AreWithin}
 use Rattle.version_groups.specs.declared.groups.Groups.TheInside.{Inside}
 use Rattle.version_groups.specs.Groups.{Kept}
 use Rattle.version_groups.specs.Covering.{AreOfLifelines}

@@ -1,12 +1,12 @@
 -- The versions, and the stored tables of each.
 use Rattle.std.specs.Prelude.{ℕ, List, [], length, map, Option, slice_get, slice_index_or}
 use Rattle.std.specs.Option.{option_map}
-use Rattle.smo_types.specs.declared.version.Version.{Version}
+use Rattle.smo_ops_types.specs.declared.version.Version.{Version}
 use Rattle.history_store.specs.Store.{Store}
-use Rattle.smo_types.specs.Commands.{PlainVersion, version_of}
-use Rattle.version_tables.specs.declared.made_table.MadeTable.{MadeTable}
-use Rattle.version_tables.specs.Places.{at_places}
-use Rattle.version_tables.specs.Stored.{stored_as}
+use Rattle.smo_ops_types.specs.Commands.{PlainVersion, version_of}
+use Rattle.version_groups_tables.specs.declared.made_table.MadeTable.{MadeTable}
+use Rattle.version_groups_tables.specs.Places.{at_places}
+use Rattle.version_groups_tables.specs.Stored.{stored_as}
 
 -- versions 1 to the newest; the stored tables, in the order in which they begin, each kept once
 -- over all versions in which no operator makes or consumes it; of each version, those of version 0

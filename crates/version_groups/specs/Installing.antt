@@ -1,22 +1,22 @@
 -- What installing makes of groups.
 use Rattle.std.specs.Prelude.{◌≡◌, ℕ, ◌+◌, ◌<◌, ◌≤◌, List, [], ◌∷◌, ◌++◌, length, map, Option}
 use Rattle.std.specs.Prelude.{Some, None, slice_index_or, ⊤}
-use Rattle.relations.specs.Sets.{In, Ascends}
+use Rattle.relations_spec.specs.Sets.{In, Ascends}
 use Rattle.prima_base.specs.Order.{bytes_cmp}
 use Rattle.history_store.specs.Store.{Store, relation_at}
 use Rattle.history_store.specs.Change.{PreparedChange}
 use Rattle.schema_catalog.specs.Tables.{Tables}
-use Rattle.smo_types.specs.declared.version.Version.{Version}
-use Rattle.smo_types.specs.Operators.{operator_of}
-use Rattle.smo_types.specs.Commands.{PlainVersion}
-use Rattle.smo_meaning.specs.Past.{no_tables, newest_from}
-use Rattle.smo_meaning.specs.Touching.{consumes}
-use Rattle.version_tables.specs.declared.made_table.MadeTable.{MadeTable}
-use Rattle.version_tables.specs.Stored.{stored_as, stored_names}
-use Rattle.version_tables.specs.Becoming.{AreMadeBy}
-use Rattle.version_tables.specs.Ending.{AreLiving, table_after}
-use Rattle.version_tables.specs.Changing.{AreMade}
-use Rattle.version_tables.specs.Places.{at_places, AreWithin}
+use Rattle.smo_ops_types.specs.declared.version.Version.{Version}
+use Rattle.smo_ops_types.specs.Operators.{operator_of}
+use Rattle.smo_ops_types.specs.Commands.{PlainVersion}
+use Rattle.smo_ops_spec.specs.Past.{no_tables, newest_from}
+use Rattle.smo_ops_spec.specs.Touching.{consumes}
+use Rattle.version_groups_tables.specs.declared.made_table.MadeTable.{MadeTable}
+use Rattle.version_groups_tables.specs.Stored.{stored_as, stored_names}
+use Rattle.version_groups_tables.specs.Becoming.{AreMadeBy}
+use Rattle.version_groups_tables.specs.Ending.{AreLiving, table_after}
+use Rattle.version_groups_tables.specs.Changing.{AreMade}
+use Rattle.version_groups_tables.specs.Places.{at_places, AreWithin}
 use Rattle.version_groups.specs.Groups.{Kept, versions_in, newest_places, group_of, newest_group}
 use Rattle.version_groups.specs.Groups.{table_in}
 use Rattle.version_groups.specs.declared.prepared_command.Step.{Step}

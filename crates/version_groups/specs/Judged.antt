@@ -1,14 +1,14 @@
 -- A command that is accepted, with what judging it found.
 use Rattle.std.specs.Prelude.{◌≡◌, ◌<◌, None}
-use Rattle.relations.specs.Spans.{forever}
-use Rattle.smo_types.specs.Changes.{changes_of}
-use Rattle.smo_types.specs.Commands.{changing, evolving, PlainCommand}
-use Rattle.smo_types.specs.Operators.{operator_of, operators_of}
-use Rattle.smo_types.specs.declared.version.Version.{Version}
-use Rattle.smo_meaning.specs.Accepts.{command_fault}
-use Rattle.smo_meaning.specs.After.{schema_after}
-use Rattle.smo_meaning.specs.ValidValues.{BodyHolds}
-use Rattle.smo_meaning.specs.Past.{Past, newest_tables}
+use Rattle.relations_spec.specs.Spans.{forever}
+use Rattle.smo_ops_types.specs.Changes.{changes_of}
+use Rattle.smo_ops_types.specs.Commands.{changing, evolving, PlainCommand}
+use Rattle.smo_ops_types.specs.Operators.{operator_of, operators_of}
+use Rattle.smo_ops_types.specs.declared.version.Version.{Version}
+use Rattle.smo_ops_spec.specs.Accepts.{command_fault}
+use Rattle.smo_ops_spec.specs.After.{schema_after}
+use Rattle.smo_ops_spec.specs.ValidValues.{BodyHolds}
+use Rattle.smo_ops_spec.specs.Past.{Past, newest_tables}
 use Rattle.smo_ops.specs.TablePlaces.{StandAt}
 use Rattle.version_groups.specs.Steps.{a_command}
 use Rattle.version_groups.specs.declared.judged.Judged.{Judged}

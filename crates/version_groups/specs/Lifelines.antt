@@ -1,6 +1,6 @@
 -- The lifelines of tables.
-pub use Rattle.lifelines.specs.Lifelines.{Lifeline, last_after, line_after, line_begun, made_tables}
-pub use Rattle.lifelines.specs.Lifelines.{lifelines_after, lifelines_from, lifelines_of}
-pub use Rattle.lifelines.specs.Lifelines.{lifeline_columns}
-pub use Rattle.lifelines.specs.Lifelines.{is_up_to, covers, first_place, place_in, Named}
-pub use Rattle.lifelines.specs.Lifelines.{size_named, line_named, NamesLifelines}
+pub use Rattle.smo_ops_versions_spec.specs.Lifelines.{Lifeline, last_after, line_after, line_begun, made_tables}
+pub use Rattle.smo_ops_versions_spec.specs.Lifelines.{lifelines_after, lifelines_from, lifelines_of}
+pub use Rattle.smo_ops_versions_spec.specs.Lifelines.{lifeline_columns}
+pub use Rattle.smo_ops_versions_spec.specs.Lifelines.{is_up_to, covers, first_place, place_in, Named}
+pub use Rattle.smo_ops_versions_spec.specs.Lifelines.{size_named, line_named, NamesLifelines}

@@ -3,10 +3,10 @@ use Rattle.std.specs.Prelude.{◌≡◌, ◌≤◌, ◌<◌, ℕ, zero, suc, ◌
 use Rattle.std.specs.Prelude.{Some, None, length, slice_get}
 use Rattle.std.specs.FinMap.{get}
 use Rattle.schema_catalog.specs.Tables.{Tables}
-use Rattle.smo_types.specs.Commands.{PlainVersion}
-use Rattle.smo_types.specs.Operators.{Operator}
-use Rattle.smo_meaning.specs.Past.{no_tables, tables_from}
-use Rattle.smo_meaning.specs.Touching.{makes, consumes}
+use Rattle.smo_ops_types.specs.Commands.{PlainVersion}
+use Rattle.smo_ops_types.specs.Operators.{Operator}
+use Rattle.smo_ops_spec.specs.Past.{no_tables, tables_from}
+use Rattle.smo_ops_spec.specs.Touching.{makes, consumes}
 use Rattle.version_groups.specs.Lifelines.{Lifeline, covers}
 
 abbrev pub of_operator : (Tables → Operator → List ℕ → Bool) → Tables → Option PlainVersion → List ℕ

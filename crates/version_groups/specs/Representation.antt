@@ -1,16 +1,16 @@
 -- When groups represent a past.
 use Rattle.std.specs.Prelude.{◌≡◌, ℕ, ◌<◌, ◌≤◌, List, Option, Some, None, length, ⊤, slice_index_or}
 use Rattle.std.specs.FinMap.{get}
-use Rattle.relations.specs.Spans.{forever}
+use Rattle.relations_spec.specs.Spans.{forever}
 use Rattle.prima_base.specs.Columns.{Column}
 use Rattle.history_store.specs.Store.{Store, AllBefore, relation_at}
-use Rattle.smo_types.specs.Commands.{PlainVersion}
-use Rattle.smo_meaning.specs.Effects.{rows_under}
-use Rattle.smo_meaning.specs.InForce.{in_force}
-use Rattle.smo_meaning.specs.ValidPast.{last_or_nought, IsLater, IsPast}
-use Rattle.smo_meaning.specs.ValidValues.{PastHolds}
-use Rattle.smo_meaning.specs.Past.{Past, tables_of, database_at}
-use Rattle.version_tables.specs.declared.made_table.MadeTable.{MadeTable}
+use Rattle.smo_ops_types.specs.Commands.{PlainVersion}
+use Rattle.smo_ops_spec.specs.Effects.{rows_under}
+use Rattle.smo_ops_spec.specs.InForce.{in_force}
+use Rattle.smo_ops_spec.specs.ValidPast.{last_or_nought, IsLater, IsPast}
+use Rattle.smo_ops_spec.specs.ValidValues.{PastHolds}
+use Rattle.smo_ops_spec.specs.Past.{Past, tables_of, database_at}
+use Rattle.version_groups_tables.specs.declared.made_table.MadeTable.{MadeTable}
 use Rattle.version_groups.specs.Covering.{AreOfLifelines}
 use Rattle.version_groups.specs.Groups.{Kept, versions_in, table_in}
 use Rattle.version_groups.specs.Sizes.{HaveSizes}

@@ -3,13 +3,13 @@ use Rattle.std.specs.Prelude.{◌≡◌, ◌≤◌, ◌<◌, ℕ, List, map, len
 use Rattle.std.specs.FinMap.{get}
 use Rattle.prima_base.specs.Columns.{Column}
 use Rattle.history_store.specs.Store.{Store, relation_at}
-use Rattle.relations.specs.Spans.{forever}
-use Rattle.smo_meaning.specs.Effects.{rows_under}
-use Rattle.smo_meaning.specs.ValidPast.{last_or_nought, IsPast}
-use Rattle.smo_meaning.specs.ValidValues.{PastHolds}
-use Rattle.smo_meaning.specs.Past.{Past, no_tables, tables_from, database_at}
-use Rattle.version_tables.specs.Restoring.{HasColumns}
-use Rattle.version_tables.specs.Stored.{HasEntry}
+use Rattle.relations_spec.specs.Spans.{forever}
+use Rattle.smo_ops_spec.specs.Effects.{rows_under}
+use Rattle.smo_ops_spec.specs.ValidPast.{last_or_nought, IsPast}
+use Rattle.smo_ops_spec.specs.ValidValues.{PastHolds}
+use Rattle.smo_ops_spec.specs.Past.{Past, no_tables, tables_from, database_at}
+use Rattle.version_groups_tables.specs.Restoring.{HasColumns}
+use Rattle.version_groups_tables.specs.Stored.{HasEntry}
 use Rattle.version_groups.specs.Covering.{AreOfLifelines}
 use Rattle.version_groups.specs.Groups.{Kept, versions_in, table_in}
 use Rattle.version_groups.specs.Representation.{IsInForce, AreUpTo}

@@ -1,6 +1,6 @@
 -- What is as it was, with no less room.
 use Rattle.std.specs.Prelude.{◌≡◌, ◌≤◌}
-use Rattle.version_tables.specs.Room.{AreSameTables}
+use Rattle.version_groups_tables.specs.Room.{AreSameTables}
 use Rattle.version_groups.specs.Groups.{Kept}
 
 -- the same versions, and the same stored tables of each

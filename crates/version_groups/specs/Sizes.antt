@@ -2,8 +2,8 @@
 use Rattle.std.specs.Prelude.{◌≡◌, ℕ, ◌<◌, List, [], length, slice_index_or}
 use Rattle.std.specs.Option.{unwrap_or}
 use Rattle.history_store.specs.Store.{Cell, weight}
-use Rattle.smo_meaning.specs.Sizes.{Written, Size, cells_in, none_written, value_bytes}
-use Rattle.version_tables.specs.declared.made_table.MadeTable.{MadeTable}
+use Rattle.smo_ops_spec.specs.Sizes.{Written, Size, cells_in, none_written, value_bytes}
+use Rattle.version_groups_tables.specs.declared.made_table.MadeTable.{MadeTable}
 use Rattle.version_groups.specs.declared.size.SizeLine.{SizeLine}
 
 -- a column has so many cells, and their values so many bytes

@@ -3,27 +3,27 @@ use Rattle.std.specs.Prelude.{◌≡◌, ℕ, ◌+◌, ◌<◌, ◌≤◌, ◌^�
 use Rattle.std.specs.Prelude.{Option, None, Bool, true, false}
 use Rattle.std.specs.List.{filter}
 use Rattle.std.specs.FinMap.{get, entries}
-use Rattle.relations.specs.Sets.{Ascends}
-use Rattle.relations.specs.Spans.{forever}
+use Rattle.relations_spec.specs.Sets.{Ascends}
+use Rattle.relations_spec.specs.Spans.{forever}
 use Rattle.prima_base.specs.Columns.{Column}
 use Rattle.prima_base.specs.Order.{bytes_cmp}
 use Rattle.history_store.specs.Change.{PreparedChange}
 use Rattle.schema_catalog.specs.Tables.{Tables}
 use Rattle.schema_catalog.specs.Databases.{Database}
-use Rattle.smo_meaning.specs.Accepts.{command_fault}
-use Rattle.smo_meaning.specs.ValidValues.{BodyHolds}
-use Rattle.smo_types.specs.Commands.{PlainBody, changing, evolving, PlainCommand, PlainVersion}
-use Rattle.smo_types.specs.Commands.{version_of}
-use Rattle.smo_meaning.specs.Effects.{rows_under, gained, lost}
-use Rattle.smo_meaning.specs.Touching.{makes}
-use Rattle.smo_meaning.specs.Past.{Past, newest_tables, newest_database, next_version}
-use Rattle.smo_meaning.specs.Past.{next_database}
-use Rattle.version_tables.specs.declared.made_table.MadeTable.{MadeTable}
-use Rattle.version_tables.specs.Stored.{stored_as, stored_names}
-use Rattle.version_tables.specs.Beginning.{BeginsWith, BeginInOrder, ArePlaced}
-use Rattle.version_tables.specs.Evolving.{BeginsEntry}
-use Rattle.version_tables.specs.Becoming.{Leads}
-use Rattle.version_tables.specs.Places.{at_places, AreWithin}
+use Rattle.smo_ops_spec.specs.Accepts.{command_fault}
+use Rattle.smo_ops_spec.specs.ValidValues.{BodyHolds}
+use Rattle.smo_ops_types.specs.Commands.{PlainBody, changing, evolving, PlainCommand, PlainVersion}
+use Rattle.smo_ops_types.specs.Commands.{version_of}
+use Rattle.smo_ops_spec.specs.Effects.{rows_under, gained, lost}
+use Rattle.smo_ops_spec.specs.Touching.{makes}
+use Rattle.smo_ops_spec.specs.Past.{Past, newest_tables, newest_database, next_version}
+use Rattle.smo_ops_spec.specs.Past.{next_database}
+use Rattle.version_groups_tables.specs.declared.made_table.MadeTable.{MadeTable}
+use Rattle.version_groups_tables.specs.Stored.{stored_as, stored_names}
+use Rattle.version_groups_tables.specs.Beginning.{BeginsWith, BeginInOrder, ArePlaced}
+use Rattle.version_groups_tables.specs.Evolving.{BeginsEntry}
+use Rattle.version_groups_tables.specs.Becoming.{Leads}
+use Rattle.version_groups_tables.specs.Places.{at_places, AreWithin}
 use Rattle.version_groups.specs.declared.prepared_command.Step.{Step}
 use Rattle.version_groups.specs.declared.prepared_command.Step.TheVariants.{Changed, Evolved}
 use Rattle.version_groups.specs.Groups.{Kept, newest_places, group_of}

@@ -9,7 +9,7 @@ use std::alloc::Global;
 use std::marker::Model;
 use std::mem;
 use std::vec::IntoIter;
-use version_tables::{
+use version_groups_tables::{
     Changes, MadeTable, begin_version, end_consumed, find_stored, find_table, install_tables,
     prepare_tables, restored_tables,
 };
@@ -33,7 +33,7 @@ pub struct Groups {
 impl Model for Groups {
     ghost use Rattle.version_groups.specs.Groups.{Kept};
     ghost use Rattle.version_groups.specs.GroupFields.{groups_view, AreGroups};
-    ghost use Rattle.smo_types.specs.contracts.version.Version as version_row;
+    ghost use Rattle.smo_ops_types.specs.contracts.version.Version as version_row;
     ghost use Rattle.std.specs.Coded.{codes};
 
     ghost Value = { Kept };
@@ -47,8 +47,8 @@ impl Model for Groups {
 
 ghost use Rattle.std.specs.Prelude.{◌≡◌, ◌-◌, ◌<◌, ◌≤◌, ◌++◌, map, length, slice_index, IfOk, OnOk};
 ghost use Rattle.std.specs.Prelude.{None, vec_len, vec_capacity};
-ghost use Rattle.smo_types.specs.Commands.{version_of, versions_of};
-ghost use Rattle.smo_meaning.specs.Past.{no_tables, newest_from, tables_from, begun_at};
+ghost use Rattle.smo_ops_types.specs.Commands.{version_of, versions_of};
+ghost use Rattle.smo_ops_spec.specs.Past.{no_tables, newest_from, tables_from, begun_at};
 
 // How many of the versions begin at the moment or before it.
 fn count_begun(versions: &[Version], moment: u64) -> usize
@@ -99,26 +99,26 @@ impl Groups {
     ghost use Rattle.std.specs.Prelude.{slice_index_or, MatchOption, IfOk, OnOk, None};
     ghost use Rattle.std.specs.Option.{option_copied};
     ghost use Rattle.std.specs.Vec.Iter.{into_iter_items};
-    ghost use Rattle.relations.specs.Sets.{Ascends};
-    ghost use Rattle.relations.specs.Spans.{forever};
+    ghost use Rattle.relations_spec.specs.Sets.{Ascends};
+    ghost use Rattle.relations_spec.specs.Spans.{forever};
     ghost use Rattle.prima_base.specs.Order.{bytes_cmp};
     ghost use Rattle.prima_base.specs.Limits.{max_versions};
-    ghost use Rattle.smo_types.specs.Operators.{operator_of};
-    ghost use Rattle.smo_types.specs.Changes.{changes_of};
-    ghost use Rattle.smo_types.specs.Commands.{changing, PlainCommand, versions_of};
-    ghost use Rattle.smo_meaning.specs.Accepts.{command_fault};
-    ghost use Rattle.smo_meaning.specs.After.{op_fault, schema_after, IsValid};
-    ghost use Rattle.smo_meaning.specs.ValidPast.{AreVersions};
-    ghost use Rattle.smo_meaning.specs.ValidValues.{BodyHolds};
-    ghost use Rattle.smo_meaning.specs.Past.{Past, beginning, no_tables, tables_from, newest_from};
-    ghost use Rattle.smo_meaning.specs.Past.{version_at, past_with};
-    ghost use Rattle.smo_meaning.specs.Past.{newest_tables};
-    ghost use Rattle.smo_meaning.specs.Sizes.{Size};
+    ghost use Rattle.smo_ops_types.specs.Operators.{operator_of};
+    ghost use Rattle.smo_ops_types.specs.Changes.{changes_of};
+    ghost use Rattle.smo_ops_types.specs.Commands.{changing, PlainCommand, versions_of};
+    ghost use Rattle.smo_ops_spec.specs.Accepts.{command_fault};
+    ghost use Rattle.smo_ops_spec.specs.After.{op_fault, schema_after, IsValid};
+    ghost use Rattle.smo_ops_spec.specs.ValidPast.{AreVersions};
+    ghost use Rattle.smo_ops_spec.specs.ValidValues.{BodyHolds};
+    ghost use Rattle.smo_ops_spec.specs.Past.{Past, beginning, no_tables, tables_from, newest_from};
+    ghost use Rattle.smo_ops_spec.specs.Past.{version_at, past_with};
+    ghost use Rattle.smo_ops_spec.specs.Past.{newest_tables};
+    ghost use Rattle.smo_ops_spec.specs.Sizes.{Size};
     ghost use Rattle.smo_ops.specs.TablePlaces.{StandAt};
-    ghost use Rattle.version_tables.specs.Stored.{stored_names};
-    ghost use Rattle.version_tables.specs.Places.{at_places, AreWithin};
-    ghost use Rattle.version_tables.specs.Changing.{HaveRoom};
-    ghost use Rattle.version_tables.specs.Restoring.{stores_of, HaveColumns};
+    ghost use Rattle.version_groups_tables.specs.Stored.{stored_names};
+    ghost use Rattle.version_groups_tables.specs.Places.{at_places, AreWithin};
+    ghost use Rattle.version_groups_tables.specs.Changing.{HaveRoom};
+    ghost use Rattle.version_groups_tables.specs.Restoring.{stores_of, HaveColumns};
     ghost use Rattle.version_groups.specs.Groups.{versions_in, places_of, stored_at, table_in};
     ghost use Rattle.version_groups.specs.Groups.{newest_group};
     ghost use Rattle.version_groups.specs.Installing.{HasEarlier, HasChanges, HasVersion, ComeWith};

@@ -20,4 +20,4 @@ pub use lifeline_laws::{lifelines_are_few, lifelines_are_longest_runs};
 pub use prepared_command::PreparedCommand;
 pub use restoration::restored_groups_represent;
 pub use size::{SizeLine, sizes_are_of_lifelines};
-pub use version_tables::MadeTable;
+pub use version_groups_tables::MadeTable;

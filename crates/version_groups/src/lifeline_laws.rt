@@ -2,11 +2,11 @@
 
 ghost use Rattle.std.specs.Prelude.{◌≡◌, ◌≤◌, ◌*◌, ℕ, List, None, is_some, length};
 ghost use Rattle.std.specs.FinMap.{get};
-ghost use Rattle.relations.specs.Sets.{In};
+ghost use Rattle.relations_spec.specs.Sets.{In};
 ghost use Rattle.prima_base.specs.Limits.{max_versions};
-ghost use Rattle.smo_types.specs.Commands.{PlainVersion};
-ghost use Rattle.smo_meaning.specs.ValidPast.{AreVersions};
-ghost use Rattle.smo_meaning.specs.Past.{Past, no_tables, tables_from};
+ghost use Rattle.smo_ops_types.specs.Commands.{PlainVersion};
+ghost use Rattle.smo_ops_spec.specs.ValidPast.{AreVersions};
+ghost use Rattle.smo_ops_spec.specs.Past.{Past, no_tables, tables_from};
 ghost use Rattle.version_groups.specs.Groups.{Kept};
 ghost use Rattle.version_groups.specs.Lifelines.{Lifeline, lifelines_of, place_in};
 ghost use Rattle.version_groups.specs.LongestRuns.{IsLongest};

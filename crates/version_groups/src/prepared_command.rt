@@ -1,7 +1,7 @@
 use history_store::PreparedTable;
 use smo_ops::Version;
 use std::marker::Model;
-use version_tables::MadeTable;
+use version_groups_tables::MadeTable;
 
 /// What a command does.
 #[derive(Drop)]

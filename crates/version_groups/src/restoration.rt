@@ -1,6 +1,6 @@
 //! What groups that are made again stand for.
 
-ghost use Rattle.smo_meaning.specs.Past.{Past};
+ghost use Rattle.smo_ops_spec.specs.Past.{Past};
 ghost use Rattle.version_groups.specs.Restoring.{AreRestored, IsPastOf};
 ghost use Rattle.version_groups.specs.Representation.{Represents};
 

@@ -1,5 +1,5 @@
-ghost use Rattle.smo_types.specs.Commands.{PlainCommand};
-ghost use Rattle.smo_meaning.specs.Past.{Past, beginning, past_with};
+ghost use Rattle.smo_ops_types.specs.Commands.{PlainCommand};
+ghost use Rattle.smo_ops_spec.specs.Past.{Past, beginning, past_with};
 ghost use Rattle.version_groups.specs.Lifelines.{NamesLifelines};
 
 use prima_base::Name;

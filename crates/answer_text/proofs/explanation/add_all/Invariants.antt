@@ -1,6 +1,6 @@
 use Rattle.std.proofs.Common.{◌≡◌, ◌++◌, drop}
 use Rattle.std.specs.List.{flat_map}
-use Rattle.piece_texts.specs.ExplainedPieces.{all_explained}
+use Rattle.piece_ir.specs.ExplainedPieces.{all_explained}
 use Rattle.answer_text.specs.Texts.{explained_text}
 use Rattle.answer_text.proofs.explanation.add_all.Given as goal
 

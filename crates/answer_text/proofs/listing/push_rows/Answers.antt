@@ -1,10 +1,10 @@
 use Rattle.std.proofs.Common.{List, ◌<◌, ◌+◌, ◌++◌, length, drop, get_or, sym, ap, ◌∙◌, arith}
 use Rattle.std.specs.List.{flat_map}
-use Rattle.relations.specs.Timed.{Entry}
+use Rattle.relations_spec.specs.Timed.{Entry}
 use Rattle.prima_base.specs.Timed.{entry_of, entries_of}
 use Rattle.prima_base.specs.declared.value.Value.{Value}
-use Rattle.timed_rows.proofs.Moves.{no_row}
-use Rattle.timed_rows.proofs.ReadRows.{read_entry, stands_there}
+use Rattle.prima_base_rows.proofs.Moves.{no_row}
+use Rattle.prima_base_rows.proofs.ReadRows.{read_entry, stands_there}
 use Rattle.answer_text.specs.Texts.{row_text}
 use Rattle.answer_text.proofs.Gathered.{on_err, more, less_within}
 use Rattle.answer_text.proofs.Listed.{next_text, sent_text}

@@ -1,4 +1,4 @@
-use Rattle.archive_state.specs.AcceptedCommands.{accepted_command}
+use Rattle.archive_core_state.specs.AcceptedCommands.{accepted_command}
 use Rattle.archive_core.proofs.preparation.judge_and_seal.Goals as goal
 
 pub seal-requires-clause-valid : goal.seal-requires-clause-valid

@@ -2,7 +2,7 @@ use Rattle.std.proofs.Common.{◌≡◌, ◌<◌, List, length, sym, ap, ◌∙�
 use Rattle.std.specs.List.{filter_map}
 use Rattle.std.proofs.lemmas.List.{take_all}
 use Rattle.prima_base.specs.declared.timed_row.TimedRow.{TimedRow}
-use Rattle.timed_rows.proofs.Moves.{no_row}
+use Rattle.prima_base_rows.proofs.Moves.{no_row}
 use Rattle.coalesce.specs.Cutting.{cut_row}
 use Rattle.coalesce.specs.Listed.{is_inside}
 use Rattle.coalesce.proofs.Cut.{inside_more}

@@ -1,10 +1,10 @@
 use Rattle.std.proofs.Common.{◌≡◌, ap, sym, ◌∙◌, List, get_or}
 use Rattle.std.specs.Prelude.{Option, Some, None}
 use Rattle.std.specs.List.{swap}
-use Rattle.relations.specs.Spans.{Span, common}
+use Rattle.relations_spec.specs.Spans.{Span, common}
 use Rattle.prima_base.specs.declared.timed_row.TimedRow.{TimedRow}
-use Rattle.timed_rows.specs.Rows.{in_period}
-use Rattle.timed_rows.proofs.Moves.{no_row}
+use Rattle.prima_base_rows.specs.Rows.{in_period}
+use Rattle.prima_base_rows.proofs.Moves.{no_row}
 use Rattle.coalesce.specs.Cutting.{cut_row, with_period}
 use Rattle.coalesce.proofs.Kept.{kept_one, dropped_one}
 use Rattle.coalesce.proofs.row_cut.keep.Goals as goal

@@ -1,8 +1,8 @@
 use Rattle.std.proofs.Common.{◌≡◌, ap, subst, sym, ◌∙◌, List, arith, length}
 use Rattle.std.proofs.lemmas.Grind.{common_steps}
 use Rattle.std.specs.List.{filter}
-use Rattle.relations.specs.Sets.{In}
-use Rattle.relations.proofs.SetLaws.{from_filter}
+use Rattle.relations_spec.specs.Sets.{In}
+use Rattle.relations_spec.proofs.SetLaws.{from_filter}
 use Rattle.prima_base.specs.declared.timed_row.TimedRow.{TimedRow}
 use Rattle.prima_base.specs.Keeping.{keeps_all}
 use Rattle.prima_base.specs.Timed.{entries_of}

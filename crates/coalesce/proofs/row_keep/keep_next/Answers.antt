@@ -1,7 +1,7 @@
 use Rattle.std.proofs.Common.{◌≡◌, ap, sym, ◌∙◌, Bool, cond, get_or}
 use Rattle.std.specs.Prelude.{Some, None}
 use Rattle.prima_base.specs.Keeping.{keeps_all}
-use Rattle.timed_rows.proofs.Moves.{no_row}
+use Rattle.prima_base_rows.proofs.Moves.{no_row}
 use Rattle.coalesce.specs.Cutting.{kept_row}
 use Rattle.coalesce.proofs.Kept.{kept_whole, dropped_one}
 use Rattle.coalesce.proofs.row_keep.keep_next.Goals as goal

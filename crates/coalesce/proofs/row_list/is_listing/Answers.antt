@@ -1,6 +1,6 @@
 use Rattle.std.proofs.Common.{◌<◌, ◌&&◌, ap, sym, ◌∙◌, Bool, arith, get_or, drop, length}
 use Rattle.std.proofs.lemmas.Grind.{common_steps}
-use Rattle.timed_rows.proofs.Moves.{no_row}
+use Rattle.prima_base_rows.proofs.Moves.{no_row}
 use Rattle.coalesce.specs.Listed.{is_inside, are_after}
 use Rattle.coalesce.proofs.Passes.{first_is}
 use Rattle.coalesce.proofs.row_list.is_listing.Goals as goal

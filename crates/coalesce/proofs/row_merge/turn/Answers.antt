@@ -1,7 +1,7 @@
 use Rattle.std.proofs.Common.{ap, sym, ◌∙◌, get_or, max, ◌+◌}
-use Rattle.relations.specs.Spans.{Span}
-use Rattle.timed_rows.specs.Rows.{in_period}
-use Rattle.timed_rows.proofs.Moves.{no_row}
+use Rattle.relations_spec.specs.Spans.{Span}
+use Rattle.prima_base_rows.specs.Rows.{in_period}
+use Rattle.prima_base_rows.proofs.Moves.{no_row}
 use Rattle.coalesce.specs.Joining.{touch_rows, join_rows, standing}
 use Rattle.coalesce.proofs.Places.{kept_join, kept_swap}
 use Rattle.coalesce.proofs.Rows.{joined_row}

@@ -1,5 +1,5 @@
 use Rattle.std.proofs.Common.{◌-◌}
-use Rattle.command_spelling.specs.Reader.{cell}
+use Rattle.command_codec_spec.specs.Reader.{cell}
 use Rattle.command_codec.proofs.ListSteps.{SoMany}
 use Rattle.command_codec.proofs.command_reader.cells.Given as goal
 

@@ -1,6 +1,6 @@
 use Rattle.std.proofs.Common.{◌-◌, map}
-use Rattle.smo_types.specs.Changes.{change_of}
-use Rattle.command_spelling.specs.Reader.{change}
+use Rattle.smo_ops_types.specs.Changes.{change_of}
+use Rattle.command_codec_spec.specs.Reader.{change}
 use Rattle.command_codec.proofs.ListSteps.{SoMany}
 use Rattle.command_codec.proofs.command_reader.changes.Given as goal
 

@@ -1,6 +1,6 @@
 use Rattle.std.proofs.lemmas.Result.{err_from_is_err_and}
-use Rattle.smo_types.specs.Changes.{set_of_expr}
-use Rattle.command_spelling.specs.Reader.{set, sets}
+use Rattle.smo_ops_types.specs.Changes.{set_of_expr}
+use Rattle.command_codec_spec.specs.Reader.{set, sets}
 use Rattle.command_codec.proofs.ListSteps.{one_pushed, no_counted_item, all_counted}
 use Rattle.command_codec.proofs.command_reader.sets.Goals as goal
 

@@ -1,6 +1,6 @@
 use Rattle.std.proofs.Common.{◌-◌, map}
-use Rattle.smo_types.specs.Changes.{set_of_expr}
-use Rattle.command_spelling.specs.Reader.{set}
+use Rattle.smo_ops_types.specs.Changes.{set_of_expr}
+use Rattle.command_codec_spec.specs.Reader.{set}
 use Rattle.command_codec.proofs.ListSteps.{SoMany}
 use Rattle.command_codec.proofs.command_reader.sets.Given as goal
 

@@ -1,4 +1,4 @@
-use Rattle.command_spelling.specs.Reader.{command}
+use Rattle.command_codec_spec.specs.Reader.{command}
 use Rattle.command_codec.proofs.ReadSteps.{of_stuck}
 use Rattle.command_codec.proofs.Answering.{command_fits, alone_answers, stuck_answers}
 use Rattle.command_codec.proofs.decoder.decode.Goals as goal

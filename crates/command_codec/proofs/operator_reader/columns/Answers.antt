@@ -1,5 +1,5 @@
 use Rattle.std.proofs.lemmas.Result.{err_from_is_err_and}
-use Rattle.command_spelling.specs.Reader.{column_of, columns}
+use Rattle.command_codec_spec.specs.Reader.{column_of, columns}
 use Rattle.command_codec.proofs.ListSteps.{one_more_item, no_counted_item, all_counted}
 use Rattle.command_codec.proofs.operator_reader.columns.Goals as goal
 

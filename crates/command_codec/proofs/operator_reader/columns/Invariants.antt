@@ -1,5 +1,5 @@
 use Rattle.std.proofs.Common.{◌-◌}
-use Rattle.command_spelling.specs.Reader.{column_of}
+use Rattle.command_codec_spec.specs.Reader.{column_of}
 use Rattle.command_codec.proofs.ListSteps.{SoMany}
 use Rattle.command_codec.proofs.operator_reader.columns.Given as goal
 

@@ -1,6 +1,6 @@
 use Rattle.std.proofs.lemmas.Result.{err_from_is_err_and}
-use Rattle.smo_types.specs.Operators.{operator_of}
-use Rattle.command_spelling.specs.Reader.{operator, operators}
+use Rattle.smo_ops_types.specs.Operators.{operator_of}
+use Rattle.command_codec_spec.specs.Reader.{operator, operators}
 use Rattle.command_codec.proofs.ListSteps.{one_pushed, no_counted_item, all_counted}
 use Rattle.command_codec.proofs.operator_reader.ops.Goals as goal
 

@@ -1,6 +1,6 @@
 use Rattle.std.proofs.Common.{◌-◌, map}
-use Rattle.smo_types.specs.Operators.{operator_of}
-use Rattle.command_spelling.specs.Reader.{operator}
+use Rattle.smo_ops_types.specs.Operators.{operator_of}
+use Rattle.command_codec_spec.specs.Reader.{operator}
 use Rattle.command_codec.proofs.ListSteps.{SoMany}
 use Rattle.command_codec.proofs.operator_reader.ops.Given as goal
 

@@ -1,9 +1,9 @@
 use Rattle.prima_base.specs.Bytes.{IsName}
-use Rattle.command_spelling.specs.Spelling.{name_bytes}
-use Rattle.command_spelling.specs.Reader.{name}
-use Rattle.command_spelling.proofs.PartFormats.{name_correct}
+use Rattle.command_codec_spec.specs.Spelling.{name_bytes}
+use Rattle.command_codec_spec.specs.Reader.{name}
+use Rattle.command_codec_spec.proofs.PartFormats.{name_correct}
 use Rattle.command_codec.proofs.ReadSteps.{of_stuck}
-use Rattle.command_spelling.proofs.Deciding.{got_at, stuck_at}
+use Rattle.command_codec_spec.proofs.Deciding.{got_at, stuck_at}
 use Rattle.command_codec.proofs.part.read_name.Goals as goal
 
 pub overflow_sub-result : goal.overflow_sub-result

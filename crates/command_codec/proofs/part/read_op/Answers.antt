@@ -1,10 +1,10 @@
-use Rattle.smo_types.specs.Operators.{operator_of}
-use Rattle.command_spelling.specs.Spelling.{operator_bytes}
-use Rattle.command_spelling.specs.Valid.{IsOperator}
-use Rattle.command_spelling.specs.Reader.{operator}
-use Rattle.command_spelling.proofs.CommandFormats.{operator_correct}
+use Rattle.smo_ops_types.specs.Operators.{operator_of}
+use Rattle.command_codec_spec.specs.Spelling.{operator_bytes}
+use Rattle.command_codec_spec.specs.Valid.{IsOperator}
+use Rattle.command_codec_spec.specs.Reader.{operator}
+use Rattle.command_codec_spec.proofs.CommandFormats.{operator_correct}
 use Rattle.command_codec.proofs.ReadSteps.{of_stuck}
-use Rattle.command_spelling.proofs.Deciding.{got_at, stuck_at}
+use Rattle.command_codec_spec.proofs.Deciding.{got_at, stuck_at}
 use Rattle.command_codec.proofs.part.read_op.Goals as goal
 
 pub overflow_sub-result : goal.overflow_sub-result

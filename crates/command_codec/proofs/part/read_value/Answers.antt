@@ -1,9 +1,9 @@
 use Rattle.prima_base.specs.Columns.{IsValid}
-use Rattle.command_spelling.specs.Spelling.{value_bytes}
-use Rattle.command_spelling.specs.Reader.{value}
-use Rattle.command_spelling.proofs.PartFormats.{value_correct}
+use Rattle.command_codec_spec.specs.Spelling.{value_bytes}
+use Rattle.command_codec_spec.specs.Reader.{value}
+use Rattle.command_codec_spec.proofs.PartFormats.{value_correct}
 use Rattle.command_codec.proofs.ReadSteps.{of_stuck}
-use Rattle.command_spelling.proofs.Deciding.{got_at, stuck_at}
+use Rattle.command_codec_spec.proofs.Deciding.{got_at, stuck_at}
 use Rattle.command_codec.proofs.part.read_value.Goals as goal
 
 pub overflow_sub-result : goal.overflow_sub-result

@@ -1,6 +1,6 @@
 use Rattle.std.proofs.lemmas.Result.{err_from_is_err_and}
 use Rattle.cond_expr.specs.Seen.{tree, test}
-use Rattle.command_spelling.specs.Reader.{level}
+use Rattle.command_codec_spec.specs.Reader.{level}
 use Rattle.command_codec.proofs.ListSteps.{one_pushed, no_item, all_items}
 use Rattle.command_codec.proofs.TreeSteps.{expr_levels, cond_levels}
 use Rattle.command_codec.proofs.tree_reader.+reads.Goals as goal

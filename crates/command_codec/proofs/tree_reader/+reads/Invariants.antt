@@ -1,6 +1,6 @@
 use Rattle.std.proofs.Common.{◌+◌, ◌-◌, ◌*◌, map}
 use Rattle.cond_expr.specs.Seen.{tree, test}
-use Rattle.command_spelling.specs.Reader.{level}
+use Rattle.command_codec_spec.specs.Reader.{level}
 use Rattle.command_codec.proofs.ListSteps.{SoMany}
 use Rattle.command_codec.proofs.tree_reader.+reads.Given as goal
 

@@ -2,13 +2,13 @@ use Rattle.std.proofs.Common.{rules, ◌≡◌, ◌<◌, suc, [], ◌∷◌, len
 use Rattle.std.proofs.Common.{append_assoc, sym, ap, ◌∙◌, arith}
 use Rattle.std.specs.Vec.Iter.{into_iter_items}
 use Rattle.std.proofs.lemmas.List.{drop_more}
-use Rattle.row_order.specs.Logs.{cells_of}
+use Rattle.history_store_row_order.specs.Logs.{cells_of}
 use Rattle.history_store.specs.Restoring.{entries_of}
-use Rattle.table_meaning.specs.Restoring.{writes_of}
-use Rattle.row_writes.proofs.Others.{one_pushed}
-use Rattle.row_order.proofs.Cells.{cells_of-push}
-use Rattle.row_writes.proofs.Rows.{kinds_more}
-use Rattle.table_meaning.proofs.Restored.{valid_cells}
+use Rattle.history_store_change_spec.specs.Restoring.{writes_of}
+use Rattle.history_store_writes.proofs.Others.{one_pushed}
+use Rattle.history_store_row_order.proofs.Cells.{cells_of-push}
+use Rattle.history_store_writes.proofs.Rows.{kinds_more}
+use Rattle.history_store_change_spec.proofs.Restored.{valid_cells}
 use Rattle.history_store.proofs.restoration.restored_columns.Goals as goal
 
 pub column_of-requires-clause-valid : goal.column_of-requires-clause-valid

@@ -2,10 +2,10 @@ use Rattle.std.proofs.Common.{◌≡◌, ◌+◌, ◌++◌, ℕ, length, take, d
 use Rattle.std.specs.Prelude.{All}
 use Rattle.std.specs.Vec.Iter.{into_iter_items}
 use Rattle.prima_base.specs.Columns.{IsValid}
-use Rattle.row_order.specs.Logs.{cells_of}
-use Rattle.row_writes.specs.Logs.{kinds_of, types_of}
+use Rattle.history_store_row_order.specs.Logs.{cells_of}
+use Rattle.history_store_writes.specs.Logs.{kinds_of, types_of}
 use Rattle.history_store.specs.Restoring.{entries_of}
-use Rattle.table_meaning.specs.Restoring.{writes_of, AreInTurn, ids_known, AreEntriesOf}
+use Rattle.history_store_change_spec.specs.Restoring.{writes_of, AreInTurn, ids_known, AreEntriesOf}
 use Rattle.history_store.proofs.restoration.restored_columns.Given as goal
 
 abbrev pub invariant-loop-list : goal.invariant-loop-list

@@ -1,5 +1,5 @@
 use Rattle.std.proofs.Common.{List, ℕ, refl, sym, subst}
-use Rattle.gathered_rows.specs.Reading.{AreNames}
+use Rattle.join_exec.specs.Reading.{AreNames}
 use Rattle.join_exec.proofs.ReadRows.{made_columns, made_own, made_fit, made_rows}
 use Rattle.join_exec.proofs.atom.atom_of.Goals as goal
 

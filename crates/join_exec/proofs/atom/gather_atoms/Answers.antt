@@ -1,6 +1,6 @@
 use Rattle.std.proofs.Common.{◌+◌, ◌<◌, arith, sym, subst}
 use Rattle.std.specs.Prelude.{◌^◌}
-use Rattle.relations.specs.Sets.{Ascends}
+use Rattle.relations_spec.specs.Sets.{Ascends}
 use Rattle.prima_base.specs.Order.{bytes_cmp}
 use Rattle.cond_expr.specs.References.{borrowed}
 use Rattle.join_exec.proofs.AtomAnswers.{ascending}

@@ -1,6 +1,6 @@
 use Rattle.std.proofs.Common.{◌≡◌, take}
 use Rattle.std.specs.List.{filter}
-use Rattle.plain_answers.specs.Naming.{is_to, written_names}
+use Rattle.plain_answers_spec.specs.Naming.{is_to, written_names}
 use Rattle.cond_expr.specs.References.{borrowed}
 use Rattle.join_exec.proofs.name.names_to.Given as goal
 

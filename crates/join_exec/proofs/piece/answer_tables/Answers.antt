@@ -4,10 +4,10 @@ use Rattle.std.proofs.lemmas.Result.{IfOk-weaker}
 use Rattle.cond_expr.specs.declared.expr.ColRef.{ColRef}
 use Rattle.cond_expr.specs.References.{borrowed}
 use Rattle.cond_expr.specs.Seen.{tree, test}
-use Rattle.plain_answers.specs.Naming.{all_references}
+use Rattle.plain_answers_spec.specs.Naming.{all_references}
 use Rattle.join_exec.specs.Pieces.{atoms_read}
 use Rattle.join_exec.specs.Atoms.{AreRead, AreReadable}
-use Rattle.timed_choices.specs.BorrowedOutputs.{all_values}
+use Rattle.join_exec_spec.specs.BorrowedOutputs.{all_values}
 use Rattle.join_exec.proofs.AtomAnswers.{its_columns, have_atoms, are_numbered, atoms_borrow}
 use Rattle.join_exec.proofs.AtomAnswers.{atoms_answer}
 use Rattle.join_exec.proofs.AtomSteps.{if_known}

@@ -2,9 +2,9 @@ use Rattle.std.proofs.Common.{◌≤◌, ◌+◌, ℕ, List, map, ap, ◌∙◌,
 use Rattle.std.proofs.lemmas.Result.{IfOk-weaker, IfOk-equal}
 use Rattle.cond_expr.specs.Trees.{Tree}
 use Rattle.cond_expr.specs.Seen.{tree}
-use Rattle.timed_choices.specs.BorrowedOutputs.{all_values, AllStayBorrowed}
-use Rattle.smo_types.specs.Changes.{sets_of}
-use Rattle.piece_meaning.specs.Pieces.{out_trees}
+use Rattle.join_exec_spec.specs.BorrowedOutputs.{all_values, AllStayBorrowed}
+use Rattle.smo_ops_types.specs.Changes.{sets_of}
+use Rattle.piece_ir_spec.specs.Pieces.{out_trees}
 use Rattle.piece_ir.specs.Shown.{piece_of}
 use Rattle.join_exec.proofs.PieceAtoms.{readable, meaning_then, given_ready, given_meaning}
 use Rattle.join_exec.proofs.PieceAtoms.{given_reads}

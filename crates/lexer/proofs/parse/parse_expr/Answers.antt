@@ -1,21 +1,21 @@
 use Rattle.std.proofs.Common.{sym, ap, ◌∙◌, subst, map, length, List}
 use Rattle.cond_expr.specs.declared.expr.Expr.{Expr}
 use Rattle.cond_expr.specs.Seen.{tree}
-use Rattle.lexical_grammar.specs.declared.token.Token.{Token}
-use Rattle.lexical_grammar.specs.Lexemes.{lexeme}
-use Rattle.parser_combinators.specs.Reads.{ahead, Fails}
-use Rattle.expr_grammar.specs.Grammar.{IsExpr}
-use Rattle.expr_grammar.specs.Reader.{outermost, follow_expr}
-use Rattle.expr_grammar.proofs.Correctness.{outermost_correct}
-use Rattle.parser_combinators.proofs.Places.{length_map, got_fits, got_read, got_found, got_only}
-use Rattle.parser_combinators.proofs.Places.{got_exact, err_fits, err_found, err_only, err_exact}
-use Rattle.parser_combinators.proofs.Crossing.{got_crossing, err_crossing, err_fault, counts_read}
-use Rattle.parser_combinators.proofs.Crossing.{counts_sized}
-use Rattle.parser_combinators.specs.Found.{lexemes_from}
-use Rattle.expr_grammar.proofs.Longest.{expr_longest}
-use Rattle.expr_grammar.proofs.CountsJoined.{expr_counted}
-use Rattle.expr_grammar.proofs.CountSizes.{expr_length}
-use Rattle.expr_grammar.specs.TreeCounts.{expr_counts, expr_crossings}
+use Rattle.lexer_spec.specs.declared.token.Token.{Token}
+use Rattle.lexer_spec.specs.Lexemes.{lexeme}
+use Rattle.lexer_combinators.specs.Reads.{ahead, Fails}
+use Rattle.lexer_trees_spec.specs.Grammar.{IsExpr}
+use Rattle.lexer_trees_spec.specs.Reader.{outermost, follow_expr}
+use Rattle.lexer_trees_spec.proofs.Correctness.{outermost_correct}
+use Rattle.lexer_combinators.proofs.Places.{length_map, got_fits, got_read, got_found, got_only}
+use Rattle.lexer_combinators.proofs.Places.{got_exact, err_fits, err_found, err_only, err_exact}
+use Rattle.lexer_combinators.proofs.Crossing.{got_crossing, err_crossing, err_fault, counts_read}
+use Rattle.lexer_combinators.proofs.Crossing.{counts_sized}
+use Rattle.lexer_combinators.specs.Found.{lexemes_from}
+use Rattle.lexer_trees_spec.proofs.Longest.{expr_longest}
+use Rattle.lexer_trees_spec.proofs.CountsJoined.{expr_counted}
+use Rattle.lexer_trees_spec.proofs.CountSizes.{expr_length}
+use Rattle.lexer_trees_spec.specs.TreeCounts.{expr_counts, expr_crossings}
 use Rattle.lexer.proofs.parse.parse_expr.Goals as goal
 
 pub overflow_sub-result : goal.overflow_sub-result

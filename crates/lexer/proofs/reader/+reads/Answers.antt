@@ -4,11 +4,11 @@ use Rattle.std.proofs.lemmas.List.{map-append}
 use Rattle.std.proofs.lemmas.Result.{err_from_is_err_and}
 use Rattle.prima_base.specs.declared.refusal.What.TheVariants as what
 use Rattle.cond_expr.specs.Seen.{tree, test}
-use Rattle.lexical_grammar.specs.Lexemes.{Lexeme, is_word, is_sign}
-use Rattle.parser_combinators.specs.Reads.{Fails, ahead}
-use Rattle.parser_combinators.specs.Parsing.{nodes_more}
-use Rattle.expr_grammar.specs.Reader.{level, can, inside, conj}
-use Rattle.parser_combinators.proofs.ReadSteps.{more_next, more_err, more_full, more_done}
+use Rattle.lexer_spec.specs.Lexemes.{Lexeme, is_word, is_sign}
+use Rattle.lexer_combinators.specs.Reads.{Fails, ahead}
+use Rattle.lexer_combinators.specs.Parsing.{nodes_more}
+use Rattle.lexer_trees_spec.specs.Reader.{level, can, inside, conj}
+use Rattle.lexer_combinators.proofs.ReadSteps.{more_next, more_err, more_full, more_done}
 use Rattle.lexer.proofs.reader.+reads.Goals as goal
 
 pub more_exprs-loop-alloc-preserved : goal.more_exprs-loop-alloc-preserved

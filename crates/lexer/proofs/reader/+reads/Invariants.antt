@@ -2,10 +2,10 @@ use Rattle.std.proofs.Common.{◌≡◌, ◌+◌, ◌-◌, ◌≤◌, ◌++◌, 
 use Rattle.prima_base.specs.declared.refusal.What.TheVariants as what
 use Rattle.cond_expr.specs.Trees.{Tree, Test}
 use Rattle.cond_expr.specs.Seen.{tree, test}
-use Rattle.lexical_grammar.specs.Lexemes.{is_word, is_sign}
-use Rattle.parser_combinators.specs.Reads.{ahead}
-use Rattle.expr_grammar.specs.Reader as spec
-use Rattle.parser_combinators.specs.Parsing as parsing
+use Rattle.lexer_spec.specs.Lexemes.{is_word, is_sign}
+use Rattle.lexer_combinators.specs.Reads.{ahead}
+use Rattle.lexer_trees_spec.specs.Reader as spec
+use Rattle.lexer_combinators.specs.Parsing as parsing
 use Rattle.lexer.proofs.reader.+reads.Given as goal
 
 abbrev pub decreases-bracketed : goal.decreases-bracketed

@@ -1,6 +1,6 @@
 use Rattle.std.proofs.Common.{map, sym, ap, ◌∙◌, ◌++◌}
-use Rattle.relations.specs.Spans.{span, common}
-use Rattle.smo_types.specs.Commands.{version_of}
+use Rattle.relations_spec.specs.Spans.{span, common}
+use Rattle.smo_ops_types.specs.Commands.{version_of}
 use Rattle.period_split.specs.Splitting.{Part, as_part}
 use Rattle.std.specs.Prelude.{List}
 use Rattle.period_split.proofs.PartLaws.{begins_next, one_more}

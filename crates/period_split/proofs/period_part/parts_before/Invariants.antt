@@ -1,6 +1,6 @@
 use Rattle.std.proofs.Common.{◌≡◌, map}
-use Rattle.smo_types.specs.Commands.{version_of}
-use Rattle.smo_meaning.specs.InForce.{begins_at}
+use Rattle.smo_ops_types.specs.Commands.{version_of}
+use Rattle.smo_ops_spec.specs.InForce.{begins_at}
 use Rattle.period_split.specs.Splitting.{parts_below}
 use Rattle.period_split.proofs.period_part.parts_before.Given as goal
 

@@ -1,7 +1,7 @@
 use Rattle.std.proofs.Common.{◌≡◌, List, map, length, sym, ap, subst, ◌∙◌}
-use Rattle.smo_types.specs.Commands.{version_of}
-use Rattle.smo_types.specs.declared.version.Version.{Version}
-use Rattle.smo_meaning.specs.InForce.{begins_at}
+use Rattle.smo_ops_types.specs.Commands.{version_of}
+use Rattle.smo_ops_types.specs.declared.version.Version.{Version}
+use Rattle.smo_ops_spec.specs.InForce.{begins_at}
 use Rattle.version_groups.specs.Groups.{versions_in}
 use Rattle.period_split.specs.Splitting.{Part, parts_below, split_by, AscendFrom}
 use Rattle.period_split.proofs.PartLaws.{whole_split, each_moment, only_moments, split_ascends}

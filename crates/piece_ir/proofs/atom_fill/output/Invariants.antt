@@ -1,6 +1,6 @@
 use Rattle.std.proofs.Common.{◌≡◌, drop}
-use Rattle.smo_types.specs.Changes.{sets_of}
-use Rattle.piece_meaning.specs.Views.{out_of}
+use Rattle.smo_ops_types.specs.Changes.{sets_of}
+use Rattle.piece_ir_spec.specs.Views.{out_of}
 use Rattle.piece_ir.proofs.atom_fill.output.Given as goal
 
 abbrev pub invariant-loop-out : goal.invariant-loop-out

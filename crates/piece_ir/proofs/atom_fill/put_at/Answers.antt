@@ -1,9 +1,9 @@
 use Rattle.std.proofs.Common.{rules, ◌≡◌, ℕ, ◌<◌, length, List, arith, ◌∙◌, ap, get_or}
 use Rattle.cond_expr.specs.declared.expr.Expr.{Expr}
 use Rattle.cond_expr.specs.Trees.{fill}
-use Rattle.smo_types.specs.Changes.{sets_of}
-use Rattle.piece_meaning.specs.Views.{out_of}
-use Rattle.piece_meaning.specs.Unfolding.{moved_on}
+use Rattle.smo_ops_types.specs.Changes.{sets_of}
+use Rattle.piece_ir_spec.specs.Views.{out_of}
+use Rattle.piece_ir_spec.specs.Unfolding.{moved_on}
 use Rattle.piece_ir.specs.Shown.{borrowed_views}
 use Rattle.piece_ir.proofs.Placed.{places_many, borrowed_many, put_inside, put_outside}
 use Rattle.piece_ir.proofs.atom_fill.put_at.Goals as goal

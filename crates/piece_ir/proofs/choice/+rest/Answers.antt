@@ -1,11 +1,11 @@
 use Rattle.std.proofs.Common.{rules, ◌≡◌, ℕ, ◌+◌, List, map, ◌++◌, [], ◌∷◌, drop, ap, sym, ◌∙◌}
 use Rattle.std.specs.Borrow.{Bor}
 use Rattle.piece_ir.specs.declared.view.View.{View}
-use Rattle.relations.specs.Choices.{choices}
-use Rattle.piece_meaning.specs.Pieces.{PlainPiece}
-use Rattle.piece_meaning.specs.Views.{PlainView, views_of}
-use Rattle.piece_meaning.specs.Unfolding.{unfolded}
-use Rattle.piece_meaning.proofs.JoinedChoices.{map_both}
+use Rattle.relations_spec.specs.Choices.{choices}
+use Rattle.piece_ir_spec.specs.Pieces.{PlainPiece}
+use Rattle.piece_ir_spec.specs.Views.{PlainView, views_of}
+use Rattle.piece_ir_spec.specs.Unfolding.{unfolded}
+use Rattle.piece_ir_spec.proofs.JoinedChoices.{map_both}
 use Rattle.piece_ir.specs.Shown.{piece_of, shown_pieces, view_of, all_views_of, borrowed_views}
 use Rattle.piece_ir.proofs.ChosenViews.{from_views, append_nil, one_more, none_more, choices_from}
 use Rattle.piece_ir.proofs.ChosenViews.{choices_none}

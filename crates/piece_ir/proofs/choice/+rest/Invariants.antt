@@ -1,7 +1,7 @@
 use Rattle.std.proofs.Common.{◌≡◌, ◌+◌, ◌-◌, ◌*◌, length, map, ◌++◌, drop}
-use Rattle.relations.specs.Choices.{choices}
-use Rattle.piece_meaning.specs.Views.{views_of}
-use Rattle.piece_meaning.specs.Unfolding.{unfolded}
+use Rattle.relations_spec.specs.Choices.{choices}
+use Rattle.piece_ir_spec.specs.Views.{views_of}
+use Rattle.piece_ir_spec.specs.Unfolding.{unfolded}
 use Rattle.piece_ir.specs.Shown.{piece_of, shown_pieces, view_of, all_views_of, borrowed_views}
 use Rattle.piece_ir.proofs.ChosenViews.{Part, from_views}
 use Rattle.piece_ir.proofs.choice.+rest.Given as goal

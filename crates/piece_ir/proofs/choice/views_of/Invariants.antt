@@ -1,5 +1,5 @@
 use Rattle.std.proofs.Common.{◌≡◌, drop}
-use Rattle.piece_meaning.specs.Views.{views_of}
+use Rattle.piece_ir_spec.specs.Views.{views_of}
 use Rattle.piece_ir.specs.Shown.{all_views_of}
 use Rattle.piece_ir.proofs.choice.views_of.Given as goal
 

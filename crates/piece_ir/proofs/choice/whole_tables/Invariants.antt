@@ -1,5 +1,5 @@
 use Rattle.std.proofs.Common.{◌≡◌, take, map}
-use Rattle.piece_meaning.specs.Views.{whole}
+use Rattle.piece_ir_spec.specs.Views.{whole}
 use Rattle.piece_ir.specs.Shown.{view_of}
 use Rattle.piece_ir.proofs.choice.whole_tables.Given as goal
 

@@ -1,6 +1,6 @@
 use Rattle.std.proofs.Common.{◌≡◌, take}
-use Rattle.smo_types.specs.Changes.{sets_of}
-use Rattle.piece_meaning.specs.Unfolding.{filled_outs}
+use Rattle.smo_ops_types.specs.Changes.{sets_of}
+use Rattle.piece_ir_spec.specs.Unfolding.{filled_outs}
 use Rattle.piece_ir.proofs.output.fill_outputs.Given as goal
 
 abbrev pub invariant-loop-out : goal.invariant-loop-out

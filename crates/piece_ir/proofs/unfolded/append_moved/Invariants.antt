@@ -1,7 +1,7 @@
 use Rattle.std.proofs.Common.{◌≡◌, ◌++◌, drop, map}
 use Rattle.cond_expr.specs.Seen.{test}
 use Rattle.cond_expr.specs.Trees.{fill_test}
-use Rattle.piece_meaning.specs.Unfolding.{moved_on}
+use Rattle.piece_ir_spec.specs.Unfolding.{moved_on}
 use Rattle.piece_ir.proofs.unfolded.append_moved.Given as goal
 
 abbrev pub invariant-loop-part : goal.invariant-loop-part

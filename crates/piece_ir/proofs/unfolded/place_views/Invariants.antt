@@ -1,6 +1,6 @@
 use Rattle.std.proofs.Common.{◌≡◌, ◌++◌, drop, length, map}
 use Rattle.cond_expr.specs.Seen.{test}
-use Rattle.piece_meaning.specs.Unfolding.{atoms_of, parts_from}
+use Rattle.piece_ir_spec.specs.Unfolding.{atoms_of, parts_from}
 use Rattle.piece_ir.specs.Shown.{borrowed_views}
 use Rattle.piece_ir.specs.Placing.{places_from}
 use Rattle.piece_ir.proofs.unfolded.place_views.Given as goal

@@ -1,25 +1,25 @@
 use Rattle.std.proofs.Common.{◌≡◌, ◌≤◌, ◌++◌, List, map, length, sym, ap, subst, ◌∙◌}
 use Rattle.std.specs.Borrow.{Bor}
 use Rattle.std.proofs.lemmas.Result.{IfOk-weaker}
-use Rattle.relations.specs.Sets.{set_of}
+use Rattle.relations_spec.specs.Sets.{set_of}
 use Rattle.prima_base.specs.Order.{row_cmp}
 use Rattle.prima_base.specs.Timed.{rows_at}
 use Rattle.cond_expr.specs.declared.expr.ColRef.{ColRef}
 use Rattle.cond_expr.specs.declared.expr.Expr.{Expr}
 use Rattle.cond_expr.specs.References.{borrowed}
 use Rattle.cond_expr.specs.Seen.{tree, test}
-use Rattle.smo_meaning.specs.Past.{tables_of}
+use Rattle.smo_ops_spec.specs.Past.{tables_of}
 use Rattle.version_groups.specs.Groups.{versions_in}
-use Rattle.plain_answers.specs.Branches.{Item, PlainBranch, item_columns}
-use Rattle.plain_answers.specs.Choosing.{answers_over}
-use Rattle.plain_answers.specs.Naming.{all_references}
-use Rattle.plain_answers.specs.Pushing.{pushed_reads}
-use Rattle.plain_answers.specs.Reading.{read_columns}
-use Rattle.piece_meaning.specs.Books.{book_of}
-use Rattle.joining.specs.Atoms.{atom_rows}
+use Rattle.plain_answers_spec.specs.Branches.{Item, PlainBranch, item_columns}
+use Rattle.plain_answers_spec.specs.Choosing.{answers_over}
+use Rattle.plain_answers_spec.specs.Naming.{all_references}
+use Rattle.plain_answers_spec.specs.Pushing.{pushed_reads}
+use Rattle.plain_answers_spec.specs.Reading.{read_columns}
+use Rattle.piece_ir_spec.specs.Books.{book_of}
+use Rattle.join_exec_engine.specs.Atoms.{atom_rows}
 use Rattle.join_exec.proofs.AtomSteps.{if_known}
-use Rattle.query_types.specs.Branches.{branch_of}
-use Rattle.timed_choices.specs.BorrowedOutputs.{AllStayBorrowed}
+use Rattle.temporal_lang_types.specs.Branches.{branch_of}
+use Rattle.join_exec_spec.specs.BorrowedOutputs.{AllStayBorrowed}
 use Rattle.query_exec.specs.Accepted.{MayItems}
 use Rattle.query_exec.specs.Borrowed.{AllSpare}
 use Rattle.query_exec.specs.QueryPieces.{items_pieces, AreAlive, IsAlive}

@@ -3,13 +3,13 @@ use Rattle.std.proofs.Common.{inl, arith}
 use Rattle.std.proofs.lemmas.List.{take_all, drop_all}
 use Rattle.prima_base.specs.declared.timed_row.TimedRow.{TimedRow}
 use Rattle.prima_base.specs.Timed.{rows_at}
-use Rattle.smo_meaning.specs.Past.{tables_of}
-use Rattle.version_ways.specs.Migration.{migrated}
+use Rattle.smo_ops_spec.specs.Past.{tables_of}
+use Rattle.smo_ops_versions_spec.specs.Migration.{migrated}
 use Rattle.version_groups.specs.Groups.{versions_in}
-use Rattle.plain_answers.specs.Branches.{plain, branch_answers}
-use Rattle.piece_meaning.specs.Books.{book_of}
-use Rattle.query_types.specs.Branches.{branch_of, branches_of}
-use Rattle.query_types.specs.declared.branch.Branch.{Branch}
+use Rattle.plain_answers_spec.specs.Branches.{plain, branch_answers}
+use Rattle.piece_ir_spec.specs.Books.{book_of}
+use Rattle.temporal_lang_types.specs.Branches.{branch_of, branches_of}
+use Rattle.temporal_lang_types.specs.declared.branch.Branch.{Branch}
 use Rattle.query_exec.specs.QueryPieces.{branches_pieces, IsAlive}
 use Rattle.query_exec.specs.Borrowed.{AlwaysBorrowedBy, AllSpare}
 use Rattle.query_exec.specs.Reads.{reads_of}

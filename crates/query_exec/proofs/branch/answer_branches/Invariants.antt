@@ -1,14 +1,14 @@
 use Rattle.std.proofs.Common.{◌≡◌, ◌+◌, ◌≤◌, ℕ, List, true, take, drop}
-use Rattle.relations.specs.Spans.{covers}
+use Rattle.relations_spec.specs.Spans.{covers}
 use Rattle.prima_base.specs.Timed.{rows_at}
-use Rattle.smo_meaning.specs.Past.{Past, tables_of}
-use Rattle.version_ways.specs.Migration.{migrated}
+use Rattle.smo_ops_spec.specs.Past.{Past, tables_of}
+use Rattle.smo_ops_versions_spec.specs.Migration.{migrated}
 use Rattle.version_groups.specs.Groups.{versions_in}
 use Rattle.version_groups.specs.Representation.{Represents}
-use Rattle.plain_answers.specs.Branches.{plain}
-use Rattle.piece_meaning.specs.Books.{book_of}
-use Rattle.piece_texts.specs.ExplainedPieces.{PlainExplained}
-use Rattle.query_types.specs.Branches.{branches_of}
+use Rattle.plain_answers_spec.specs.Branches.{plain}
+use Rattle.piece_ir_spec.specs.Books.{book_of}
+use Rattle.piece_ir.specs.ExplainedPieces.{PlainExplained}
+use Rattle.temporal_lang_types.specs.Branches.{branches_of}
 use Rattle.query_exec.specs.Accepted.{MayBranches}
 use Rattle.query_exec.specs.QueryPieces.{branches_pieces, AreAlive, IsAlive}
 use Rattle.query_exec.specs.Borrowed.{BorrowedByBranch, AlwaysBorrowedBy, AllSpare}

@@ -7,13 +7,13 @@ use Rattle.cond_expr.specs.References.{borrowed}
 use Rattle.cond_expr.specs.Seen.{test}
 use Rattle.cond_expr.specs.Trees.{Test}
 use Rattle.version_groups.specs.Groups.{versions_in}
-use Rattle.plain_answers.specs.Branches.{Item}
-use Rattle.piece_meaning.specs.Books.{book_of}
-use Rattle.joining.specs.declared.atom.Atom.{Atom}
+use Rattle.plain_answers_spec.specs.Branches.{Item}
+use Rattle.piece_ir_spec.specs.Books.{book_of}
+use Rattle.join_exec_engine.specs.declared.atom.Atom.{Atom}
 use Rattle.query_exec.specs.Accepted.{IsRead, AreRead}
 use Rattle.query_exec.specs.Questions.{own_read}
 use Rattle.query_exec.specs.QueryPieces.{table_pieces, items_pieces, AreAlive, IsAlive}
-use Rattle.joining.specs.Atoms.{AtomsBorrow}
+use Rattle.join_exec_engine.specs.Atoms.{AtomsBorrow}
 use Rattle.query_exec.specs.Borrowed.{AllSpare}
 use Rattle.query_exec.specs.Reads.{reads_of}
 use Rattle.query_exec.specs.Routes.{MayBeRead}

@@ -1,14 +1,14 @@
 use Rattle.std.proofs.Common.{◌≡◌, ◌+◌, ◌≤◌, ℕ, List, take, drop}
 use Rattle.cond_expr.specs.References.{borrowed}
 use Rattle.cond_expr.specs.Seen.{test}
-use Rattle.smo_meaning.specs.Past.{Past}
+use Rattle.smo_ops_spec.specs.Past.{Past}
 use Rattle.version_groups.specs.Groups.{versions_in}
 use Rattle.version_groups.specs.Representation.{Represents}
-use Rattle.piece_meaning.specs.Books.{book_of}
-use Rattle.piece_texts.specs.ExplainedPieces.{PlainExplained}
+use Rattle.piece_ir_spec.specs.Books.{book_of}
+use Rattle.piece_ir.specs.ExplainedPieces.{PlainExplained}
 use Rattle.query_exec.specs.Accepted.{MayItems, AreRead}
 use Rattle.query_exec.specs.QueryPieces.{items_pieces, AreAlive, IsAlive}
-use Rattle.joining.specs.Atoms.{AtomsBorrow}
+use Rattle.join_exec_engine.specs.Atoms.{AtomsBorrow}
 use Rattle.query_exec.specs.Borrowed.{BorrowedByBranch, AllSpare}
 use Rattle.query_exec.specs.Reads.{reads_of}
 use Rattle.query_exec.proofs.AliveLaws.{Owes, IsLeftOrRead}

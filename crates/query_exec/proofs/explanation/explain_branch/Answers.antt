@@ -5,11 +5,11 @@ use Rattle.cond_expr.specs.declared.expr.Expr.{Expr}
 use Rattle.cond_expr.specs.References.{borrowed}
 use Rattle.cond_expr.specs.Seen.{tree, test}
 use Rattle.version_groups.specs.Groups.{versions_in}
-use Rattle.plain_answers.specs.Branches.{Item, PlainBranch}
-use Rattle.plain_answers.specs.Naming.{all_references}
-use Rattle.piece_meaning.specs.Books.{book_of}
-use Rattle.piece_texts.specs.ExplainedPieces.{all_explained}
-use Rattle.query_types.specs.Branches.{branch_of}
+use Rattle.plain_answers_spec.specs.Branches.{Item, PlainBranch}
+use Rattle.plain_answers_spec.specs.Naming.{all_references}
+use Rattle.piece_ir_spec.specs.Books.{book_of}
+use Rattle.piece_ir.specs.ExplainedPieces.{all_explained}
+use Rattle.temporal_lang_types.specs.Branches.{branch_of}
 use Rattle.query_exec.specs.Accepted.{MayItems}
 use Rattle.query_exec.specs.QueryPieces.{items_pieces, AreLeft}
 use Rattle.query_exec.proofs.explanation.explain_branch.Goals as goal

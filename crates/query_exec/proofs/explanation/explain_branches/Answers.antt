@@ -2,11 +2,11 @@ use Rattle.std.proofs.Common.{◌≡◌, ◌<◌, ◌+◌, ◌++◌, ℕ, List, 
 use Rattle.std.proofs.Common.{subst, ◌∙◌}
 use Rattle.std.proofs.lemmas.List.{take_all}
 use Rattle.version_groups.specs.Groups.{versions_in}
-use Rattle.piece_meaning.specs.Books.{book_of}
-use Rattle.piece_texts.specs.ExplainedPieces.{PlainExplained, all_explained}
-use Rattle.piece_texts.specs.declared.explained.Explained.{Explained}
-use Rattle.query_types.specs.Branches.{branch_of, branches_of}
-use Rattle.query_types.specs.declared.branch.Branch.{Branch}
+use Rattle.piece_ir_spec.specs.Books.{book_of}
+use Rattle.piece_ir.specs.ExplainedPieces.{PlainExplained, all_explained}
+use Rattle.piece_ir.specs.declared.explained.Explained.{Explained}
+use Rattle.temporal_lang_types.specs.Branches.{branch_of, branches_of}
+use Rattle.temporal_lang_types.specs.declared.branch.Branch.{Branch}
 use Rattle.query_exec.specs.QueryPieces.{branch_pieces, branches_pieces, AreLeft}
 use Rattle.query_exec.proofs.AliveLaws.{none_over}
 use Rattle.query_exec.proofs.BranchRows.{branches_more, may_next_branch}

@@ -1,8 +1,8 @@
 use Rattle.std.proofs.Common.{◌≡◌, take, drop}
 use Rattle.version_groups.specs.Groups.{versions_in}
-use Rattle.piece_meaning.specs.Books.{book_of}
-use Rattle.piece_texts.specs.ExplainedPieces.{all_explained}
-use Rattle.query_types.specs.Branches.{branches_of}
+use Rattle.piece_ir_spec.specs.Books.{book_of}
+use Rattle.piece_ir.specs.ExplainedPieces.{all_explained}
+use Rattle.temporal_lang_types.specs.Branches.{branches_of}
 use Rattle.query_exec.specs.Accepted.{MayBranches}
 use Rattle.query_exec.specs.QueryPieces.{branches_pieces, AreLeft}
 use Rattle.query_exec.proofs.explanation.explain_branches.Given as goal

@@ -6,9 +6,9 @@ use Rattle.cond_expr.specs.References.{borrowed}
 use Rattle.cond_expr.specs.Seen.{test}
 use Rattle.cond_expr.specs.Trees.{Test}
 use Rattle.version_groups.specs.Groups.{versions_in}
-use Rattle.plain_answers.specs.Branches.{Item}
-use Rattle.piece_meaning.specs.Books.{book_of}
-use Rattle.piece_texts.specs.ExplainedPieces.{PlainExplained, all_explained}
+use Rattle.plain_answers_spec.specs.Branches.{Item}
+use Rattle.piece_ir_spec.specs.Books.{book_of}
+use Rattle.piece_ir.specs.ExplainedPieces.{PlainExplained, all_explained}
 use Rattle.query_exec.specs.Questions.{own_read}
 use Rattle.query_exec.specs.QueryPieces.{table_pieces, items_pieces, AreLeft}
 use Rattle.query_exec.specs.Routes.{MayBeRead}

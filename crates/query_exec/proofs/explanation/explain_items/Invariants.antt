@@ -2,8 +2,8 @@ use Rattle.std.proofs.Common.{◌≡◌, ◌++◌, List, take, drop}
 use Rattle.cond_expr.specs.References.{borrowed}
 use Rattle.cond_expr.specs.Seen.{test}
 use Rattle.version_groups.specs.Groups.{versions_in}
-use Rattle.piece_meaning.specs.Books.{book_of}
-use Rattle.piece_texts.specs.ExplainedPieces.{PlainExplained, all_explained}
+use Rattle.piece_ir_spec.specs.Books.{book_of}
+use Rattle.piece_ir.specs.ExplainedPieces.{PlainExplained, all_explained}
 use Rattle.query_exec.specs.Accepted.{MayItems}
 use Rattle.query_exec.specs.QueryPieces.{items_pieces, AreLeft}
 use Rattle.query_exec.proofs.explanation.explain_items.Given as goal

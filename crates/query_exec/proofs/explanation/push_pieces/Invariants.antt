@@ -1,6 +1,6 @@
 use Rattle.std.proofs.Common.{◌≡◌, ◌++◌, map, drop}
 use Rattle.piece_ir.specs.Shown.{shown_pieces}
-use Rattle.piece_texts.specs.ExplainedPieces.{all_explained}
+use Rattle.piece_ir.specs.ExplainedPieces.{all_explained}
 use Rattle.query_exec.specs.QueryPieces.{explained_in}
 use Rattle.query_exec.proofs.explanation.push_pieces.Given as goal
 

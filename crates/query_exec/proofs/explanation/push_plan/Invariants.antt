@@ -1,5 +1,5 @@
 use Rattle.std.proofs.Common.{◌≡◌, ◌++◌, drop}
-use Rattle.piece_texts.specs.ExplainedPieces.{all_explained}
+use Rattle.piece_ir.specs.ExplainedPieces.{all_explained}
 use Rattle.query_exec.specs.Planned.{planned_pieces}
 use Rattle.query_exec.proofs.explanation.push_plan.Given as goal
 

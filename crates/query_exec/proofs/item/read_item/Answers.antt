@@ -1,18 +1,18 @@
 use Rattle.std.proofs.Common.{◌≡◌, ◌+◌, List, refl, sym, subst}
 use Rattle.cond_expr.specs.References.{borrowed}
 use Rattle.cond_expr.specs.Seen.{test}
-use Rattle.smo_meaning.specs.Effects.{columns_of}
-use Rattle.smo_meaning.specs.Making.{named}
-use Rattle.smo_meaning.specs.Past.{tables_of}
-use Rattle.timed_choices.specs.BorrowedOutputs.{RowsBorrow}
+use Rattle.smo_ops_spec.specs.Effects.{columns_of}
+use Rattle.smo_ops_spec.specs.Making.{named}
+use Rattle.smo_ops_spec.specs.Past.{tables_of}
+use Rattle.join_exec_spec.specs.BorrowedOutputs.{RowsBorrow}
 use Rattle.version_groups.specs.Groups.{versions_in}
-use Rattle.plain_answers.specs.Reading.{Read}
-use Rattle.piece_meaning.specs.Books.{book_of}
+use Rattle.plain_answers_spec.specs.Reading.{Read}
+use Rattle.piece_ir_spec.specs.Books.{book_of}
 use Rattle.query_exec.specs.Asked.{read_asked}
 use Rattle.prima_base.specs.Columns.{Column}
 use Rattle.cond_expr.specs.declared.expr.Column.{Column as AtomColumn}
 use Rattle.cond_expr.specs.AtomColumns.{columns_at}
-use Rattle.piece_texts.specs.ExplainedPieces.{PlainExplained}
+use Rattle.piece_ir.specs.ExplainedPieces.{PlainExplained}
 use Rattle.query_exec.specs.Borrowed.{IsPlainIn}
 use Rattle.query_exec.specs.Questions.{own_read}
 use Rattle.query_exec.specs.QueryPieces.{table_pieces, AreAlive, IsAlive}

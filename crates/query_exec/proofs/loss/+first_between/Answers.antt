@@ -1,8 +1,8 @@
 use Rattle.std.proofs.Common.{◌≡◌, ◌≤◌, ◌<◌, ◌+◌, ◌-◌, ◌/◌, ℕ, length, take, vec_len, ap, sym, ◌∙◌}
 use Rattle.std.proofs.Common.{arith}
 use Rattle.std.specs.Option.{option_or}
-use Rattle.smo_types.specs.Commands.{versions_of}
-use Rattle.query_types.specs.Queries.{query_of}
+use Rattle.smo_ops_types.specs.Commands.{versions_of}
+use Rattle.temporal_lang_types.specs.Queries.{query_of}
 use Rattle.query_exec.specs.Losing.{first_among}
 use Rattle.query_exec.proofs.FirstLosses.{up_to_at, none_up_to, some_up_to}
 use Rattle.query_exec.proofs.loss.+first_between.Goals as goal

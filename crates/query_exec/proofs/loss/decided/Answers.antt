@@ -1,8 +1,8 @@
 use Rattle.std.proofs.Common.{◌≡◌, ◌-◌, ◌+◌, ◌<◌, length, take, vec_len, None, refl, sym, ap, ◌∙◌}
 use Rattle.std.proofs.Common.{arith}
 use Rattle.std.specs.Option.{option_or}
-use Rattle.smo_types.specs.Commands.{versions_of}
-use Rattle.query_types.specs.Queries.{query_of}
+use Rattle.smo_ops_types.specs.Commands.{versions_of}
+use Rattle.temporal_lang_types.specs.Queries.{query_of}
 use Rattle.query_exec.specs.Losing.{first_among}
 use Rattle.query_exec.proofs.FirstLosses.{up_to_at, greatest, none_among, some_up_to, all_parts}
 use Rattle.query_exec.proofs.loss.decided.Goals as goal

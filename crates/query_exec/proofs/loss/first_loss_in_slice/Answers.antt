@@ -1,10 +1,10 @@
 use Rattle.std.proofs.Common.{◌≡◌, ◌≤◌, true, List, map, length, vec_len, sym, ap, subst, ◌∙◌}
 use Rattle.std.proofs.Common.{arith}
 use Rattle.std.proofs.lemmas.Result.{IfOk-weaker}
-use Rattle.relations.specs.Spans.{Span, covers, forever}
-use Rattle.smo_types.specs.Commands.{PlainVersion, version_of}
-use Rattle.smo_types.specs.declared.version.Version.{Version}
-use Rattle.query_types.specs.Queries.{query_of}
+use Rattle.relations_spec.specs.Spans.{Span, covers, forever}
+use Rattle.smo_ops_types.specs.Commands.{PlainVersion, version_of}
+use Rattle.smo_ops_types.specs.declared.version.Version.{Version}
+use Rattle.temporal_lang_types.specs.Queries.{query_of}
 use Rattle.period_split.specs.Splitting.{Part}
 use Rattle.query_exec.specs.Losing.{first_among, AllUpTo}
 use Rattle.query_exec.proofs.FirstLosses.{all_there, first_of_parts}

@@ -1,7 +1,7 @@
 use Rattle.std.proofs.Common.{◌≡◌, ◌<◌, List, [], length, take, ap, sym, subst}
 use Rattle.std.proofs.lemmas.List.{take_all}
 use Rattle.std.specs.List.{filter}
-use Rattle.piece_meaning.specs.Pieces.{PlainPiece}
+use Rattle.piece_ir_spec.specs.Pieces.{PlainPiece}
 use Rattle.piece_ir.specs.Shown.{shown_pieces}
 use Rattle.piece_ir.specs.declared.piece.Piece.{Piece}
 use Rattle.piece_prune.specs.DeadPieces.{AreLiving, none_left, lives}

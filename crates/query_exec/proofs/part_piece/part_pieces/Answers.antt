@@ -1,6 +1,6 @@
 use Rattle.std.proofs.Common.{sym, subst}
 use Rattle.schema_catalog.specs.Tables.{Tables}
-use Rattle.piece_meaning.specs.Typed.{AllTyped}
+use Rattle.piece_ir_spec.specs.Typed.{AllTyped}
 use Rattle.piece_ir.specs.Shown.{shown_pieces}
 use Rattle.query_exec.proofs.part_piece.part_pieces.Goals as goal
 

@@ -1,10 +1,10 @@
 use Rattle.std.proofs.Common.{◌<◌, sym, get_or, subst, arith}
 use Rattle.std.proofs.lemmas.List.{take_all}
-use Rattle.relations.specs.Sets.{In}
-use Rattle.relations.specs.Spans.{Span}
+use Rattle.relations_spec.specs.Sets.{In}
+use Rattle.relations_spec.specs.Spans.{Span}
 use Rattle.prima_base.specs.declared.timed_row.TimedRow.{TimedRow}
-use Rattle.timed_rows.proofs.Moves.{no_row}
-use Rattle.timed_rows.proofs.ReadRows.{stands_there}
+use Rattle.prima_base_rows.proofs.Moves.{no_row}
+use Rattle.prima_base_rows.proofs.ReadRows.{stands_there}
 use Rattle.query_exec.proofs.ListSteps.{next_said}
 use Rattle.query_exec.proofs.piece.have_moments.Goals as goal
 

@@ -1,4 +1,4 @@
-use Rattle.timed_choices.specs.BorrowedOutputs.{RowBorrows}
+use Rattle.join_exec_spec.specs.BorrowedOutputs.{RowBorrows}
 use Rattle.query_exec.proofs.BorrowedRows.{each_joined}
 use Rattle.query_exec.proofs.PieceRows.{part_gathered}
 use Rattle.query_exec.proofs.piece.read_run.Goals as goal

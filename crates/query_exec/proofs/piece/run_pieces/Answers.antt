@@ -1,15 +1,15 @@
 use Rattle.std.proofs.Common.{◌<◌, List, length, sym, ap, subst, ◌∙◌, arith}
 use Rattle.std.proofs.lemmas.List.{take_all}
-use Rattle.relations.proofs.SetLaws.{in_map}
+use Rattle.relations_spec.proofs.SetLaws.{in_map}
 use Rattle.join_exec.specs.Pieces.{stored_meaning}
 use Rattle.prima_base.specs.declared.timed_row.TimedRow.{TimedRow}
 use Rattle.prima_base.specs.Timed.{rows_at}
-use Rattle.timed_choices.specs.BorrowedOutputs.{RowBorrows, RowsBorrow}
-use Rattle.piece_meaning.specs.Pieces.{all_mean, out_trees}
+use Rattle.join_exec_spec.specs.BorrowedOutputs.{RowBorrows, RowsBorrow}
+use Rattle.piece_ir_spec.specs.Pieces.{all_mean, out_trees}
 use Rattle.piece_ir.specs.Shown.{piece_of, shown_pieces}
 use Rattle.piece_ir.specs.declared.piece.Piece.{Piece}
-use Rattle.query_pieces.proofs.RunPieces.{none_run}
-use Rattle.smo_meaning.specs.Past.{tables_of, database_at}
+use Rattle.query_pieces_spec.proofs.RunPieces.{none_run}
+use Rattle.smo_ops_spec.specs.Past.{tables_of, database_at}
 use Rattle.rewrite.proofs.CodeSteps.{typed_at}
 use Rattle.query_exec.proofs.BorrowedRows.{piece_borrows, each_joined}
 use Rattle.query_exec.proofs.PieceRows.{next_run, none_after, nothing_at, reads_left}

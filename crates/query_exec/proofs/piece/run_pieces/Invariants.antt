@@ -1,13 +1,13 @@
 use Rattle.std.proofs.Common.{◌≡◌, ◌+◌, ◌≤◌, ℕ, true, false, List, [], take, drop}
-use Rattle.relations.specs.Spans.{covers}
+use Rattle.relations_spec.specs.Spans.{covers}
 use Rattle.prima_base.specs.Timed.{rows_at}
-use Rattle.smo_meaning.specs.OneRow.{Relation}
-use Rattle.smo_meaning.specs.Past.{Past, tables_of, database_at}
+use Rattle.smo_ops_spec.specs.OneRow.{Relation}
+use Rattle.smo_ops_spec.specs.Past.{Past, tables_of, database_at}
 use Rattle.version_groups.specs.Representation.{Represents}
-use Rattle.piece_meaning.specs.Pieces.{all_mean}
+use Rattle.piece_ir_spec.specs.Pieces.{all_mean}
 use Rattle.piece_ir.specs.Shown.{shown_pieces}
 use Rattle.cond_expr.specs.declared.expr.Column.{Column}
-use Rattle.timed_choices.specs.BorrowedOutputs.{BorrowedValues, RowsBorrow}
+use Rattle.join_exec_spec.specs.BorrowedOutputs.{BorrowedValues, RowsBorrow}
 use Rattle.query_exec.specs.Borrowed.{AllPlainIn}
 use Rattle.query_exec.specs.Reads.{pieces_read}
 use Rattle.query_exec.specs.Runs.{IsMeant}

@@ -1,17 +1,17 @@
 use Rattle.std.proofs.Common.{◌≤◌, ℕ, List, sym, ap, subst, ◌∙◌}
-use Rattle.relations.specs.Spans.{Span, forever}
-use Rattle.relations.specs.Listing.{IsListing}
+use Rattle.relations_spec.specs.Spans.{Span, forever}
+use Rattle.relations_spec.specs.Listing.{IsListing}
 use Rattle.prima_base.specs.Order.{row_cmp}
 use Rattle.prima_base.specs.Timed.{entries_of, rows_at}
-use Rattle.smo_meaning.specs.Past.{no_tables, tables_from, tables_of}
-use Rattle.version_ways.specs.Migration.{migrated}
+use Rattle.smo_ops_spec.specs.Past.{no_tables, tables_from, tables_of}
+use Rattle.smo_ops_versions_spec.specs.Migration.{migrated}
 use Rattle.version_groups.specs.Groups.{versions_in}
-use Rattle.plain_answers.specs.Branches.{plain}
-use Rattle.piece_meaning.specs.Books.{book_of}
-use Rattle.piece_texts.specs.ExplainedPieces.{PlainExplained}
-use Rattle.query_types.specs.Branches.{branches_of}
-use Rattle.query_types.specs.declared.branch.Branch.{Branch}
-use Rattle.query_types.specs.Queries.{query_of}
+use Rattle.plain_answers_spec.specs.Branches.{plain}
+use Rattle.piece_ir_spec.specs.Books.{book_of}
+use Rattle.piece_ir.specs.ExplainedPieces.{PlainExplained}
+use Rattle.temporal_lang_types.specs.Branches.{branches_of}
+use Rattle.temporal_lang_types.specs.declared.branch.Branch.{Branch}
+use Rattle.temporal_lang_types.specs.Queries.{query_of}
 use Rattle.query_exec.specs.Accepted.{MayBranches}
 use Rattle.query_exec.specs.Borrowed.{AlwaysBorrowedBy, AllSpare}
 use Rattle.query_exec.specs.QueryPieces.{branches_pieces, AreAlive}

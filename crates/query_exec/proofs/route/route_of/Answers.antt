@@ -1,7 +1,7 @@
 use Rattle.std.proofs.Common.{◌≤◌, List, length, refl, ap, ◌∙◌, arith}
 use Rattle.std.proofs.lemmas.List.{length-map}
-use Rattle.smo_types.specs.Commands.{version_of}
-use Rattle.smo_meaning.specs.Past.{version_at}
+use Rattle.smo_ops_types.specs.Commands.{version_of}
+use Rattle.smo_ops_spec.specs.Past.{version_at}
 use Rattle.version_groups.specs.Groups.{versions_in}
 use Rattle.period_split.specs.Splitting.{Part}
 use Rattle.query_exec.specs.Routes.{back_from, on_from}

@@ -1,22 +1,22 @@
 use Rattle.std.proofs.Common.{◌≡◌, ◌+◌, ◌-◌, ◌<◌, ◌≤◌, ℕ, List, [], length, get_or, take, drop, sym}
 use Rattle.std.proofs.Common.{ap, subst, arith}
 use Rattle.std.proofs.lemmas.List.{take_all, length-drop}
-use Rattle.relations.specs.Sets.{In}
-use Rattle.relations.specs.Spans.{Span}
+use Rattle.relations_spec.specs.Sets.{In}
+use Rattle.relations_spec.specs.Spans.{Span}
 use Rattle.prima_base.specs.declared.timed_row.TimedRow.{TimedRow}
 use Rattle.prima_base.specs.Timed.{entries_of}
-use Rattle.smo_types.specs.Commands.{PlainVersion}
-use Rattle.smo_meaning.specs.Past.{Past, no_tables, tables_from, tables_of}
+use Rattle.smo_ops_types.specs.Commands.{PlainVersion}
+use Rattle.smo_ops_spec.specs.Past.{Past, no_tables, tables_from, tables_of}
 use Rattle.version_groups.specs.Groups.{versions_in}
 use Rattle.version_groups.specs.Representation.{Represents}
-use Rattle.piece_meaning.specs.Typed.{AllTyped}
+use Rattle.piece_ir_spec.specs.Typed.{AllTyped}
 use Rattle.piece_ir.specs.Shown.{shown_pieces}
 use Rattle.piece_ir.specs.declared.piece.Piece.{Piece}
-use Rattle.query_pieces.specs.Gathering.{IsGathered}
-use Rattle.query_pieces.proofs.Gatherings.{nothing_gathered}
+use Rattle.query_pieces_spec.specs.Gathering.{IsGathered}
+use Rattle.query_pieces_spec.proofs.Gatherings.{nothing_gathered}
 use Rattle.join_exec.proofs.PieceAtoms.{same_versions}
 use Rattle.query_exec.specs.declared.part_piece.PartPieces.{PartPieces}
-use Rattle.timed_choices.specs.BorrowedOutputs.{RowsBorrow}
+use Rattle.join_exec_spec.specs.BorrowedOutputs.{RowsBorrow}
 use Rattle.query_exec.specs.Borrowed.{AllPlainIn}
 use Rattle.query_exec.specs.Planned.{planned_spans}
 use Rattle.query_exec.specs.Reads.{pieces_read, part_read}

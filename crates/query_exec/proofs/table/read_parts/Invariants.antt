@@ -1,16 +1,16 @@
 use Rattle.std.proofs.Common.{◌≡◌, ◌+◌, ◌≤◌, ◌-◌, ℕ, true, List, length, take}
-use Rattle.relations.specs.Sets.{In}
-use Rattle.relations.specs.Spans.{covers}
+use Rattle.relations_spec.specs.Sets.{In}
+use Rattle.relations_spec.specs.Spans.{covers}
 use Rattle.prima_base.specs.Timed.{entries_of}
-use Rattle.smo_meaning.specs.OneRow.{Relation}
-use Rattle.smo_meaning.specs.Past.{Past, tables_of, database_at}
+use Rattle.smo_ops_spec.specs.OneRow.{Relation}
+use Rattle.smo_ops_spec.specs.Past.{Past, tables_of, database_at}
 use Rattle.version_groups.specs.Representation.{Represents}
-use Rattle.piece_meaning.specs.Pieces.{all_mean}
+use Rattle.piece_ir_spec.specs.Pieces.{all_mean}
 use Rattle.piece_ir.specs.Shown.{shown_pieces}
-use Rattle.query_pieces.specs.Gathering.{IsGathered}
+use Rattle.query_pieces_spec.specs.Gathering.{IsGathered}
 use Rattle.query_exec.specs.declared.part_piece.PartPieces.{PartPieces}
 use Rattle.cond_expr.specs.declared.expr.Column.{Column}
-use Rattle.timed_choices.specs.BorrowedOutputs.{BorrowedValues, RowsBorrow}
+use Rattle.join_exec_spec.specs.BorrowedOutputs.{BorrowedValues, RowsBorrow}
 use Rattle.query_exec.specs.Borrowed.{AllPlainIn}
 use Rattle.query_exec.specs.Planned.{planned_spans}
 use Rattle.query_exec.specs.Reads.{part_read}

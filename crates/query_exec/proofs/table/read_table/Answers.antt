@@ -1,18 +1,18 @@
 use Rattle.std.proofs.Common.{◌≡◌, ◌+◌, ◌≤◌, ℕ, true, List, ap, sym, subst, ◌∙◌}
-use Rattle.relations.specs.Sets.{In}
-use Rattle.relations.specs.Spans.{Span, covers}
+use Rattle.relations_spec.specs.Sets.{In}
+use Rattle.relations_spec.specs.Spans.{Span, covers}
 use Rattle.prima_base.specs.Timed.{entries_of}
-use Rattle.smo_meaning.specs.Past.{tables_of, database_at}
+use Rattle.smo_ops_spec.specs.Past.{tables_of, database_at}
 use Rattle.version_groups.specs.Groups.{versions_in}
-use Rattle.piece_meaning.specs.Books.{book_of}
-use Rattle.piece_meaning.specs.Pieces.{all_mean}
-use Rattle.piece_meaning.specs.Typed.{AllTyped}
+use Rattle.piece_ir_spec.specs.Books.{book_of}
+use Rattle.piece_ir_spec.specs.Pieces.{all_mean}
+use Rattle.piece_ir_spec.specs.Typed.{AllTyped}
 use Rattle.piece_ir.specs.Shown.{shown_pieces}
-use Rattle.query_pieces.specs.Gathering.{IsGathered}
+use Rattle.query_pieces_spec.specs.Gathering.{IsGathered}
 use Rattle.query_exec.specs.Asked.{read_asked}
 use Rattle.query_exec.specs.declared.part_piece.PartPieces.{PartPieces}
-use Rattle.timed_choices.specs.BorrowedOutputs.{RowBorrows}
-use Rattle.join_levels.proofs.CoalescedRows.{each_by_values}
+use Rattle.join_exec_spec.specs.BorrowedOutputs.{RowBorrows}
+use Rattle.join_exec_levels.proofs.CoalescedRows.{each_by_values}
 use Rattle.query_exec.specs.Borrowed.{AllPlainIn}
 use Rattle.query_exec.specs.Planned.{planned_spans}
 use Rattle.query_exec.specs.Questions.{table_read}

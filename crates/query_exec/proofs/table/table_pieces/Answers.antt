@@ -1,6 +1,6 @@
 use Rattle.std.proofs.Common.{◌++◌, List, reverse, sym, subst}
 use Rattle.version_groups.specs.Groups.{versions_in}
-use Rattle.piece_meaning.specs.Books.{book_of}
+use Rattle.piece_ir_spec.specs.Books.{book_of}
 use Rattle.period_split.specs.Splitting.{Part}
 use Rattle.query_exec.specs.Asked.{read_asked}
 use Rattle.query_exec.specs.Planned.{ArePlanned}

@@ -1,17 +1,17 @@
 use Rattle.std.proofs.Common.{◌≡◌, ◌+◌, ◌<◌, ℕ, List, [], ◌∷◌, map, length, get_or, take, drop, sym}
 use Rattle.std.proofs.Common.{ap, subst, ◌∙◌, arith}
 use Rattle.std.proofs.lemmas.List.{length-map, take_all}
-use Rattle.smo_types.specs.Commands.{version_of, versions_of}
-use Rattle.smo_types.specs.declared.version.Version.{Version}
-use Rattle.smo_meaning.specs.Past.{no_tables, tables_from}
+use Rattle.smo_ops_types.specs.Commands.{version_of, versions_of}
+use Rattle.smo_ops_types.specs.declared.version.Version.{Version}
+use Rattle.smo_ops_spec.specs.Past.{no_tables, tables_from}
 use Rattle.version_groups.specs.Groups.{versions_in}
-use Rattle.piece_meaning.specs.Books.{book_of}
-use Rattle.piece_meaning.specs.Typed.{AllTyped}
+use Rattle.piece_ir_spec.specs.Books.{book_of}
+use Rattle.piece_ir_spec.specs.Typed.{AllTyped}
 use Rattle.piece_ir.specs.Shown.{shown_pieces}
 use Rattle.piece_ir.specs.declared.piece.Piece.{Piece}
-use Rattle.rewrite_chains.specs.Beginnings.{asking, first_piece}
-use Rattle.rewrite_chains.specs.UnfoldedPieces.{StandFor}
-use Rattle.rewrite_chains.proofs.UnfoldedPieceLaws.{stand_first}
+use Rattle.piece_ir_spec.specs.Beginnings.{asking, first_piece}
+use Rattle.piece_ir_spec.specs.UnfoldedPieces.{StandFor}
+use Rattle.piece_ir_spec.proofs.UnfoldedPieceLaws.{stand_first}
 use Rattle.period_split.specs.Splitting.{Part}
 use Rattle.query_exec.specs.Routes.{LeadAway}
 use Rattle.query_exec.specs.Asked.{read_asked}

@@ -1,9 +1,9 @@
 use Rattle.std.proofs.Common.{◌≤◌, length, take, drop}
-use Rattle.smo_types.specs.Commands.{versions_of}
+use Rattle.smo_ops_types.specs.Commands.{versions_of}
 use Rattle.version_groups.specs.Groups.{versions_in}
-use Rattle.piece_meaning.specs.Books.{book_of}
+use Rattle.piece_ir_spec.specs.Books.{book_of}
 use Rattle.piece_ir.specs.Shown.{shown_pieces}
-use Rattle.rewrite_chains.specs.UnfoldedPieces.{StandFor}
+use Rattle.piece_ir_spec.specs.UnfoldedPieces.{StandFor}
 use Rattle.query_exec.specs.Routes.{LeadAway}
 use Rattle.query_exec.specs.Asked.{read_asked}
 use Rattle.query_exec.specs.Planned.{ArePlanned}

@@ -1,11 +1,11 @@
 use Rattle.std.proofs.Common.{◌≡◌, ◌∙◌, ◌+◌, ◌-◌, ◌<◌, length, ap, sym, arith}
 use Rattle.std.specs.FinMap.{empty}
-use Rattle.smo_types.specs.Operators.{operator_of, operators_of}
-use Rattle.smo_types.specs.Commands.{versions_of}
-use Rattle.smo_meaning.specs.Past.{no_tables, tables_from}
-use Rattle.version_ways.specs.Ways.{back_over, to_next, from_next}
-use Rattle.version_ways.specs.LostNames.{of_losses, lost_names}
-use Rattle.version_ways.proofs.WaySteps.{one_back}
+use Rattle.smo_ops_types.specs.Operators.{operator_of, operators_of}
+use Rattle.smo_ops_types.specs.Commands.{versions_of}
+use Rattle.smo_ops_spec.specs.Past.{no_tables, tables_from}
+use Rattle.smo_ops_versions_spec.specs.Ways.{back_over, to_next, from_next}
+use Rattle.smo_ops_versions_spec.specs.LostNames.{of_losses, lost_names}
+use Rattle.smo_ops_versions_spec.proofs.WaySteps.{one_back}
 use Rattle.rewrite.proofs.LossMaps.{back_step}
 use Rattle.rewrite.proofs.lost_piece.lost_names.Goals as goal
 

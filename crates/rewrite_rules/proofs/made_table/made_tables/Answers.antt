@@ -1,8 +1,8 @@
 use Rattle.std.proofs.Common.{◌≡◌, [], IfOk, sym, subst}
-use Rattle.smo_types.specs.declared.op.Op.{Op}
-use Rattle.smo_types.specs.Operators.{operator_of}
+use Rattle.smo_ops_types.specs.declared.op.Op.{Op}
+use Rattle.smo_ops_types.specs.Operators.{operator_of}
 use Rattle.piece_ir.specs.Shown.{all_views_of}
-use Rattle.rule_views.specs.OperatorViews.{operator_views}
+use Rattle.piece_ir_spec.specs.OperatorViews.{operator_views}
 use Rattle.rewrite_rules.proofs.made_table.made_tables.Goals as goal
 
 pub returns-in-CreateTable : goal.returns-in-CreateTable

@@ -1,8 +1,8 @@
 use Rattle.std.proofs.Common.{ℕ, List, map}
 use Rattle.prima_base.specs.Columns.{names_of}
 use Rattle.cond_expr.specs.Seen.{test}
-use Rattle.smo_meaning.specs.Preconditions.{among}
-use Rattle.rule_views.specs.OperatorViews.{in_both}
+use Rattle.smo_ops_spec.specs.Preconditions.{among}
+use Rattle.piece_ir_spec.specs.OperatorViews.{in_both}
 use Rattle.rewrite_rules.proofs.PairSteps.{among_names, names_more}
 use Rattle.rewrite_rules.proofs.pair.common_parts.Goals as goal
 

@@ -1,6 +1,6 @@
 use Rattle.std.proofs.Common.{◌≡◌, map, take}
 use Rattle.cond_expr.specs.Seen.{test}
-use Rattle.rule_views.specs.OperatorViews.{common_names, in_both}
+use Rattle.piece_ir_spec.specs.OperatorViews.{common_names, in_both}
 use Rattle.rewrite_rules.proofs.pair.common_parts.Given as goal
 
 abbrev pub invariant-loop-name : goal.invariant-loop-name

@@ -1,9 +1,9 @@
 use Rattle.std.proofs.Common.{ℕ, List, ap}
 use Rattle.std.specs.Prelude.{not}
 use Rattle.prima_base.specs.Columns.{names_of}
-use Rattle.smo_types.specs.Changes.{sets_of}
-use Rattle.smo_meaning.specs.Preconditions.{among}
-use Rattle.rule_views.specs.OperatorViews.{from_second}
+use Rattle.smo_ops_types.specs.Changes.{sets_of}
+use Rattle.smo_ops_spec.specs.Preconditions.{among}
+use Rattle.piece_ir_spec.specs.OperatorViews.{from_second}
 use Rattle.rewrite_rules.proofs.PairSteps.{among_names, names_more}
 use Rattle.rewrite_rules.proofs.pair.second_outs.Goals as goal
 

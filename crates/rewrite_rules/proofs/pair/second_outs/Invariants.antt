@@ -1,6 +1,6 @@
 use Rattle.std.proofs.Common.{◌≡◌, map, take}
-use Rattle.smo_types.specs.Changes.{sets_of}
-use Rattle.rule_views.specs.OperatorViews.{second_names, from_second}
+use Rattle.smo_ops_types.specs.Changes.{sets_of}
+use Rattle.piece_ir_spec.specs.OperatorViews.{second_names, from_second}
 use Rattle.rewrite_rules.proofs.pair.second_outs.Given as goal
 
 abbrev pub invariant-loop-name : goal.invariant-loop-name

@@ -1,12 +1,12 @@
 use Rattle.std.proofs.Common.{◌≡◌, List, ap, ◌∙◌}
 use Rattle.std.specs.List.{filter}
-use Rattle.smo_types.specs.Operators.{operator_of}
-use Rattle.piece_meaning.specs.Views.{Views}
-use Rattle.piece_meaning.specs.Unfolding.{unfoldings}
+use Rattle.smo_ops_types.specs.Operators.{operator_of}
+use Rattle.piece_ir_spec.specs.Views.{Views}
+use Rattle.piece_ir_spec.specs.Unfolding.{unfoldings}
 use Rattle.piece_ir.specs.declared.view.TableViews.{TableViews}
 use Rattle.piece_ir.specs.Shown.{piece_of, shown_pieces, all_views_of}
 use Rattle.piece_prune.specs.DeadPieces.{lives}
-use Rattle.rule_views.specs.OperatorViews.{operator_views}
+use Rattle.piece_ir_spec.specs.OperatorViews.{operator_views}
 use Rattle.rewrite_rules.specs.LivingUnfoldings.{living_by_views}
 use Rattle.rewrite_rules.proofs.RuleLaw.{kept}
 use Rattle.rewrite_rules.proofs.unfolded_piece.unfolded.Goals as goal

@@ -2,7 +2,7 @@ use Rattle.std.proofs.Common.{inl, inr, refl, sym, subst}
 use Rattle.disk_model.specs.Moments.{GoesOn}
 use Rattle.disk_model.specs.MomentLaws.{goes_trans}
 use Rattle.archive_core.specs.Fields.{below, place_of}
-use Rattle.piece_meaning.specs.Books.{book_of}
+use Rattle.piece_ir_spec.specs.Books.{book_of}
 use Rattle.script_cli.specs.Runs.{RunsOver, NotOpened, SourceCounted, DiskCounted, given_by}
 use Rattle.script_cli.proofs.OnDisks.{start_of, ran_opened, put_goes}
 use Rattle.script_cli.proofs.Unopened.{not_opened, disk_unopened, source_unopened, disk_after}

@@ -1,9 +1,9 @@
 use Rattle.std.proofs.Common.{◌≡◌, ◌≤◌, ◌-◌, false}
-use Rattle.piece_meaning.specs.Books.{book_of}
+use Rattle.piece_ir_spec.specs.Books.{book_of}
 use Rattle.archive_core.specs.Fields.{below}
-use Rattle.statement_response.specs.Given.{Given}
-use Rattle.statement_response.specs.Replies.{Recorded}
-use Rattle.statement_response.specs.Responses.{RepresentsAt, TakesRecords}
+use Rattle.script_cli_statement.specs.Given.{Given}
+use Rattle.script_cli_statement.specs.Replies.{Recorded}
+use Rattle.script_cli_statement.specs.Responses.{RepresentsAt, TakesRecords}
 use Rattle.script_cli.specs.Limits.{longest_script}
 use Rattle.script_cli.proofs.Reaching.{Reached}
 use Rattle.script_cli.proofs.driver.drive.Given as goal

@@ -2,7 +2,7 @@ use Rattle.std.proofs.Common.{◌++◌, ⊎_elim, inl, inr, ℕ, List, take}
 use Rattle.disk_model.specs.Meaning.{Meaning}
 use Rattle.disk_model.specs.Moments.{UntilSynced}
 use Rattle.disk_model.specs.MomentLaws.{until_weaker}
-use Rattle.archive_file.specs.LogRecords.{LogRecord}
+use Rattle.archive_core_file_spec.specs.LogRecords.{LogRecord}
 use Rattle.script_cli.specs.Files.{OpensPrefix, CanBeRun}
 use Rattle.script_cli.proofs.laws.a_run_follows_a_run.Goals as goal
 

@@ -1,9 +1,9 @@
 use Rattle.std.proofs.Common.{inl, inr, sym, subst, ap, refl, ◌∙◌}
 use Rattle.std.specs.Prelude.{map, string_bytes, option_and_then}
 use Rattle.disk_model.specs.MomentLaws.{goes_refl}
-use Rattle.program_words.specs.Words.{asked, limit_of_run, request}
-use Rattle.program_words.specs.declared.request.Mode.TheVariants.{Sample}
-use Rattle.piece_meaning.specs.Books.{book_of}
+use Rattle.script_cli_arguments.specs.Words.{asked, limit_of_run, request}
+use Rattle.script_cli_arguments.specs.declared.request.Mode.TheVariants.{Sample}
+use Rattle.piece_ir_spec.specs.Books.{book_of}
 use Rattle.script_cli.specs.Runs.{given_by, SourceCounted, SinkCounted, DiskCounted}
 use Rattle.script_cli.specs.Sampling.{SamplesOver}
 use Rattle.script_cli.proofs.Judging.{none_or_some, not_for_none, same_request, refused_words}

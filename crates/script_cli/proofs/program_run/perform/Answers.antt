@@ -1,9 +1,9 @@
 use Rattle.std.proofs.Common.{◌≡◌, sym, subst, ap, refl, ◌∙◌}
 use Rattle.std.specs.Prelude.{Some, None}
-use Rattle.program_words.specs.declared.request.Mode.TheVariants.{Run, Sample}
-use Rattle.program_words.specs.Words.{limit_in}
-use Rattle.sample_script.specs.Statements.{sample_script}
-use Rattle.piece_meaning.specs.Books.{book_of}
+use Rattle.script_cli_arguments.specs.declared.request.Mode.TheVariants.{Run, Sample}
+use Rattle.script_cli_arguments.specs.Words.{limit_in}
+use Rattle.script_cli_sample.specs.Statements.{sample_script}
+use Rattle.piece_ir_spec.specs.Books.{book_of}
 use Rattle.script_cli.specs.Runs.{RunsOver, given_by}
 use Rattle.script_cli.specs.Sampling.{SamplesOver}
 use Rattle.script_cli.proofs.Judging.{over_not_words}

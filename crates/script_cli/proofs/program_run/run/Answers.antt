@@ -1,21 +1,21 @@
 use Rattle.std.proofs.Common.{◌≡◌, ◌⊎◌, ⊎_elim, inl, inr, ℕ, [], refl, sym, ap, ◌∙◌}
 use Rattle.std.specs.Prelude.{Option, Some, None, map, option_and_then, string_bytes}
-use Rattle.smo_meaning.specs.Past.{Past}
-use Rattle.piece_meaning.specs.Books.{book_of}
-use Rattle.program_words.specs.declared.request.Mode.{Mode}
-use Rattle.program_words.specs.declared.request.Mode.TheVariants.{Run, Sample}
-use Rattle.program_words.specs.declared.request.Request.{Request}
-use Rattle.program_words.specs.Words.{asked, limit_in, limit_of_run, request}
-use Rattle.sample_script.specs.Statements.{sample_script}
-use Rattle.statement_response.specs.Replies.{recorded}
+use Rattle.smo_ops_spec.specs.Past.{Past}
+use Rattle.piece_ir_spec.specs.Books.{book_of}
+use Rattle.script_cli_arguments.specs.declared.request.Mode.{Mode}
+use Rattle.script_cli_arguments.specs.declared.request.Mode.TheVariants.{Run, Sample}
+use Rattle.script_cli_arguments.specs.declared.request.Request.{Request}
+use Rattle.script_cli_arguments.specs.Words.{asked, limit_in, limit_of_run, request}
+use Rattle.script_cli_sample.specs.Statements.{sample_script}
+use Rattle.script_cli_statement.specs.Replies.{recorded}
 use Rattle.script_cli.specs.Output.{recorded_after}
 use Rattle.script_cli.specs.Files.{IsSoundFile}
 use Rattle.script_cli.specs.Runs.{given_by}
 use Rattle.script_cli.specs.declared.status.Status.{Status}
 use Rattle.script_cli.specs.declared.status.Status.TheVariants.{NotAJournal, Words, NoMemory}
 use Rattle.script_cli.proofs.ValidPasts.{of_script, still_made}
-use Rattle.statement_response.proofs.ExplainedQueries.{tells_pieces}
-use Rattle.statement_response.proofs.Errors.{error_told}
+use Rattle.script_cli_statement.proofs.ExplainedQueries.{tells_pieces}
+use Rattle.script_cli_statement.proofs.Errors.{error_told}
 use Rattle.script_cli.proofs.Recording.{recorded_is, put_sound, put_accepted, still_sound}
 use Rattle.script_cli.proofs.OnDisks.{sound_opens}
 use Rattle.script_cli.proofs.Telling.{prefix_over, whole_over, crash_over, sound_over, damaged_over}

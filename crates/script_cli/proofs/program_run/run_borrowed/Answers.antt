@@ -1,7 +1,7 @@
 use Rattle.std.proofs.Common.{◌≡◌, rules, sym, subst}
 use Rattle.disk_model.specs.Moments.{GoesOn}
 use Rattle.disk_model.specs.BorrowLaws.{borrowed_goes}
-use Rattle.piece_meaning.specs.Books.{book_of}
+use Rattle.piece_ir_spec.specs.Books.{book_of}
 use Rattle.script_cli.specs.Runs.{RunsOver, given_by}
 use Rattle.script_cli.proofs.Borrowed.{runs_borrowed}
 use Rattle.script_cli.proofs.program_run.run_borrowed.Goals as goal

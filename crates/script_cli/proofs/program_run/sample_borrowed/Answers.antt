@@ -1,8 +1,8 @@
 use Rattle.std.proofs.Common.{◌≡◌, rules, sym, subst}
 use Rattle.disk_model.specs.Moments.{GoesOn}
 use Rattle.disk_model.specs.BorrowLaws.{borrowed_goes}
-use Rattle.sample_script.specs.Statements.{sample_script}
-use Rattle.piece_meaning.specs.Books.{book_of}
+use Rattle.script_cli_sample.specs.Statements.{sample_script}
+use Rattle.piece_ir_spec.specs.Books.{book_of}
 use Rattle.script_cli.specs.Runs.{given_by}
 use Rattle.script_cli.specs.Sampling.{SamplesOver}
 use Rattle.script_cli.proofs.SampleRuns.{borrowed_sample}

@@ -1,9 +1,9 @@
 use Rattle.std.proofs.Common.{◌≡◌, ◌+◌, rules, inl, sym, subst, refl}
 use Rattle.std.specs.Prelude.{Some, true}
 use Rattle.archive_core.specs.Fields.{below, place_of}
-use Rattle.sample_script.specs.Source.{left_of}
-use Rattle.sample_script.specs.Statements.{sample_script}
-use Rattle.sample_script.specs.Summary.{summary}
+use Rattle.script_cli_sample.specs.Source.{left_of}
+use Rattle.script_cli_sample.specs.Statements.{sample_script}
+use Rattle.script_cli_sample.specs.Summary.{summary}
 use Rattle.script_cli.specs.Kept.{kept_by}
 use Rattle.script_cli.specs.Runs.{is_whole}
 use Rattle.script_cli.specs.Sampling.{ToldBy}

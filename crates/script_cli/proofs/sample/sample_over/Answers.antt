@@ -3,8 +3,8 @@ use Rattle.std.specs.Prelude.{Some}
 use Rattle.disk_model.specs.Moments.{GoesOn}
 use Rattle.disk_model.specs.MomentLaws.{goes_trans}
 use Rattle.archive_core.specs.Fields.{below, place_of}
-use Rattle.sample_script.specs.Statements.{sample_script}
-use Rattle.piece_meaning.specs.Books.{book_of}
+use Rattle.script_cli_sample.specs.Statements.{sample_script}
+use Rattle.piece_ir_spec.specs.Books.{book_of}
 use Rattle.script_cli.specs.Runs.{NotOpened, DiskCounted, given_by}
 use Rattle.script_cli.specs.Sampling.{SamplesOver}
 use Rattle.script_cli.proofs.OnDisks.{start_of, ran_opened, ran_opened_start, put_goes}

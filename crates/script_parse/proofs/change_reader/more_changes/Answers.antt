@@ -1,13 +1,13 @@
 use Rattle.std.proofs.Common.{[], ◌∷◌, ◌++◌, map, sym, ap, ◌∙◌, append_assoc, append-nil, codes}
 use Rattle.std.proofs.lemmas.List.{map-append}
 use Rattle.std.proofs.lemmas.Result.{err_from_is_err_and}
-use Rattle.smo_types.specs.Changes.{change_of, changes_of}
+use Rattle.smo_ops_types.specs.Changes.{change_of, changes_of}
 use Rattle.script_parse.specs.StatementReader.{follow_change}
-use Rattle.lexical_grammar.specs.Lexemes.{is_word}
-use Rattle.parser_combinators.specs.Reads.{ahead}
-use Rattle.parser_combinators.proofs.ReadSteps.{after, after_fails}
-use Rattle.parser_combinators.proofs.ManySteps.{many_first, many_smaller, many_next, many_done}
-use Rattle.parser_combinators.proofs.ManySteps.{many_err}
+use Rattle.lexer_spec.specs.Lexemes.{is_word}
+use Rattle.lexer_combinators.specs.Reads.{ahead}
+use Rattle.lexer_combinators.proofs.ReadSteps.{after, after_fails}
+use Rattle.lexer_combinators.proofs.ManySteps.{many_first, many_smaller, many_next, many_done}
+use Rattle.lexer_combinators.proofs.ManySteps.{many_err}
 use Rattle.script_parse.specs.StatementReader.{change}
 use Rattle.script_parse.specs.Productions.{IsChange}
 use Rattle.script_parse.proofs.ChangeCorrectness.{change_correct}

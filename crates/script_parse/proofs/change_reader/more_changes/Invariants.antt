@@ -1,8 +1,8 @@
 use Rattle.std.proofs.Common.{◌≡◌, ◌++◌, List, length, codes}
-use Rattle.smo_types.specs.Changes.{PlainChange, changes_of}
-use Rattle.lexical_grammar.specs.Lexemes.{is_word}
-use Rattle.parser_combinators.specs.Reads.{ahead}
-use Rattle.parser_combinators.specs.Parsing.{many, prepend}
+use Rattle.smo_ops_types.specs.Changes.{PlainChange, changes_of}
+use Rattle.lexer_spec.specs.Lexemes.{is_word}
+use Rattle.lexer_combinators.specs.Reads.{ahead}
+use Rattle.lexer_combinators.specs.Parsing.{many, prepend}
 use Rattle.script_parse.specs.StatementReader.{change}
 use Rattle.script_parse.proofs.change_reader.more_changes.Given as goal
 

@@ -1,11 +1,11 @@
 use Rattle.std.proofs.Common.{[], ◌∷◌, ◌++◌, sym, ap, ◌∙◌, append_assoc, arith, subst}
 use Rattle.std.proofs.lemmas.Result.{err_from_is_err_and}
-use Rattle.parser_combinators.specs.Parsing.{Unexpected}
-use Rattle.expr_grammar.specs.Constants.{constant}
-use Rattle.parser_combinators.specs.declared.cursor.Stop.{Stop}
+use Rattle.lexer_combinators.specs.Parsing.{Unexpected}
+use Rattle.lexer_trees_spec.specs.Constants.{constant}
+use Rattle.lexer_combinators.specs.declared.cursor.Stop.{Stop}
 use Rattle.script_parse.specs.StatementReader.{more_constants}
-use Rattle.parser_combinators.specs.Reads.{ahead, Fails}
-use Rattle.parser_combinators.proofs.ReadSteps.{after, after_fails}
+use Rattle.lexer_combinators.specs.Reads.{ahead, Fails}
+use Rattle.lexer_combinators.proofs.ReadSteps.{after, after_fails}
 use Rattle.script_parse.proofs.ConstantSteps.{constants_done, constants_next, constants_stuck}
 use Rattle.script_parse.proofs.ConstantSteps.{constants_err}
 use Rattle.script_parse.proofs.change_reader.more_constants.Goals as goal

@@ -1,7 +1,7 @@
 use Rattle.std.proofs.Common.{◌≡◌, ◌++◌, List}
 use Rattle.prima_base.specs.declared.value.Value.{Value}
-use Rattle.parser_combinators.specs.Reads.{ahead}
-use Rattle.parser_combinators.specs.Parsing.{prepend}
+use Rattle.lexer_combinators.specs.Reads.{ahead}
+use Rattle.lexer_combinators.specs.Parsing.{prepend}
 use Rattle.script_parse.specs.StatementReader as spec
 use Rattle.script_parse.proofs.change_reader.more_constants.Given as goal
 

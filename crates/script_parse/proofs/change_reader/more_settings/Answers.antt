@@ -2,13 +2,13 @@ use Rattle.std.proofs.Common.{[], ◌∷◌, ◌++◌, map, sym, ap, ◌∙◌, 
 use Rattle.std.proofs.Common.{false}
 use Rattle.std.proofs.lemmas.List.{map-append}
 use Rattle.std.proofs.lemmas.Result.{err_from_is_err_and}
-use Rattle.smo_types.specs.Changes.{set_of_expr, sets_of}
-use Rattle.expr_grammar.specs.Reader.{follow_expr}
-use Rattle.lexical_grammar.specs.Lexemes.{is_sign}
-use Rattle.parser_combinators.specs.Reads.{ahead}
-use Rattle.parser_combinators.proofs.ReadSteps.{after, after_fails}
-use Rattle.parser_combinators.proofs.ManySteps.{many_first, many_smaller, many_next, many_done}
-use Rattle.parser_combinators.proofs.ManySteps.{many_err}
+use Rattle.smo_ops_types.specs.Changes.{set_of_expr, sets_of}
+use Rattle.lexer_trees_spec.specs.Reader.{follow_expr}
+use Rattle.lexer_spec.specs.Lexemes.{is_sign}
+use Rattle.lexer_combinators.specs.Reads.{ahead}
+use Rattle.lexer_combinators.proofs.ReadSteps.{after, after_fails}
+use Rattle.lexer_combinators.proofs.ManySteps.{many_first, many_smaller, many_next, many_done}
+use Rattle.lexer_combinators.proofs.ManySteps.{many_err}
 use Rattle.script_parse.specs.StatementReader.{setting}
 use Rattle.script_parse.specs.Productions.{IsSetting}
 use Rattle.script_parse.proofs.ChangeCorrectness.{setting_correct}

@@ -1,10 +1,10 @@
 use Rattle.std.proofs.Common.{◌≡◌, ◌++◌, List, length, codes}
 use Rattle.std.proofs.Common.{ℕ}
 use Rattle.cond_expr.specs.Trees.{Tree}
-use Rattle.smo_types.specs.Changes.{sets_of}
-use Rattle.lexical_grammar.specs.Lexemes.{is_sign}
-use Rattle.parser_combinators.specs.Reads.{ahead}
-use Rattle.parser_combinators.specs.Parsing.{many, prepend}
+use Rattle.smo_ops_types.specs.Changes.{sets_of}
+use Rattle.lexer_spec.specs.Lexemes.{is_sign}
+use Rattle.lexer_combinators.specs.Reads.{ahead}
+use Rattle.lexer_combinators.specs.Parsing.{many, prepend}
 use Rattle.script_parse.specs.StatementReader.{setting}
 use Rattle.script_parse.proofs.change_reader.more_settings.Given as goal
 

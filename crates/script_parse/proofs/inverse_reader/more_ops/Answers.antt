@@ -3,12 +3,12 @@ use Rattle.std.proofs.Common.{arith}
 use Rattle.std.proofs.lemmas.List.{map-append}
 use Rattle.std.proofs.lemmas.Result.{err_from_is_err_and}
 use Rattle.prima_base.specs.declared.refusal.What.TheVariants.{Inverse}
-use Rattle.smo_types.specs.Operators.{operator_of, operators_of}
-use Rattle.lexical_grammar.specs.Lexemes.{is_word}
-use Rattle.parser_combinators.specs.Parsing.{more}
-use Rattle.parser_combinators.specs.Reads.{ahead}
-use Rattle.parser_combinators.proofs.ReadSteps.{after, after_fails, prepend_none, more_next}
-use Rattle.parser_combinators.proofs.ReadSteps.{more_err, more_full, more_done}
+use Rattle.smo_ops_types.specs.Operators.{operator_of, operators_of}
+use Rattle.lexer_spec.specs.Lexemes.{is_word}
+use Rattle.lexer_combinators.specs.Parsing.{more}
+use Rattle.lexer_combinators.specs.Reads.{ahead}
+use Rattle.lexer_combinators.proofs.ReadSteps.{after, after_fails, prepend_none, more_next}
+use Rattle.lexer_combinators.proofs.ReadSteps.{more_err, more_full, more_done}
 use Rattle.script_parse.specs.StatementReader.{op}
 use Rattle.script_parse.proofs.inverse_reader.more_ops.Goals as goal
 

@@ -1,9 +1,9 @@
 use Rattle.std.proofs.Common.{◌≡◌, ◌≤◌, ◌++◌, List, codes}
 use Rattle.prima_base.specs.declared.refusal.What.TheVariants.{Inverse}
-use Rattle.smo_types.specs.Operators.{Operator, operators_of}
-use Rattle.lexical_grammar.specs.Lexemes.{is_word}
-use Rattle.parser_combinators.specs.Reads.{ahead}
-use Rattle.parser_combinators.specs.Parsing.{more, prepend}
+use Rattle.smo_ops_types.specs.Operators.{Operator, operators_of}
+use Rattle.lexer_spec.specs.Lexemes.{is_word}
+use Rattle.lexer_combinators.specs.Reads.{ahead}
+use Rattle.lexer_combinators.specs.Parsing.{more, prepend}
 use Rattle.script_parse.specs.StatementReader.{op}
 use Rattle.script_parse.proofs.inverse_reader.more_ops.Given as goal
 

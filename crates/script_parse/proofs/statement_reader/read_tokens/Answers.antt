@@ -1,8 +1,8 @@
 use Rattle.std.proofs.Common.{◌<◌, length, map, subst, arith}
 use Rattle.std.proofs.lemmas.Bool.Decides.{nat_tests}
-use Rattle.parser_combinators.specs.declared.cursor.Stop.{Stop}
-use Rattle.lexical_grammar.specs.Lexemes.{lexeme}
-use Rattle.parser_combinators.specs.Reads.{Fails}
+use Rattle.lexer_combinators.specs.declared.cursor.Stop.{Stop}
+use Rattle.lexer_spec.specs.Lexemes.{lexeme}
+use Rattle.lexer_combinators.specs.Reads.{Fails}
 use Rattle.script_parse.specs.Statements.{statement_of}
 use Rattle.script_parse.specs.StatementReader.{statement}
 use Rattle.script_parse.proofs.TokenReading.{got_fits, stuck_fits, got_whole, got_more, stuck_there}

@@ -2,7 +2,7 @@ use Rattle.std.proofs.Common.{List, [], ◌∷◌, ap, ◌∙◌}
 use Rattle.prima_base.specs.Columns.{Column}
 use Rattle.cond_expr.specs.Seen.{tree}
 use Rattle.cond_expr.specs.Values.{value}
-use Rattle.smo_meaning.specs.OneRow.{Row, own_cells}
+use Rattle.smo_ops_spec.specs.OneRow.{Row, own_cells}
 use Rattle.smo_maps.specs.Picking.{picked_row}
 use Rattle.smo_maps.proofs.KeptRows.{shown_one}
 use Rattle.smo_maps.proofs.add_column.added_rows.Goals as goal

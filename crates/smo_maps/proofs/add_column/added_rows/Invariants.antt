@@ -1,7 +1,7 @@
 use Rattle.std.proofs.Common.{◌≡◌, take, map, [], ◌∷◌}
 use Rattle.cond_expr.specs.Seen.{tree}
 use Rattle.cond_expr.specs.Values.{value}
-use Rattle.smo_meaning.specs.OneRow.{Row, own_cells}
+use Rattle.smo_ops_spec.specs.OneRow.{Row, own_cells}
 use Rattle.smo_maps.specs.Picking.{picked_row}
 use Rattle.smo_maps.proofs.add_column.added_rows.Given as goal
 

@@ -3,8 +3,8 @@ use Rattle.std.proofs.lemmas.Result.{IfOk-weaker}
 use Rattle.prima_base.specs.declared.value.ColType.TheVariants.{Int as INT}
 use Rattle.cond_expr.specs.Seen.{tree}
 use Rattle.cond_expr.specs.Values.{value}
-use Rattle.smo_meaning.specs.OneRow.{Row, own_cells}
-use Rattle.smo_meaning.specs.Making.{with_column, added}
+use Rattle.smo_ops_spec.specs.OneRow.{Row, own_cells}
+use Rattle.smo_ops_spec.specs.Making.{with_column, added}
 use Rattle.smo_maps.specs.Picking.{source_of}
 use Rattle.smo_maps.proofs.Places.{picked_added, shown_image}
 use Rattle.smo_maps.proofs.add_column.with_value.Goals as goal

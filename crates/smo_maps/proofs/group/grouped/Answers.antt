@@ -3,7 +3,7 @@ use Rattle.std.specs.Option.{unwrap_or}
 use Rattle.std.specs.BTreeMap.{get}
 use Rattle.std.specs.Ordering.{is_eq}
 use Rattle.prima_base.specs.Order.{row_cmp}
-use Rattle.smo_meaning.specs.OneRow.{Row}
+use Rattle.smo_ops_spec.specs.OneRow.{Row}
 use Rattle.smo_maps.specs.Picking.{picked_row}
 use Rattle.smo_maps.proofs.KeptRows.{kept_more}
 use Rattle.smo_maps.proofs.group.grouped.Goals as goal

@@ -4,7 +4,7 @@ use Rattle.std.specs.Option.{unwrap_or}
 use Rattle.std.specs.Ordering.{is_eq}
 use Rattle.std.specs.BTreeMap.{get}
 use Rattle.prima_base.specs.Order.{row_cmp}
-use Rattle.smo_meaning.specs.OneRow.{Relation}
+use Rattle.smo_ops_spec.specs.OneRow.{Relation}
 use Rattle.smo_maps.proofs.GroupLaws.{row_same, put_in_group}
 use Rattle.smo_maps.proofs.group.put_row.Goals as goal
 

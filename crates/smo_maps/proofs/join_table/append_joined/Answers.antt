@@ -1,7 +1,7 @@
 use Rattle.std.proofs.Common.{Bor, ap, ◌∙◌}
 use Rattle.prima_base.specs.declared.row.Row.{Row as OneRow}
 use Rattle.cond_expr.specs.Seen.{test}
-use Rattle.smo_meaning.specs.OneRow.{Row, meets}
+use Rattle.smo_ops_spec.specs.OneRow.{Row, meets}
 use Rattle.smo_maps.specs.Picking.{picked_row}
 use Rattle.smo_maps.proofs.KeptRows.{shown_more}
 use Rattle.smo_maps.proofs.join_table.append_joined.Goals as goal

@@ -7,7 +7,7 @@ use Rattle.std.proofs.lemmas.List.{append-nil}
 use Rattle.std.proofs.lemmas.Result.{on_ok_weaker}
 use Rattle.prima_base.specs.Order.{row_cmp}
 use Rattle.cond_expr.specs.Seen.{test}
-use Rattle.smo_meaning.specs.OneRow.{Row, Relation, meets}
+use Rattle.smo_ops_spec.specs.OneRow.{Row, Relation, meets}
 use Rattle.smo_maps.specs.Picking.{picked_row}
 use Rattle.smo_maps.proofs.join_table.append_partners.Goals as goal
 

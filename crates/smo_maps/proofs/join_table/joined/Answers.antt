@@ -2,12 +2,12 @@ use Rattle.std.proofs.Common.{◌≡◌, List, [], map, ap, ◌∙◌}
 use Rattle.std.specs.List.{filter, flat_map}
 use Rattle.std.specs.Option.{unwrap_or}
 use Rattle.std.specs.BTreeMap.{get}
-use Rattle.relations.specs.Sets.{set_of}
+use Rattle.relations_spec.specs.Sets.{set_of}
 use Rattle.prima_base.specs.Order.{row_cmp}
 use Rattle.cond_expr.specs.Seen.{test}
 use Rattle.prima_base.specs.Columns.{Column, names_of}
-use Rattle.smo_meaning.specs.OneRow.{Row, meets}
-use Rattle.smo_meaning.specs.Making.{joined_columns}
+use Rattle.smo_ops_spec.specs.OneRow.{Row, meets}
+use Rattle.smo_ops_spec.specs.Making.{joined_columns}
 use Rattle.smo_maps.specs.Picking.{source_of, picked_row}
 use Rattle.smo_maps.proofs.KeyLaws.{pairs_joined}
 use Rattle.smo_maps.proofs.join_table.joined.Goals as goal

@@ -3,7 +3,7 @@ use Rattle.std.specs.Option.{unwrap_or}
 use Rattle.std.specs.BTreeMap.{get}
 use Rattle.prima_base.specs.Order.{row_cmp}
 use Rattle.cond_expr.specs.Seen.{test}
-use Rattle.smo_meaning.specs.OneRow.{Row, meets}
+use Rattle.smo_ops_spec.specs.OneRow.{Row, meets}
 use Rattle.smo_maps.specs.Picking.{picked_row}
 use Rattle.smo_maps.proofs.KeptRows.{flat_more}
 use Rattle.smo_maps.proofs.join_table.joined_pairs.Goals as goal

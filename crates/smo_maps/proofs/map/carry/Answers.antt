@@ -4,10 +4,10 @@ use Rattle.std.specs.List.{filter}
 use Rattle.prima_base.specs.Columns.{Column}
 use Rattle.schema_catalog.specs.Databases.{cell}
 use Rattle.cond_expr.specs.Seen.{tree, test}
-use Rattle.smo_meaning.specs.OneRow.{Row, meets}
-use Rattle.smo_meaning.specs.Effects.{columns_of}
-use Rattle.smo_meaning.specs.Making.{named, without, renamed, with_column, type_of_value, image}
-use Rattle.smo_meaning.specs.Making.{added, moved, join_rows}
+use Rattle.smo_ops_spec.specs.OneRow.{Row, meets}
+use Rattle.smo_ops_spec.specs.Effects.{columns_of}
+use Rattle.smo_ops_spec.specs.Making.{named, without, renamed, with_column, type_of_value, image}
+use Rattle.smo_ops_spec.specs.Making.{added, moved, join_rows}
 use Rattle.smo_maps.proofs.Arms.{arm, if_both}
 use Rattle.smo_maps.proofs.map.carry.Goals as goal
 

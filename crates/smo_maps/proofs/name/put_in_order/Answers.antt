@@ -3,7 +3,7 @@ use Rattle.std.specs.Cmp.Lexicographic.{nat_list_cmp_total}
 use Rattle.std.proofs.lemmas.List.Filters.{dedup_is}
 use Rattle.prima_base.specs.Order.{bytes_cmp, same}
 use Rattle.prima_base.specs.OrderLaws.{bytes_exact, name_eq_equiv}
-use Rattle.smo_meaning.proofs.SortLaws.{sorted_set}
+use Rattle.smo_ops_spec.proofs.SortLaws.{sorted_set}
 use Rattle.smo_maps.proofs.name.put_in_order.Goals as goal
 
 pub returns : goal.returns

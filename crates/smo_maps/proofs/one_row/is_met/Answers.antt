@@ -2,7 +2,7 @@ use Rattle.std.proofs.Common.{map, ap, ◌∙◌}
 use Rattle.std.proofs.lemmas.Result.{IfOk-weaker}
 use Rattle.prima_base.specs.Order.{shown}
 use Rattle.cond_expr.specs.Seen.{test}
-use Rattle.smo_meaning.specs.OneRow.{meets}
+use Rattle.smo_ops_spec.specs.OneRow.{meets}
 use Rattle.smo_maps.proofs.one_row.is_met.Goals as goal
 
 pub returns : goal.returns

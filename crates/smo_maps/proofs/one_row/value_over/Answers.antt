@@ -4,7 +4,7 @@ use Rattle.prima_base.specs.declared.value.Value.{Value}
 use Rattle.prima_base.specs.Order.{shown}
 use Rattle.cond_expr.specs.Seen.{tree}
 use Rattle.cond_expr.specs.Values.{value}
-use Rattle.smo_meaning.specs.OneRow.{own_cells}
+use Rattle.smo_ops_spec.specs.OneRow.{own_cells}
 use Rattle.smo_maps.proofs.one_row.value_over.Goals as goal
 
 pub returns : goal.returns

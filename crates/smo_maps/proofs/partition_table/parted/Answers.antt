@@ -2,7 +2,7 @@ use Rattle.std.proofs.Common.{◌≡◌, List, [], ◌∷◌, ◌++◌, ap, ◌�
 use Rattle.std.specs.Prelude.{not}
 use Rattle.cond_expr.specs.Seen.{test}
 use Rattle.prima_base.specs.Columns.{Column}
-use Rattle.smo_meaning.specs.OneRow.{Row, meets}
+use Rattle.smo_ops_spec.specs.OneRow.{Row, meets}
 use Rattle.smo_maps.proofs.KeptRows.{kept_more, turned}
 use Rattle.smo_maps.proofs.partition_table.parted.Goals as goal
 

@@ -1,5 +1,5 @@
 use Rattle.std.proofs.Common.{◌≡◌, take, map, []}
-use Rattle.smo_meaning.specs.OneRow.{Row}
+use Rattle.smo_ops_spec.specs.OneRow.{Row}
 use Rattle.smo_maps.specs.Picking.{picked_row}
 use Rattle.smo_maps.proofs.projection.image.Given as goal
 

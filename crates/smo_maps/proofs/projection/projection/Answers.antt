@@ -1,7 +1,7 @@
 use Rattle.std.proofs.Common.{[], ◌∙◌}
 use Rattle.std.proofs.lemmas.Result.{IfOk-weaker}
 use Rattle.schema_catalog.specs.Databases.{cell}
-use Rattle.smo_meaning.specs.OneRow.{Row}
+use Rattle.smo_ops_spec.specs.OneRow.{Row}
 use Rattle.smo_maps.specs.Picking.{source_of}
 use Rattle.smo_maps.proofs.Places.{picked_own, shown_image}
 use Rattle.smo_maps.proofs.projection.projection.Goals as goal

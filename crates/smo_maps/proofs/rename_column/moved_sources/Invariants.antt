@@ -1,6 +1,6 @@
 use Rattle.std.proofs.Common.{◌≡◌, take, map, [], List, ℕ}
 use Rattle.std.specs.Prelude.{if◌then◌else◌}
-use Rattle.smo_meaning.specs.OneRow.{same}
+use Rattle.smo_ops_spec.specs.OneRow.{same}
 use Rattle.smo_maps.specs.Picking.{source_of}
 use Rattle.smo_maps.proofs.rename_column.moved_sources.Given as goal
 

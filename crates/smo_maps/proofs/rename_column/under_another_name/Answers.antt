@@ -2,8 +2,8 @@ use Rattle.std.proofs.Common.{List, ℕ, [], ap, ◌∙◌}
 use Rattle.std.specs.Prelude.{if◌then◌else◌}
 use Rattle.std.proofs.lemmas.Result.{IfOk-weaker}
 use Rattle.prima_base.specs.Columns.{names_of}
-use Rattle.smo_meaning.specs.OneRow.{Row, same}
-use Rattle.smo_meaning.specs.Making.{renamed, moved}
+use Rattle.smo_ops_spec.specs.OneRow.{Row, same}
+use Rattle.smo_ops_spec.specs.Making.{renamed, moved}
 use Rattle.smo_maps.specs.Picking.{source_of}
 use Rattle.smo_maps.proofs.Places.{picked_moved, shown_image}
 use Rattle.smo_maps.proofs.rename_column.under_another_name.Goals as goal

@@ -1,5 +1,5 @@
-use Rattle.smo_types.specs.Changes.{changes_of}
-use Rattle.smo_meaning.specs.Checks.{changes_fault}
+use Rattle.smo_ops_types.specs.Changes.{changes_of}
+use Rattle.smo_ops_spec.specs.Checks.{changes_fault}
 use Rattle.smo_ops.proofs.PassedOn.{accepted, refused}
 use Rattle.smo_ops.proofs.check.check_changes.Goals as goal
 

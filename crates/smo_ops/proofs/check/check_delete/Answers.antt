@@ -3,8 +3,8 @@ use Rattle.std.proofs.lemmas.Result.{err_from_is_err_and}
 use Rattle.cond_expr.specs.Seen.{test}
 use Rattle.cond_expr.specs.Sizes.{test_nodes}
 use Rattle.cond_expr.specs.Faults.{test_references}
-use Rattle.smo_meaning.specs.Checks.{reference_fault, test_fault}
-use Rattle.smo_meaning.proofs.Firsts.{first_at, first_later, first_alone}
+use Rattle.smo_ops_spec.specs.Checks.{reference_fault, test_fault}
+use Rattle.smo_ops_spec.proofs.Firsts.{first_at, first_later, first_alone}
 use Rattle.smo_ops.proofs.PassedOn.{test_walked}
 use Rattle.smo_ops.proofs.check.check_delete.Goals as goal
 

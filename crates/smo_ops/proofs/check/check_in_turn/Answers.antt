@@ -3,8 +3,8 @@ use Rattle.std.specs.Prelude.{map}
 use Rattle.std.proofs.lemmas.Result.{err_from_is_err_and}
 use Rattle.std.proofs.lemmas.List.{length-map}
 use Rattle.schema_catalog.specs.Tables.{name_at}
-use Rattle.smo_types.specs.Changes.{change_of, changes_of}
-use Rattle.smo_meaning.specs.Checks.{change_fault, changes_fault, change_nodes}
+use Rattle.smo_ops_types.specs.Changes.{change_of, changes_of}
+use Rattle.smo_ops_spec.specs.Checks.{change_fault, changes_fault, change_nodes}
 use Rattle.smo_ops.proofs.SmallLaws.{counted_few, counted_small, few_nodes}
 use Rattle.smo_ops.proofs.ManyChanges.{change_refused, change_accepted, change_is_small}
 use Rattle.smo_ops.proofs.ManyChanges.{one_more_stands}

@@ -1,7 +1,7 @@
 use Rattle.std.proofs.Common.{◌≡◌, ◌*◌, ◌≤◌, take, drop}
-use Rattle.smo_types.specs.Changes.{changes_of}
-use Rattle.smo_meaning.specs.First.{first_refusal}
-use Rattle.smo_meaning.specs.Checks.{AllSmall, changes_tests, changes_fault}
+use Rattle.smo_ops_types.specs.Changes.{changes_of}
+use Rattle.smo_ops_spec.specs.First.{first_refusal}
+use Rattle.smo_ops_spec.specs.Checks.{AllSmall, changes_tests, changes_fault}
 use Rattle.smo_ops.specs.TablePlaces.{StandAt}
 use Rattle.smo_ops.proofs.check.check_in_turn.Given as goal
 

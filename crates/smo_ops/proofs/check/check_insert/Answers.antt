@@ -1,9 +1,9 @@
 use Rattle.std.proofs.Common.{◌+◌, length, ◌∙◌, arith}
 use Rattle.std.proofs.lemmas.Result.{err_from_is_err_and}
-use Rattle.smo_meaning.specs.First.{first_refusal}
-use Rattle.smo_types.specs.Changes.{insertion}
-use Rattle.smo_meaning.specs.Checks.{pair_names, name_faults, missing_fault, cell_faults}
-use Rattle.smo_meaning.specs.Checks.{tests_after}
+use Rattle.smo_ops_spec.specs.First.{first_refusal}
+use Rattle.smo_ops_types.specs.Changes.{insertion}
+use Rattle.smo_ops_spec.specs.Checks.{pair_names, name_faults, missing_fault, cell_faults}
+use Rattle.smo_ops_spec.specs.Checks.{tests_after}
 use Rattle.smo_ops.proofs.ChangeTests.{few_pairs, insert_names, insert_missing, insert_cells}
 use Rattle.smo_ops.proofs.PassedOn.{test_walked}
 use Rattle.smo_ops.proofs.check.check_insert.Goals as goal

@@ -1,6 +1,6 @@
 use Rattle.std.proofs.Common.{◌≡◌, take, drop}
-use Rattle.smo_meaning.specs.First.{first_refusal}
-use Rattle.smo_meaning.specs.Checks.{pair_names, name_faults, names_after}
+use Rattle.smo_ops_spec.specs.First.{first_refusal}
+use Rattle.smo_ops_spec.specs.Checks.{pair_names, name_faults, names_after}
 use Rattle.smo_ops.proofs.check.check_names.Given as goal
 
 abbrev pub invariant-loop-i : goal.invariant-loop-i

@@ -5,10 +5,10 @@ use Rattle.prima_base.specs.Columns.{Column}
 use Rattle.cond_expr.specs.Seen.{test}
 use Rattle.cond_expr.specs.Sizes.{test_nodes}
 use Rattle.cond_expr.specs.Faults.{test_references}
-use Rattle.smo_meaning.specs.First.{first_refusal}
-use Rattle.smo_types.specs.Changes.{update, sets_of}
-use Rattle.smo_meaning.specs.Checks.{pair_names, name_faults, reference_fault, set_references}
-use Rattle.smo_meaning.specs.Checks.{set_faults, sets_nodes, test_fault, tests_after}
+use Rattle.smo_ops_spec.specs.First.{first_refusal}
+use Rattle.smo_ops_types.specs.Changes.{update, sets_of}
+use Rattle.smo_ops_spec.specs.Checks.{pair_names, name_faults, reference_fault, set_references}
+use Rattle.smo_ops_spec.specs.Checks.{set_faults, sets_nodes, test_fault, tests_after}
 use Rattle.smo_ops.proofs.ChangeTests.{update_names, update_references, update_room, sets_known}
 use Rattle.smo_ops.proofs.ChangeTests.{test_known, update_sets, update_test}
 use Rattle.smo_ops.proofs.PassedOn.{test_walked, walked_on}

@@ -1,10 +1,10 @@
 use Rattle.std.proofs.Common.{sym, ap, ◌∙◌}
 use Rattle.std.proofs.lemmas.Result.{err_from_is_err_and}
 use Rattle.cond_expr.specs.Seen.{test}
-use Rattle.smo_types.specs.Changes.{sets_of}
-use Rattle.smo_meaning.specs.First.{first_refusal}
-use Rattle.smo_meaning.specs.Counts.{set_counts, test_counts}
-use Rattle.smo_meaning.proofs.Firsts.{first_after, first_before}
+use Rattle.smo_ops_types.specs.Changes.{sets_of}
+use Rattle.smo_ops_spec.specs.First.{first_refusal}
+use Rattle.smo_ops_spec.specs.Counts.{set_counts, test_counts}
+use Rattle.smo_ops_spec.proofs.Firsts.{first_after, first_before}
 use Rattle.smo_ops.proofs.count.check_change_counts.Goals as goal
 
 pub returns-in_err-check_sets-in-Update-clause-counts :

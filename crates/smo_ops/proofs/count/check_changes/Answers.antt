@@ -1,8 +1,8 @@
 use Rattle.std.proofs.lemmas.Result.{err_from_is_err_and}
 use Rattle.prima_base.specs.declared.refusal.What.TheVariants.{Changes}
-use Rattle.smo_types.specs.Changes.{change_of}
-use Rattle.smo_meaning.specs.Counts.{change_counts}
-use Rattle.smo_meaning.proofs.CountLaws.{limited_before, limited_above, limited_within}
+use Rattle.smo_ops_types.specs.Changes.{change_of}
+use Rattle.smo_ops_spec.specs.Counts.{change_counts}
+use Rattle.smo_ops_spec.proofs.CountLaws.{limited_before, limited_above, limited_within}
 use Rattle.smo_ops.proofs.count.check_changes.Goals as goal
 
 pub returns-in_err-check_each_change-clause-counts :

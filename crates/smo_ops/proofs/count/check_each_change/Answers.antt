@@ -1,8 +1,8 @@
 use Rattle.std.proofs.Common.{sym, ◌∙◌}
 use Rattle.std.proofs.lemmas.Result.{err_from_is_err_and}
-use Rattle.smo_types.specs.Changes.{change_of}
-use Rattle.smo_meaning.specs.Counts.{change_counts}
-use Rattle.smo_meaning.proofs.Firsts.{tests_more, tests_stop}
+use Rattle.smo_ops_types.specs.Changes.{change_of}
+use Rattle.smo_ops_spec.specs.Counts.{change_counts}
+use Rattle.smo_ops_spec.proofs.Firsts.{tests_more, tests_stop}
 use Rattle.smo_ops.proofs.ValidConstants.{change_more}
 use Rattle.smo_ops.proofs.count.check_each_change.Goals as goal
 

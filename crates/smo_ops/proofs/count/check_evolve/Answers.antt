@@ -1,10 +1,10 @@
 use Rattle.std.proofs.Common.{sym, ◌∙◌}
 use Rattle.std.proofs.lemmas.Result.{err_from_is_err_and}
 use Rattle.prima_base.specs.declared.refusal.What.TheVariants.{Inverse}
-use Rattle.smo_types.specs.Operators.{operator_of}
-use Rattle.smo_meaning.specs.Counts.{operator_counts}
-use Rattle.smo_meaning.proofs.Firsts.{first_after}
-use Rattle.smo_meaning.proofs.CountLaws.{limited_before, limited_above, limited_within}
+use Rattle.smo_ops_types.specs.Operators.{operator_of}
+use Rattle.smo_ops_spec.specs.Counts.{operator_counts}
+use Rattle.smo_ops_spec.proofs.Firsts.{first_after}
+use Rattle.smo_ops_spec.proofs.CountLaws.{limited_before, limited_above, limited_within}
 use Rattle.smo_ops.proofs.count.check_evolve.Goals as goal
 
 pub returns-in_err-check_each_op-clause-counts : goal.returns-in_err-check_each_op-clause-counts

@@ -1,8 +1,8 @@
 use Rattle.std.proofs.Common.{◌≡◌, drop}
-use Rattle.smo_types.specs.Changes.{sets_of}
-use Rattle.smo_meaning.specs.First.{first_refusal}
-use Rattle.smo_meaning.specs.Counts.{set_counts}
-use Rattle.smo_meaning.specs.ValidValues.{SetsHold}
+use Rattle.smo_ops_types.specs.Changes.{sets_of}
+use Rattle.smo_ops_spec.specs.First.{first_refusal}
+use Rattle.smo_ops_spec.specs.Counts.{set_counts}
+use Rattle.smo_ops_spec.specs.ValidValues.{SetsHold}
 use Rattle.smo_ops.proofs.count.check_sets.Given as goal
 
 abbrev pub invariant-loop-expr : goal.invariant-loop-expr

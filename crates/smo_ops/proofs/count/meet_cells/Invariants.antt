@@ -1,5 +1,5 @@
 use Rattle.std.proofs.Common.{drop}
-use Rattle.smo_meaning.specs.ValidValues.{CellsHold}
+use Rattle.smo_ops_spec.specs.ValidValues.{CellsHold}
 use Rattle.smo_ops.proofs.count.meet_cells.Given as goal
 
 abbrev pub invariant-loop-value : goal.invariant-loop-value

@@ -1,5 +1,5 @@
 use Rattle.std.proofs.Common.{◌≡◌, drop}
-use Rattle.smo_meaning.specs.OneRow.{given}
+use Rattle.smo_ops_spec.specs.OneRow.{given}
 use Rattle.smo_ops.proofs.effect.given_value.Given as goal
 
 abbrev pub invariant-loop-column : goal.invariant-loop-column

@@ -1,7 +1,7 @@
 use Rattle.std.proofs.Common.{◌≡◌, All, map, take}
 use Rattle.prima_base.specs.Columns.{IsValid}
 use Rattle.prima_base.specs.Order.{shown, IsBorrowed}
-use Rattle.smo_meaning.specs.OneRow.{row_of}
+use Rattle.smo_ops_spec.specs.OneRow.{row_of}
 use Rattle.smo_ops.proofs.effect.inserted_row.Given as goal
 
 abbrev pub invariant-loop-column : goal.invariant-loop-column

@@ -3,7 +3,7 @@ use Rattle.std.specs.Ordering.{eq_by_cmp}
 use Rattle.std.proofs.lemmas.List.Filters.{dedup_is}
 use Rattle.prima_base.specs.Order.{row_cmp}
 use Rattle.prima_base.specs.OrderLaws.{row_total, row_eq_equiv, row_exact}
-use Rattle.smo_meaning.proofs.SortLaws.{sorted_set}
+use Rattle.smo_ops_spec.proofs.SortLaws.{sorted_set}
 use Rattle.smo_ops.proofs.effect.make_set.Goals as goal
 
 pub returns : goal.returns

@@ -3,7 +3,7 @@ use Rattle.std.specs.Prelude.{All}
 use Rattle.prima_base.specs.declared.value.Val.{Val}
 use Rattle.prima_base.specs.Columns.{IsValid}
 use Rattle.prima_base.specs.Order.{shown}
-use Rattle.smo_types.specs.Changes.{sets_of}
+use Rattle.smo_ops_types.specs.Changes.{sets_of}
 use Rattle.smo_ops.proofs.EffectLaws.{values_replaced, valid_replaced, each_valid}
 use Rattle.smo_ops.proofs.effect.row_with_sets.Goals as goal
 

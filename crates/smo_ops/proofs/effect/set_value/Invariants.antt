@@ -1,8 +1,8 @@
 use Rattle.std.proofs.Common.{◌≡◌, List, map, drop}
 use Rattle.prima_base.specs.Columns.{Column}
 use Rattle.prima_base.specs.Order.{shown}
-use Rattle.smo_meaning.specs.OneRow.{set_value}
-use Rattle.smo_types.specs.Changes.{sets_of}
+use Rattle.smo_ops_spec.specs.OneRow.{set_value}
+use Rattle.smo_ops_types.specs.Changes.{sets_of}
 use Rattle.smo_ops.proofs.effect.set_value.Given as goal
 
 abbrev pub invariant-loop-column : goal.invariant-loop-column

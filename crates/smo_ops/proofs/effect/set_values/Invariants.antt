@@ -6,8 +6,8 @@ use Rattle.prima_base.specs.declared.value.Val.{Val}
 use Rattle.prima_base.specs.Columns.{Column, IsValid}
 use Rattle.prima_base.specs.Order.{shown}
 use Rattle.schema_catalog.specs.Databases.{cell}
-use Rattle.smo_meaning.specs.OneRow.{set_value}
-use Rattle.smo_types.specs.Changes.{sets_of}
+use Rattle.smo_ops_spec.specs.OneRow.{set_value}
+use Rattle.smo_ops_types.specs.Changes.{sets_of}
 use Rattle.smo_ops.proofs.effect.set_values.Given as goal
 
 abbrev pub invariant-loop-name : goal.invariant-loop-name

@@ -2,7 +2,7 @@ use Rattle.std.proofs.Common.{◌∙◌}
 use Rattle.std.proofs.lemmas.Result.{err_from_is_err_and}
 use Rattle.cond_expr.specs.Seen.{tree, test}
 use Rattle.cond_expr.specs.Faults.{references, test_references}
-use Rattle.smo_meaning.specs.Checks.{reference_fault}
+use Rattle.smo_ops_spec.specs.Checks.{reference_fault}
 use Rattle.smo_ops.proofs.CheckLaws.{reference_here, reference_later, small_here}
 use Rattle.smo_ops.proofs.PassedOn.{passed_on}
 use Rattle.smo_ops.proofs.type_check.check_all_references.Goals as goal

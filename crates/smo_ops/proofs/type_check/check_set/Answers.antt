@@ -2,7 +2,7 @@ use Rattle.std.proofs.Common.{◌<◌, arith}
 use Rattle.cond_expr.specs.Seen.{tree}
 use Rattle.cond_expr.specs.Sizes.{nodes_of}
 use Rattle.cond_expr.specs.Kinds.{kinds_of}
-use Rattle.smo_meaning.proofs.Places.{place_in_tree}
+use Rattle.smo_ops_spec.proofs.Places.{place_in_tree}
 use Rattle.smo_ops.proofs.type_check.check_set.Goals as goal
 
 pub overflow_add-result-in-Err : goal.overflow_add-result-in-Err

@@ -2,8 +2,8 @@ use Rattle.std.proofs.Common.{◌+◌, ◌∙◌, arith}
 use Rattle.std.proofs.lemmas.Result.{err_from_is_err_and}
 use Rattle.cond_expr.specs.Seen.{tree}
 use Rattle.cond_expr.specs.Sizes.{nodes_of}
-use Rattle.smo_meaning.specs.Checks.{set_tests, set_faults, sets_nodes}
-use Rattle.smo_types.specs.Changes.{sets_of}
+use Rattle.smo_ops_spec.specs.Checks.{set_tests, set_faults, sets_nodes}
+use Rattle.smo_ops_types.specs.Changes.{sets_of}
 use Rattle.smo_ops.proofs.CheckLaws.{small_here, known_here, set_wrong, set_fits, nodes_here}
 use Rattle.smo_ops.proofs.PassedOn.{walked_on}
 use Rattle.smo_ops.proofs.type_check.check_sets.Goals as goal

@@ -1,10 +1,10 @@
 use Rattle.std.proofs.Common.{◌≡◌, ◌+◌, drop}
 use Rattle.std.specs.Prelude.{None}
 use Rattle.cond_expr.specs.Faults.{first_unknown}
-use Rattle.smo_types.specs.Changes.{sets_of}
-use Rattle.smo_meaning.specs.First.{first_refusal}
-use Rattle.smo_meaning.specs.OneRow.{own_kinds}
-use Rattle.smo_meaning.specs.Checks.{AreSmall, set_references, set_faults, sets_nodes}
+use Rattle.smo_ops_types.specs.Changes.{sets_of}
+use Rattle.smo_ops_spec.specs.First.{first_refusal}
+use Rattle.smo_ops_spec.specs.OneRow.{own_kinds}
+use Rattle.smo_ops_spec.specs.Checks.{AreSmall, set_references, set_faults, sets_nodes}
 use Rattle.smo_ops.proofs.type_check.check_sets.Given as goal
 
 abbrev pub invariant-loop-name : goal.invariant-loop-name

@@ -1,6 +1,6 @@
 use Rattle.std.proofs.Common.{◌≡◌, ◌+◌, ◌-◌, ◌<◌, length, arith, sym, ap, ◌∙◌}
 use Rattle.std.proofs.lemmas.Bool.Decides.{nat_tests}
-use Rattle.smo_types.specs.declared.version.Version.{Version}
+use Rattle.smo_ops_types.specs.declared.version.Version.{Version}
 use Rattle.smo_ops.proofs.BeginLaws.{begins_there}
 use Rattle.smo_ops.proofs.version.begins_at.Goals as goal
 

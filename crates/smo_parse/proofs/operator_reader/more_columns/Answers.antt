@@ -1,10 +1,10 @@
 use Rattle.std.proofs.Common.{[], ◌∷◌, ◌++◌, sym, ap, ◌∙◌, append_assoc, append-nil, codes, false}
 use Rattle.std.proofs.lemmas.Result.{err_from_is_err_and}
-use Rattle.lexical_grammar.specs.Lexemes.{is_sign}
-use Rattle.parser_combinators.specs.Reads.{ahead}
-use Rattle.parser_combinators.proofs.ReadSteps.{after, after_fails}
-use Rattle.parser_combinators.proofs.ManySteps.{many_first, many_smaller, many_next, many_done}
-use Rattle.parser_combinators.proofs.ManySteps.{many_err}
+use Rattle.lexer_spec.specs.Lexemes.{is_sign}
+use Rattle.lexer_combinators.specs.Reads.{ahead}
+use Rattle.lexer_combinators.proofs.ReadSteps.{after, after_fails}
+use Rattle.lexer_combinators.proofs.ManySteps.{many_first, many_smaller, many_next, many_done}
+use Rattle.lexer_combinators.proofs.ManySteps.{many_err}
 use Rattle.smo_parse.specs.OperatorReader.{column}
 use Rattle.smo_parse.specs.Productions.{IsColumn}
 use Rattle.smo_parse.proofs.OperatorCorrectness.{column_correct}

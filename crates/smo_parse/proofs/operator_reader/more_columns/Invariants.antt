@@ -1,8 +1,8 @@
 use Rattle.std.proofs.Common.{◌≡◌, ◌++◌, List, length, codes}
 use Rattle.prima_base.specs.Columns.{Column}
-use Rattle.lexical_grammar.specs.Lexemes.{is_sign}
-use Rattle.parser_combinators.specs.Reads.{ahead}
-use Rattle.parser_combinators.specs.Parsing.{many, prepend}
+use Rattle.lexer_spec.specs.Lexemes.{is_sign}
+use Rattle.lexer_combinators.specs.Reads.{ahead}
+use Rattle.lexer_combinators.specs.Parsing.{many, prepend}
 use Rattle.smo_parse.specs.OperatorReader.{column}
 use Rattle.smo_parse.proofs.operator_reader.more_columns.Given as goal
 

@@ -1,14 +1,14 @@
 use Rattle.std.proofs.Common.{sym, ap, ◌∙◌, subst, map, length, List}
-use Rattle.smo_types.specs.declared.op.Op.{Op}
-use Rattle.smo_types.specs.Operators.{operator_of}
-use Rattle.parser_combinators.specs.Found.{lexemes_from}
-use Rattle.lexical_grammar.specs.declared.token.Token.{Token}
-use Rattle.lexical_grammar.specs.Lexemes.{lexeme}
-use Rattle.parser_combinators.specs.Reads.{ahead, Fails}
-use Rattle.parser_combinators.proofs.Places.{length_map, got_fits, got_read, got_found, got_only}
-use Rattle.parser_combinators.proofs.Places.{got_exact, err_fits, err_found, err_only, err_exact}
-use Rattle.parser_combinators.proofs.Crossing.{got_crossing, err_crossing, err_fault, counts_read}
-use Rattle.parser_combinators.proofs.Crossing.{counts_sized}
+use Rattle.smo_ops_types.specs.declared.op.Op.{Op}
+use Rattle.smo_ops_types.specs.Operators.{operator_of}
+use Rattle.lexer_combinators.specs.Found.{lexemes_from}
+use Rattle.lexer_spec.specs.declared.token.Token.{Token}
+use Rattle.lexer_spec.specs.Lexemes.{lexeme}
+use Rattle.lexer_combinators.specs.Reads.{ahead, Fails}
+use Rattle.lexer_combinators.proofs.Places.{length_map, got_fits, got_read, got_found, got_only}
+use Rattle.lexer_combinators.proofs.Places.{got_exact, err_fits, err_found, err_only, err_exact}
+use Rattle.lexer_combinators.proofs.Crossing.{got_crossing, err_crossing, err_fault, counts_read}
+use Rattle.lexer_combinators.proofs.Crossing.{counts_sized}
 use Rattle.smo_parse.specs.Productions.{IsOperator}
 use Rattle.smo_parse.specs.OperatorReader.{operator, follow_operator}
 use Rattle.smo_parse.specs.OperatorCounts.{operator_counts, operator_crossings}

@@ -1,7 +1,7 @@
 use Rattle.std.proofs.Common.{map, None}
-use Rattle.smo_types.specs.Commands.{version_of}
-use Rattle.smo_meaning.specs.Past.{no_tables}
-use Rattle.smo_meaning.proofs.PastSteps.{beginning_is_past}
+use Rattle.smo_ops_types.specs.Commands.{version_of}
+use Rattle.smo_ops_spec.specs.Past.{no_tables}
+use Rattle.smo_ops_spec.proofs.PastSteps.{beginning_is_past}
 use Rattle.store_image.proofs.WrittenParts.{all_writable}
 use Rattle.store_image.proofs.image_of_store.image_counted.Goals as goal
 

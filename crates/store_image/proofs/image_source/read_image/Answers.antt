@@ -1,6 +1,6 @@
 use Rattle.std.proofs.Common.{[], ap}
-use Rattle.image_spelling.specs.Images.{Image}
-use Rattle.image_reader.specs.Seen.{image_seen}
+use Rattle.store_image_spec.specs.Images.{Image}
+use Rattle.store_image_reader.specs.Seen.{image_seen}
 use Rattle.store_image.proofs.image_source.read_image.Goals as goal
 
 pub restored-requires-clause-valid : goal.restored-requires-clause-valid

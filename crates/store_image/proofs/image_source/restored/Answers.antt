@@ -1,10 +1,10 @@
 use Rattle.std.proofs.Common.{◌≡◌, map, ap, sym, subst, ◌∙◌, List}
-use Rattle.smo_types.specs.Commands.{version_of, versions_of}
-use Rattle.smo_types.specs.declared.version.Version.{Version}
-use Rattle.lifelines.specs.Lifelines.{lifelines_of, lifeline_columns}
-use Rattle.image_spelling.specs.Images.{IsImage}
-use Rattle.image_spelling.specs.ShownPast.{image_past}
-use Rattle.image_reader.specs.Seen.{image_seen}
+use Rattle.smo_ops_types.specs.Commands.{version_of, versions_of}
+use Rattle.smo_ops_types.specs.declared.version.Version.{Version}
+use Rattle.smo_ops_versions_spec.specs.Lifelines.{lifelines_of, lifeline_columns}
+use Rattle.store_image_spec.specs.Images.{IsImage}
+use Rattle.store_image_spec.specs.ShownPast.{image_past}
+use Rattle.store_image_reader.specs.Seen.{image_seen}
 use Rattle.version_groups.specs.Restoring.{IsPastOf}
 use Rattle.store_image.specs.ImageIn.{image_in, bare}
 use Rattle.store_image.proofs.RestoredImages.{all_made, some_cells, enough_lines, same_columns}

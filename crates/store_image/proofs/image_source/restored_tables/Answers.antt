@@ -6,8 +6,8 @@ use Rattle.std.proofs.lemmas.List.{length_push}
 use Rattle.std.specs.Iterator.Adapters.{zip_first, zip_second}
 use Rattle.std.specs.Slice.Iter.{iter_rest}
 use Rattle.std.specs.Vec.Iter.{into_iter_items, into_iter_len}
-use Rattle.image_spelling.specs.Images.{store_of}
-use Rattle.image_reader.specs.Seen.{line_seen, stored_seen, lines_seen}
+use Rattle.store_image_spec.specs.Images.{store_of}
+use Rattle.store_image_reader.specs.Seen.{line_seen, stored_seen, lines_seen}
 use Rattle.store_image.specs.ImageIn.{bare, CanAllBeMade}
 use Rattle.store_image.proofs.RestoredTables.{next_line, next_made, table_more, all_restored}
 use Rattle.store_image.proofs.image_source.restored_tables.Goals as goal

@@ -1,6 +1,6 @@
 use Rattle.std.proofs.Common.{◌≡◌, ◌++◌, map, length, drop}
-use Rattle.image_spelling.specs.Images.{store_of}
-use Rattle.image_reader.specs.Seen.{line_seen, lines_seen}
+use Rattle.store_image_spec.specs.Images.{store_of}
+use Rattle.store_image_reader.specs.Seen.{line_seen, lines_seen}
 use Rattle.store_image.specs.ImageIn.{bare, CanAllBeMade}
 use Rattle.store_image.proofs.image_source.restored_tables.Given as goal
 

@@ -1,7 +1,7 @@
 use Rattle.std.proofs.Common.{◌≡◌, ◌+◌, map, drop}
 use Rattle.std.specs.Prelude.{Some}
-use Rattle.smo_meaning.specs.First.{first_refusal}
-use Rattle.query_meaning.specs.Checking.{arities_from}
+use Rattle.smo_ops_spec.specs.First.{first_refusal}
+use Rattle.temporal_lang_spec.specs.Checking.{arities_from}
 use Rattle.temporal_lang.specs.Typings.{kind_lists}
 use Rattle.temporal_lang.proofs.arity.check_others.Given as goal
 

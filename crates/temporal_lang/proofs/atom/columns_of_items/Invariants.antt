@@ -1,6 +1,6 @@
 use Rattle.std.proofs.Common.{◌≡◌, ◌++◌, drop}
 use Rattle.cond_expr.specs.AtomColumns.{atoms_from}
-use Rattle.plain_answers.specs.Branches.{item_columns}
+use Rattle.plain_answers_spec.specs.Branches.{item_columns}
 use Rattle.temporal_lang.proofs.atom.columns_of_items.Given as goal
 
 abbrev pub invariant-loop-i : goal.invariant-loop-i

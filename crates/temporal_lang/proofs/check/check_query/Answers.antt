@@ -1,12 +1,12 @@
 use Rattle.std.proofs.Common.{◌≡◌, ◌∙◌, sym, ap, subst}
 use Rattle.std.proofs.lemmas.Result.{err_from_is_err_and}
-use Rattle.smo_meaning.specs.First.{first_refusal}
-use Rattle.query_types.specs.Branches.{branches_of, IsQuery}
-use Rattle.query_types.specs.Queries.{query_of, a_query}
-use Rattle.query_meaning.specs.Atoms.{branches_with_atoms}
-use Rattle.query_meaning.specs.Checking.{names_tests, typing_tests, period_tests, query_fault}
-use Rattle.query_meaning.specs.Resolved.{HaveFew, AllSmall, AllKnown}
-use Rattle.query_meaning.proofs.BranchLaws.{all_known, query_small, still_small, still_few}
+use Rattle.smo_ops_spec.specs.First.{first_refusal}
+use Rattle.temporal_lang_types.specs.Branches.{branches_of, IsQuery}
+use Rattle.temporal_lang_types.specs.Queries.{query_of, a_query}
+use Rattle.temporal_lang_spec.specs.Atoms.{branches_with_atoms}
+use Rattle.temporal_lang_spec.specs.Checking.{names_tests, typing_tests, period_tests, query_fault}
+use Rattle.temporal_lang_spec.specs.Resolved.{HaveFew, AllSmall, AllKnown}
+use Rattle.temporal_lang_spec.proofs.BranchLaws.{all_known, query_small, still_small, still_few}
 use Rattle.temporal_lang.proofs.CheckLaws.{names_first, typing_next, periods_last, both_ways}
 use Rattle.temporal_lang.proofs.CheckLaws.{stop_checked, stop_accepted, stop_refused}
 use Rattle.temporal_lang.proofs.CheckLaws.{still_few_branches, still_query}

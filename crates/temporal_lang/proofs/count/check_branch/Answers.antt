@@ -2,10 +2,10 @@ use Rattle.std.proofs.Common.{sym, ap, ◌∷◌, ◌∙◌, length, map, arith}
 use Rattle.std.proofs.lemmas.Result.{err_from_is_err_and}
 use Rattle.prima_base.specs.declared.refusal.What.TheVariants.{Tables}
 use Rattle.cond_expr.specs.Seen.{tree, test}
-use Rattle.smo_meaning.specs.First.{first_refusal}
-use Rattle.smo_meaning.specs.Counts.{at_most, test_counts}
-use Rattle.smo_meaning.proofs.Firsts.{first_after, first_before, first_at, first_later}
-use Rattle.query_meaning.specs.Checking.{output_counts}
+use Rattle.smo_ops_spec.specs.First.{first_refusal}
+use Rattle.smo_ops_spec.specs.Counts.{at_most, test_counts}
+use Rattle.smo_ops_spec.proofs.Firsts.{first_after, first_before, first_at, first_later}
+use Rattle.temporal_lang_spec.specs.Checking.{output_counts}
 use Rattle.temporal_lang.proofs.CountLaws.{above_limit, within_limit}
 use Rattle.temporal_lang.proofs.count.check_branch.Goals as goal
 

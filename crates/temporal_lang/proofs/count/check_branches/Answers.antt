@@ -1,8 +1,8 @@
 use Rattle.std.proofs.lemmas.Result.{err_from_is_err_and}
 use Rattle.prima_base.specs.declared.refusal.What.TheVariants.{Branches}
-use Rattle.query_types.specs.Branches.{branch_of}
-use Rattle.query_meaning.specs.Checking.{branch_counts}
-use Rattle.smo_meaning.proofs.CountLaws.{limited_before, limited_above, limited_within}
+use Rattle.temporal_lang_types.specs.Branches.{branch_of}
+use Rattle.temporal_lang_spec.specs.Checking.{branch_counts}
+use Rattle.smo_ops_spec.proofs.CountLaws.{limited_before, limited_above, limited_within}
 use Rattle.temporal_lang.proofs.count.check_branches.Goals as goal
 
 pub returns-in_err-check_each_branch : goal.returns-in_err-check_each_branch

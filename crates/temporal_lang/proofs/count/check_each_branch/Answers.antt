@@ -1,8 +1,8 @@
 use Rattle.std.proofs.Common.{sym, ◌∙◌}
 use Rattle.std.proofs.lemmas.Result.{err_from_is_err_and}
-use Rattle.smo_meaning.proofs.Firsts.{tests_more, tests_stop}
-use Rattle.query_types.specs.Branches.{branch_of}
-use Rattle.query_meaning.specs.Checking.{branch_counts}
+use Rattle.smo_ops_spec.proofs.Firsts.{tests_more, tests_stop}
+use Rattle.temporal_lang_types.specs.Branches.{branch_of}
+use Rattle.temporal_lang_spec.specs.Checking.{branch_counts}
 use Rattle.temporal_lang.proofs.count.check_each_branch.Goals as goal
 
 pub returns-in_err-check_branch : goal.returns-in_err-check_branch

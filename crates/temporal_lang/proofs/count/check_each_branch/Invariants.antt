@@ -1,8 +1,8 @@
 use Rattle.std.proofs.Common.{◌≡◌, drop}
 use Rattle.std.specs.List.{flat_map}
-use Rattle.smo_meaning.specs.First.{first_refusal}
-use Rattle.query_types.specs.Branches.{branches_of}
-use Rattle.query_meaning.specs.Checking.{branch_counts}
+use Rattle.smo_ops_spec.specs.First.{first_refusal}
+use Rattle.temporal_lang_types.specs.Branches.{branches_of}
+use Rattle.temporal_lang_spec.specs.Checking.{branch_counts}
 use Rattle.temporal_lang.proofs.count.check_each_branch.Given as goal
 
 abbrev pub invariant-loop-branch : goal.invariant-loop-branch

@@ -1,8 +1,8 @@
 use Rattle.std.proofs.Common.{◌≡◌, map, drop}
 use Rattle.std.specs.List.{flat_map}
 use Rattle.cond_expr.specs.Seen.{tree}
-use Rattle.smo_meaning.specs.First.{first_refusal}
-use Rattle.smo_meaning.specs.Counts.{tree_counts}
+use Rattle.smo_ops_spec.specs.First.{first_refusal}
+use Rattle.smo_ops_spec.specs.Counts.{tree_counts}
 use Rattle.temporal_lang.proofs.count.check_outputs.Given as goal
 
 abbrev pub invariant-loop-out : goal.invariant-loop-out

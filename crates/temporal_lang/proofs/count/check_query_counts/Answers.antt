@@ -1,11 +1,11 @@
 use Rattle.std.proofs.Common.{sym, ap, ◌∷◌, [], ◌∙◌, length, arith}
 use Rattle.std.proofs.lemmas.Result.{err_from_is_err_and}
 use Rattle.prima_base.specs.declared.refusal.What.TheVariants.{Keeps}
-use Rattle.smo_meaning.specs.First.{first_refusal}
-use Rattle.smo_meaning.specs.Counts.{at_most}
-use Rattle.smo_meaning.proofs.Firsts.{first_after, first_before, first_alone}
-use Rattle.query_types.specs.Branches.{branches_of}
-use Rattle.query_meaning.specs.Checking.{branches_counts}
+use Rattle.smo_ops_spec.specs.First.{first_refusal}
+use Rattle.smo_ops_spec.specs.Counts.{at_most}
+use Rattle.smo_ops_spec.proofs.Firsts.{first_after, first_before, first_alone}
+use Rattle.temporal_lang_types.specs.Branches.{branches_of}
+use Rattle.temporal_lang_spec.specs.Checking.{branches_counts}
 use Rattle.temporal_lang.proofs.CountLaws.{above_limit, within_limit}
 use Rattle.temporal_lang.proofs.count.check_query_counts.Goals as goal
 

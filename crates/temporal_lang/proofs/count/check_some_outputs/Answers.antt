@@ -1,8 +1,8 @@
 use Rattle.std.proofs.lemmas.Result.{err_from_is_err_and}
 use Rattle.prima_base.specs.declared.refusal.What.TheVariants.{Outputs}
 use Rattle.cond_expr.specs.Seen.{tree}
-use Rattle.smo_meaning.specs.Counts.{tree_counts}
-use Rattle.smo_meaning.proofs.CountLaws.{limited_before, limited_above, limited_within}
+use Rattle.smo_ops_spec.specs.Counts.{tree_counts}
+use Rattle.smo_ops_spec.proofs.CountLaws.{limited_before, limited_above, limited_within}
 use Rattle.temporal_lang.proofs.count.check_some_outputs.Goals as goal
 
 pub returns-in_err-check_outputs : goal.returns-in_err-check_outputs

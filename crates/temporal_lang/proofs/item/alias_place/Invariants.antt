@@ -1,6 +1,6 @@
 use Rattle.std.proofs.Common.{◌≡◌, ◌+◌, drop}
 use Rattle.schema_catalog.specs.Tables.{Tables}
-use Rattle.query_meaning.specs.Atoms.{sources_of, place_of_alias}
+use Rattle.temporal_lang_spec.specs.Atoms.{sources_of, place_of_alias}
 use Rattle.temporal_lang.proofs.item.alias_place.Given as goal
 
 abbrev pub invariant-loop-i : goal.invariant-loop-i

@@ -1,7 +1,7 @@
 use Rattle.std.proofs.Common.{◌≡◌, take, drop}
-use Rattle.smo_meaning.specs.First.{first_refusal}
-use Rattle.query_types.specs.Branches.{aliases_of}
-use Rattle.query_meaning.specs.Checking.{item_tests, items_after}
+use Rattle.smo_ops_spec.specs.First.{first_refusal}
+use Rattle.temporal_lang_types.specs.Branches.{aliases_of}
+use Rattle.temporal_lang_spec.specs.Checking.{item_tests, items_after}
 use Rattle.temporal_lang.proofs.item.check_items.Given as goal
 
 abbrev pub invariant-loop-i : goal.invariant-loop-i

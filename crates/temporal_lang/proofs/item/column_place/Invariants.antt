@@ -1,5 +1,5 @@
 use Rattle.std.proofs.Common.{◌≡◌, ◌+◌, drop}
-use Rattle.query_meaning.specs.Atoms.{sources_of, place_of_column}
+use Rattle.temporal_lang_spec.specs.Atoms.{sources_of, place_of_column}
 use Rattle.temporal_lang.proofs.item.column_place.Given as goal
 
 abbrev pub invariant-loop-i : goal.invariant-loop-i

@@ -1,6 +1,6 @@
 use Rattle.std.proofs.Common.{◌≡◌, ◌≤◌, ◌+◌, drop}
-use Rattle.query_meaning.specs.Atoms.{sources_of}
-use Rattle.query_meaning.specs.Checking.{holders}
+use Rattle.temporal_lang_spec.specs.Atoms.{sources_of}
+use Rattle.temporal_lang_spec.specs.Checking.{holders}
 use Rattle.temporal_lang.proofs.item.holders_of.Given as goal
 
 abbrev pub invariant-loop-table : goal.invariant-loop-table

@@ -1,12 +1,12 @@
 use Rattle.std.proofs.Common.{sym, ap, ◌∙◌, get_or, arith, Some}
 use Rattle.prima_base.specs.declared.refusal.Refusal.TheVariants.{NoColumn, NoTable}
 use Rattle.prima_base.specs.Columns.{names_of}
-use Rattle.smo_meaning.specs.First.{unless}
-use Rattle.smo_meaning.specs.Effects.{columns_of}
-use Rattle.smo_meaning.specs.Preconditions.{among}
-use Rattle.plain_answers.specs.Branches.{Item}
-use Rattle.query_meaning.specs.Atoms.{source_of, has_alias}
-use Rattle.query_meaning.specs.Checking.{column_fault}
+use Rattle.smo_ops_spec.specs.First.{unless}
+use Rattle.smo_ops_spec.specs.Effects.{columns_of}
+use Rattle.smo_ops_spec.specs.Preconditions.{among}
+use Rattle.plain_answers_spec.specs.Branches.{Item}
+use Rattle.temporal_lang_spec.specs.Atoms.{source_of, has_alias}
+use Rattle.temporal_lang_spec.specs.Checking.{column_fault}
 use Rattle.temporal_lang.proofs.PlaceLaws.{nowhere, somewhere}
 use Rattle.temporal_lang.proofs.name.check_alias.Goals as goal
 

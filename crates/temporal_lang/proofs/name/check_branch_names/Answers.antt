@@ -1,14 +1,14 @@
 use Rattle.std.proofs.Common.{sym, ap, subst, ◌≡◌, ◌++◌, ◌∙◌, map}
 use Rattle.std.specs.Prelude.{None}
 use Rattle.std.proofs.lemmas.Result.{err_from_is_err_and}
-use Rattle.smo_meaning.specs.Checks.{Fault}
-use Rattle.smo_meaning.specs.First.{first_refusal}
-use Rattle.smo_meaning.proofs.Firsts.{first_after, first_before}
-use Rattle.query_types.specs.Branches.{branch_of}
-use Rattle.query_meaning.specs.Atoms.{sources_of}
+use Rattle.smo_ops_spec.specs.Checks.{Fault}
+use Rattle.smo_ops_spec.specs.First.{first_refusal}
+use Rattle.smo_ops_spec.proofs.Firsts.{first_after, first_before}
+use Rattle.temporal_lang_types.specs.Branches.{branch_of}
+use Rattle.temporal_lang_spec.specs.Atoms.{sources_of}
 use Rattle.prima_base.specs.Faults.{IsTested}
-use Rattle.query_meaning.specs.Checking.{item_tests, reference_test, branch_references}
-use Rattle.query_meaning.specs.Checking.{branch_names}
+use Rattle.temporal_lang_spec.specs.Checking.{item_tests, reference_test, branch_references}
+use Rattle.temporal_lang_spec.specs.Checking.{branch_names}
 use Rattle.cond_expr.specs.References.{borrowed}
 use Rattle.temporal_lang.proofs.CrossingLaws.{passed_on}
 use Rattle.temporal_lang.proofs.name.check_branch_names.Goals as goal

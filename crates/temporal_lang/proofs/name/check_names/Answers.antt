@@ -1,9 +1,9 @@
 use Rattle.std.proofs.Common.{◌∙◌}
 use Rattle.std.proofs.lemmas.Result.{err_from_is_err_and}
-use Rattle.smo_meaning.specs.First.{first_refusal}
-use Rattle.smo_meaning.proofs.Firsts.{tests_more, tests_stop}
-use Rattle.query_types.specs.Branches.{branch_of, branches_of}
-use Rattle.query_meaning.specs.Checking.{branch_names, names_tests}
+use Rattle.smo_ops_spec.specs.First.{first_refusal}
+use Rattle.smo_ops_spec.proofs.Firsts.{tests_more, tests_stop}
+use Rattle.temporal_lang_types.specs.Branches.{branch_of, branches_of}
+use Rattle.temporal_lang_spec.specs.Checking.{branch_names, names_tests}
 use Rattle.temporal_lang.proofs.CrossingLaws.{passed_on}
 use Rattle.temporal_lang.proofs.name.check_names.Goals as goal
 

@@ -1,7 +1,7 @@
 use Rattle.std.proofs.Common.{◌≡◌, drop}
-use Rattle.smo_meaning.specs.First.{first_refusal}
-use Rattle.query_types.specs.Branches.{branches_of}
-use Rattle.query_meaning.specs.Checking.{names_tests}
+use Rattle.smo_ops_spec.specs.First.{first_refusal}
+use Rattle.temporal_lang_types.specs.Branches.{branches_of}
+use Rattle.temporal_lang_spec.specs.Checking.{names_tests}
 use Rattle.temporal_lang.proofs.name.check_names.Given as goal
 
 abbrev pub invariant-loop-branch : goal.invariant-loop-branch

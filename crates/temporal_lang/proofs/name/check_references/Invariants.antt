@@ -1,7 +1,7 @@
 use Rattle.std.proofs.Common.{◌≡◌, map, drop}
-use Rattle.smo_meaning.specs.First.{first_refusal}
-use Rattle.query_meaning.specs.Atoms.{sources_of}
-use Rattle.query_meaning.specs.Checking.{reference_test}
+use Rattle.smo_ops_spec.specs.First.{first_refusal}
+use Rattle.temporal_lang_spec.specs.Atoms.{sources_of}
+use Rattle.temporal_lang_spec.specs.Checking.{reference_test}
 use Rattle.cond_expr.specs.References.{borrowed}
 use Rattle.temporal_lang.proofs.name.check_references.Given as goal
 

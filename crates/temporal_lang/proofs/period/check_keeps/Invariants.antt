@@ -1,6 +1,6 @@
 use Rattle.std.proofs.Common.{◌≡◌, map, drop}
-use Rattle.smo_meaning.specs.First.{first_refusal}
-use Rattle.query_meaning.specs.Checking.{keep_fault}
+use Rattle.smo_ops_spec.specs.First.{first_refusal}
+use Rattle.temporal_lang_spec.specs.Checking.{keep_fault}
 use Rattle.temporal_lang.proofs.period.check_keeps.Given as goal
 
 abbrev pub invariant-loop-condition : goal.invariant-loop-condition

@@ -1,6 +1,6 @@
 use Rattle.std.proofs.Common.{◌≡◌, take}
-use Rattle.query_types.specs.Branches.{branches_of}
-use Rattle.query_meaning.specs.Atoms.{branches_with_atoms}
+use Rattle.temporal_lang_types.specs.Branches.{branches_of}
+use Rattle.temporal_lang_spec.specs.Atoms.{branches_with_atoms}
 use Rattle.temporal_lang.proofs.resolution.resolve_branches.Given as goal
 
 abbrev pub invariant-loop-branch : goal.invariant-loop-branch

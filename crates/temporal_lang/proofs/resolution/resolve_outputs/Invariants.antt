@@ -1,7 +1,7 @@
 use Rattle.std.proofs.Common.{◌≡◌, map, take}
 use Rattle.cond_expr.specs.Seen.{tree}
 use Rattle.cond_expr.specs.Trees.{fill}
-use Rattle.query_meaning.specs.Atoms.{sources_of, to_atoms}
+use Rattle.temporal_lang_spec.specs.Atoms.{sources_of, to_atoms}
 use Rattle.temporal_lang.proofs.resolution.resolve_outputs.Given as goal
 
 abbrev pub invariant-loop-out : goal.invariant-loop-out

@@ -1,11 +1,11 @@
 use Rattle.std.proofs.Common.{◌≡◌, ◌∙◌, map, sym, ap, subst}
 use Rattle.std.proofs.lemmas.Result.{err_from_is_err_and}
-use Rattle.smo_meaning.specs.Checks.{Fault}
-use Rattle.smo_meaning.specs.First.{first_refusal}
-use Rattle.smo_meaning.proofs.Firsts.{first_after}
-use Rattle.query_types.specs.Branches.{branches_of}
+use Rattle.smo_ops_spec.specs.Checks.{Fault}
+use Rattle.smo_ops_spec.specs.First.{first_refusal}
+use Rattle.smo_ops_spec.proofs.Firsts.{first_after}
+use Rattle.temporal_lang_types.specs.Branches.{branches_of}
 use Rattle.prima_base.specs.Faults.{IsTested}
-use Rattle.query_meaning.specs.Checking.{types_from, typing_tests, arities, output_kinds}
+use Rattle.temporal_lang_spec.specs.Checking.{types_from, typing_tests, arities, output_kinds}
 use Rattle.temporal_lang.specs.Typings.{kind_lists}
 use Rattle.temporal_lang.proofs.BranchTypeLaws.{typing_stop}
 use Rattle.temporal_lang.proofs.type_check.check_typing.Goals as goal

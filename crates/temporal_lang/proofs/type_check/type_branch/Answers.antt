@@ -6,10 +6,10 @@ use Rattle.cond_expr.specs.Seen.{tree}
 use Rattle.cond_expr.specs.Kinds.{kinds_of}
 use Rattle.cond_expr.specs.Faults.{references, test_references, first_unknown, test_untyped}
 use Rattle.cond_expr.specs.Faults.{first_of}
-use Rattle.query_types.specs.Branches.{branch_of}
+use Rattle.temporal_lang_types.specs.Branches.{branch_of}
 use Rattle.cond_expr.specs.AtomColumns.{atoms_from}
-use Rattle.plain_answers.specs.Branches.{item_columns}
-use Rattle.query_meaning.specs.Atoms.{atom_kinds}
+use Rattle.plain_answers_spec.specs.Branches.{item_columns}
+use Rattle.temporal_lang_spec.specs.Atoms.{atom_kinds}
 use Rattle.temporal_lang.specs.Typings.{OutputsTyped, IsTypedTest}
 use Rattle.temporal_lang.proofs.TypingLaws.{known_both, branch_stop, branch_fine, branch_wrong}
 use Rattle.temporal_lang.proofs.type_check.type_branch.Goals as goal

@@ -4,9 +4,9 @@ use Rattle.prima_base.specs.declared.value.ColType.{ColType}
 use Rattle.std.specs.declared.vec.Vec.{Vec}
 use Rattle.std.specs.declared.alloc.Global.{Global}
 use Rattle.std.proofs.lemmas.Result.{err_from_is_err_and}
-use Rattle.query_types.specs.Branches.{branch_of, branches_of}
-use Rattle.query_meaning.specs.Atoms.{atom_kinds}
-use Rattle.query_meaning.specs.Checking.{output_kinds}
+use Rattle.temporal_lang_types.specs.Branches.{branch_of, branches_of}
+use Rattle.temporal_lang_spec.specs.Atoms.{atom_kinds}
+use Rattle.temporal_lang_spec.specs.Checking.{output_kinds}
 use Rattle.temporal_lang.proofs.TypingLaws.{branch_few, mapped_more}
 use Rattle.temporal_lang.proofs.BranchTypeLaws.{small_at, few_after, known_at, types_stop}
 use Rattle.temporal_lang.proofs.BranchTypeLaws.{types_more, branches_stop}

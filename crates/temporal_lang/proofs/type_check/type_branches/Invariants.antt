@@ -1,9 +1,9 @@
 use Rattle.std.proofs.Common.{◌≡◌, ◌≤◌, ◌*◌, ◌++◌, map, drop}
-use Rattle.smo_meaning.specs.First.{first_refusal}
-use Rattle.query_types.specs.Branches.{branches_of}
-use Rattle.query_meaning.specs.Checking.{types_from, output_kinds}
+use Rattle.smo_ops_spec.specs.First.{first_refusal}
+use Rattle.temporal_lang_types.specs.Branches.{branches_of}
+use Rattle.temporal_lang_spec.specs.Checking.{types_from, output_kinds}
 use Rattle.temporal_lang.specs.Typings.{kind_lists}
-use Rattle.query_meaning.specs.Resolved.{HaveFew, AllSmall, AllKnown}
+use Rattle.temporal_lang_spec.specs.Resolved.{HaveFew, AllSmall, AllKnown}
 use Rattle.temporal_lang.proofs.type_check.type_branches.Given as goal
 
 abbrev pub invariant-loop-branch : goal.invariant-loop-branch

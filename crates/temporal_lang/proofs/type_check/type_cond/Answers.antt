@@ -2,7 +2,7 @@ use Rattle.std.proofs.Common.{◌<◌, arith}
 use Rattle.cond_expr.specs.Seen.{test}
 use Rattle.cond_expr.specs.Sizes.{test_nodes}
 use Rattle.cond_expr.specs.Kinds.{kinds_of}
-use Rattle.smo_meaning.proofs.Places.{place_in_test}
+use Rattle.smo_ops_spec.proofs.Places.{place_in_test}
 use Rattle.temporal_lang.proofs.type_check.type_cond.Goals as goal
 
 pub overflow_add-result : goal.overflow_add-result

@@ -4,9 +4,9 @@ use Rattle.std.specs.List.{flat_map}
 use Rattle.cond_expr.specs.Seen.{tree}
 use Rattle.cond_expr.specs.Kinds.{kinds_of, kind_of}
 use Rattle.cond_expr.specs.Faults.{references, first_unknown}
-use Rattle.smo_meaning.specs.First.{first_refusal}
-use Rattle.query_meaning.specs.Checking.{trees_types, outputs_nodes}
-use Rattle.query_meaning.specs.Resolved.{AreSmall}
+use Rattle.smo_ops_spec.specs.First.{first_refusal}
+use Rattle.temporal_lang_spec.specs.Checking.{trees_types, outputs_nodes}
+use Rattle.temporal_lang_spec.specs.Resolved.{AreSmall}
 use Rattle.temporal_lang.proofs.type_check.type_outputs.Given as goal
 
 abbrev pub invariant-loop-out : goal.invariant-loop-out

@@ -1,6 +1,6 @@
 use Rattle.std.proofs.Common.{◌≡◌, ◌+◌, ◌≤◌, drop, length, map}
-use Rattle.smo_types.specs.Commands.{version_of}
-use Rattle.smo_meaning.specs.Past.{begun_at}
+use Rattle.smo_ops_types.specs.Commands.{version_of}
+use Rattle.smo_ops_spec.specs.Past.{begun_at}
 use Rattle.version_groups.proofs.groups.count_begun.Given as goal
 
 abbrev pub invariant-loop-version : goal.invariant-loop-version

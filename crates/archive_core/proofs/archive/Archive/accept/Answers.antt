@@ -1,10 +1,10 @@
 use Rattle.std.proofs.Common.{◌≡◌, sym, subst}
 use Rattle.std.proofs.lemmas.Result.{err_from_is_err_and}
-use Rattle.smo_types.specs.Commands.{PlainCommand}
-use Rattle.smo_meaning.specs.Past.{Past}
+use Rattle.smo_ops_types.specs.Commands.{PlainCommand}
+use Rattle.smo_ops_spec.specs.Past.{Past}
 use Rattle.version_groups.specs.Judged.{judged_command}
 use Rattle.version_groups.specs.Steps.{Prepares}
-use Rattle.archive_state.specs.ArchiveContents.{RepresentsPast}
+use Rattle.archive_core_state.specs.ArchiveContents.{RepresentsPast}
 use Rattle.archive_core.proofs.archive.Archive.accept.Goals as goal
 
 pub returns-in_err-put-clause-untouched : goal.returns-in_err-put-clause-untouched

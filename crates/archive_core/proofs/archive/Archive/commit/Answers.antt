@@ -1,11 +1,11 @@
 use Rattle.std.proofs.Common.{List, ap, sym, subst, ◌∙◌}
-use Rattle.smo_types.specs.Changes.{changes_of}
-use Rattle.smo_types.specs.Commands.{changing, PlainCommand}
-use Rattle.smo_types.specs.declared.change.Change.{Change}
+use Rattle.smo_ops_types.specs.Changes.{changes_of}
+use Rattle.smo_ops_types.specs.Commands.{changing, PlainCommand}
+use Rattle.smo_ops_types.specs.declared.change.Change.{Change}
 use Rattle.version_groups.specs.Steps.{a_command}
-use Rattle.archive_file.specs.LogRecords.{logged, record_of}
-use Rattle.archive_state.specs.AcceptedCommands.{accepted_command, IsAcceptedAfter}
-use Rattle.archive_state.proofs.Judging.{borrowed}
+use Rattle.archive_core_file_spec.specs.LogRecords.{logged, record_of}
+use Rattle.archive_core_state.specs.AcceptedCommands.{accepted_command, IsAcceptedAfter}
+use Rattle.archive_core_state.proofs.Judging.{borrowed}
 use Rattle.archive_core.specs.Fields.{standing_of, place_of, limit_of}
 use Rattle.archive_core.specs.Committing.{Commits}
 use Rattle.archive_core.proofs.archive.Archive.commit.Goals as goal

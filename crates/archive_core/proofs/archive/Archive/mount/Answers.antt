@@ -1,8 +1,8 @@
 use Rattle.std.proofs.Common.{◌≡◌, ◌≤◌, ◌+◌, List, inl, length, sym, subst, ap, ◌∙◌}
 use Rattle.journal.specs.Damage.{IsDamagedAt}
 use Rattle.journal.specs.Reading.{records_in, AreInPlace}
-use Rattle.archive_file.specs.LogRecords.{LogRecord, records_of, replayed_of}
-use Rattle.archive_file.specs.Opening.{Damages, HasFaultAt}
+use Rattle.archive_core_file_spec.specs.LogRecords.{LogRecord, records_of, replayed_of}
+use Rattle.archive_core_file_spec.specs.Opening.{Damages, HasFaultAt}
 use Rattle.archive_core.proofs.Mounted.{tell_frames, tell_damaged, tell_untouched, tell_cost}
 use Rattle.archive_core.proofs.Mounted.{tell_cost_open, stands_as, holds_as}
 use Rattle.archive_core.proofs.archive.Archive.mount.Goals as goal

@@ -1,5 +1,5 @@
 use Rattle.std.proofs.Common.{◌≡◌, ◌*◌, ◌/◌, ◌≤◌, ◌^◌}
-use Rattle.command_spelling.specs.Reading.{digits}
+use Rattle.command_codec_spec.specs.Reading.{digits}
 use Rattle.command_codec.proofs.reader.Reader.number.Given as goal
 
 abbrev pub invariant-loop-left : goal.invariant-loop-left

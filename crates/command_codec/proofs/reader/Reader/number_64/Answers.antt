@@ -1,6 +1,6 @@
 use Rattle.std.proofs.Common.{◌++◌, take, sym, ap, ◌∙◌}
 use Rattle.std.proofs.lemmas.List.{take-append-drop}
-use Rattle.command_spelling.specs.Reading.{digits}
+use Rattle.command_codec_spec.specs.Reading.{digits}
 use Rattle.command_codec.proofs.reader.Reader.number_64.Goals as goal
 
 pub returns-in-Some : goal.returns-in-Some

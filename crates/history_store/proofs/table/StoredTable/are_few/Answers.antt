@@ -1,8 +1,8 @@
 use Rattle.std.proofs.Common.{length, ap, sym, ◌∙◌}
 use Rattle.std.specs.Prelude.{nat_le}
-use Rattle.row_order.specs.Logs.{cells_of, few_of}
-use Rattle.row_order.proofs.Cutting.{length-rows_of}
-use Rattle.table_meaning.proofs.Showing.{relation_now}
+use Rattle.history_store_row_order.specs.Logs.{cells_of, few_of}
+use Rattle.history_store_row_order.proofs.Cutting.{length-rows_of}
+use Rattle.history_store_change_spec.proofs.Showing.{relation_now}
 use Rattle.history_store.proofs.table.StoredTable.are_few.Goals as goal
 
 pub returns : goal.returns

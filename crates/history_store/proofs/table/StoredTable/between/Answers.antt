@@ -1,10 +1,10 @@
 use Rattle.std.proofs.Common.{refl, sym, ◌∙◌}
-use Rattle.row_order.specs.Logs.{cells_of}
-use Rattle.row_order.proofs.Cells.{length-cells_of}
-use Rattle.table_meaning.proofs.Preparing.{all_known_in}
-use Rattle.table_meaning.proofs.Showing.{relation_now}
-use Rattle.row_order.proofs.Cutting.{ids_from}
-use Rattle.table_meaning.proofs.Making.{wide_now}
+use Rattle.history_store_row_order.specs.Logs.{cells_of}
+use Rattle.history_store_row_order.proofs.Cells.{length-cells_of}
+use Rattle.history_store_change_spec.proofs.Preparing.{all_known_in}
+use Rattle.history_store_change_spec.proofs.Showing.{relation_now}
+use Rattle.history_store_row_order.proofs.Cutting.{ids_from}
+use Rattle.history_store_change_spec.proofs.Making.{wide_now}
 use Rattle.history_store.proofs.table.StoredTable.between.Goals as goal
 
 pub count_before-end-requires-clause-narrow : goal.count_before-end-requires-clause-narrow

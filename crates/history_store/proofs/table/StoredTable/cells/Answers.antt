@@ -1,6 +1,6 @@
 use Rattle.std.proofs.Common.{sym, ◌∙◌}
-use Rattle.row_order.specs.Logs.{cells_of}
-use Rattle.table_meaning.proofs.CellCounts.{all_count}
+use Rattle.history_store_row_order.specs.Logs.{cells_of}
+use Rattle.history_store_change_spec.proofs.CellCounts.{all_count}
 use Rattle.history_store.proofs.table.StoredTable.cells.Goals as goal
 
 pub returns : goal.returns

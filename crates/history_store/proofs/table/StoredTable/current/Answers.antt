@@ -1,11 +1,11 @@
 use Rattle.std.proofs.Common.{◌≡◌, ◌∙◌, sym, List, subst}
 use Rattle.std.proofs.lemmas.Result.{IfOk-weaker}
 use Rattle.prima_base.specs.declared.value.Value.{Value}
-use Rattle.row_order.specs.Logs.{cells_of}
-use Rattle.row_order.specs.Rows.{rows_of}
+use Rattle.history_store_row_order.specs.Logs.{cells_of}
+use Rattle.history_store_row_order.specs.Rows.{rows_of}
 use Rattle.history_store.specs.Store.{IsRelation}
-use Rattle.table_meaning.proofs.Preparing.{all_known}
-use Rattle.table_meaning.proofs.Showing.{relation_now, current_relation}
+use Rattle.history_store_change_spec.proofs.Preparing.{all_known}
+use Rattle.history_store_change_spec.proofs.Showing.{relation_now, current_relation}
 use Rattle.history_store.proofs.table.StoredTable.current.Goals as goal
 
 pub copy_rows-requires : goal.copy_rows-requires

@@ -1,10 +1,10 @@
 use Rattle.std.proofs.Common.{rules, ◌≡◌, ◌<◌, Some, length, ap, sym, subst, ◌∙◌, vec_len}
 use Rattle.std.specs.Prelude.{option_map}
-use Rattle.row_order.specs.Logs.{cells_of}
+use Rattle.history_store_row_order.specs.Logs.{cells_of}
 use Rattle.history_store.specs.Store.{Cell}
-use Rattle.row_order.proofs.Cells.{length-cells_of}
-use Rattle.table_meaning.proofs.Reading.{counted}
-use Rattle.table_meaning.proofs.Showing.{count_entries}
+use Rattle.history_store_row_order.proofs.Cells.{length-cells_of}
+use Rattle.history_store_change_spec.proofs.Reading.{counted}
+use Rattle.history_store_change_spec.proofs.Showing.{count_entries}
 use Rattle.history_store.proofs.table.StoredTable.entries.Goals as goal
 
 pub index-requires : goal.index-requires

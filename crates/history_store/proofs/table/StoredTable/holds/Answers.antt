@@ -1,9 +1,9 @@
 use Rattle.std.proofs.Common.{rules, ◌≡◌, ◌≢◌, length, refl, ap, sym, ◌∙◌, arith}
 use Rattle.std.proofs.lemmas.Grind.{common_steps}
-use Rattle.row_order.specs.Logs.{cells_of}
-use Rattle.row_order.proofs.Cells.{length-cells_of}
-use Rattle.table_meaning.proofs.Preparing.{all_known}
-use Rattle.table_meaning.proofs.Reading.{not_wide, found_has, not_found, now_stays}
+use Rattle.history_store_row_order.specs.Logs.{cells_of}
+use Rattle.history_store_row_order.proofs.Cells.{length-cells_of}
+use Rattle.history_store_change_spec.proofs.Preparing.{all_known}
+use Rattle.history_store_change_spec.proofs.Reading.{not_wide, found_has, not_found, now_stays}
 use Rattle.history_store.proofs.table.StoredTable.holds.Goals as goal
 
 pub place_in-requires-clause-width : goal.place_in-requires-clause-width

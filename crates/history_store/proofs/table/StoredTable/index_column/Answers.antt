@@ -1,15 +1,15 @@
 use Rattle.std.proofs.Common.{◌≡◌, false, ◌<◌, ◌≤◌, ◌-◌, length, sym, ap, ◌∙◌, subst, vec_len}
 use Rattle.std.proofs.Common.{vec_capacity, [], ◌∷◌, ◌++◌}
-use Rattle.row_writes.specs.ValueIndexes.{indexed_columns, is_indexed, least_room, IsIndexed}
-use Rattle.row_order.specs.Logs.{cells_of, few_of}
-use Rattle.row_writes.specs.Logs.{with_index}
-use Rattle.value_order.specs.ByValue.{Distinct}
-use Rattle.row_order.proofs.Cells.{length-cells_of}
-use Rattle.row_writes.proofs.Rows.{least_up, less_up}
-use Rattle.row_writes.proofs.Carry.{still_with_index}
-use Rattle.table_meaning.proofs.Changing.{distinct_ids}
-use Rattle.table_meaning.proofs.Preparing.{all_known_in}
-use Rattle.row_writes.proofs.Others.{columns_pushed, one_pushed, least_room_push}
+use Rattle.history_store_writes.specs.ValueIndexes.{indexed_columns, is_indexed, least_room, IsIndexed}
+use Rattle.history_store_row_order.specs.Logs.{cells_of, few_of}
+use Rattle.history_store_writes.specs.Logs.{with_index}
+use Rattle.history_store_value_order.specs.ByValue.{Distinct}
+use Rattle.history_store_row_order.proofs.Cells.{length-cells_of}
+use Rattle.history_store_writes.proofs.Rows.{least_up, less_up}
+use Rattle.history_store_writes.proofs.Carry.{still_with_index}
+use Rattle.history_store_change_spec.proofs.Changing.{distinct_ids}
+use Rattle.history_store_change_spec.proofs.Preparing.{all_known_in}
+use Rattle.history_store_writes.proofs.Others.{columns_pushed, one_pushed, least_room_push}
 use Rattle.history_store.proofs.table.StoredTable.index_column.Goals as goal
 
 pub of-requires-clause-within : goal.of-requires-clause-within

@@ -2,34 +2,34 @@ use Rattle.std.proofs.Common.{rules, ◌≡◌, ◌<◌, ◌≤◌, ℕ, List, [
 use Rattle.std.proofs.Common.{vec_len, vec_capacity}
 use Rattle.std.proofs.lemmas.Grind.{common_steps}
 use Rattle.std.proofs.Math.Nat.{le_trans, min-le_left, min-le_right}
-use Rattle.relations.specs.Sets.{In}
+use Rattle.relations_spec.specs.Sets.{In}
 use Rattle.prima_base.specs.declared.value.Value.{Value}
-use Rattle.row_order.specs.Rows.{AllWidth}
-use Rattle.row_order.specs.Handing.{handed}
-use Rattle.row_writes.specs.Writing.{keys_handed}
-use Rattle.value_order.specs.ByValue.{Distinct, ids_handed}
-use Rattle.row_order.specs.Indexes.{index_of}
-use Rattle.row_writes.specs.RowRoom.{rows_room}
-use Rattle.row_order.specs.Logs.{cells_of, few_of}
-use Rattle.row_writes.specs.Logs.{AreRowsOf}
-use Rattle.row_writes.specs.ValueIndexes.{indexed_columns, indexed_after, least_room}
-use Rattle.row_order.proofs.Places.{few_placed}
-use Rattle.row_writes.proofs.Carry.{known, spare_least, spare_each, key_room, index_room}
-use Rattle.row_writes.proofs.Carry.{few_are_few}
-use Rattle.row_order.proofs.Cutting.{length-rows_of}
-use Rattle.row_order.proofs.Cells.{length-cells_of}
-use Rattle.table_meaning.proofs.Showing.{key_before}
-use Rattle.table_meaning.proofs.Valid.{is_store}
-use Rattle.table_meaning.proofs.Installing.{placed_then, relation_from, prepared_kept}
-use Rattle.table_meaning.proofs.Installing.{prepared_cells}
-use Rattle.table_meaning.proofs.Installing.{prepared_before, prepared_from, prepared_later}
-use Rattle.table_meaning.proofs.CellCounts.{still_counted}
-use Rattle.table_meaning.proofs.ValueTypes.{gained_typed}
-use Rattle.row_writes.proofs.Others.{same_columns, least_room_below, least_room_each, ready_each}
-use Rattle.table_meaning.proofs.Keeping.{ids_are_handed, all_lost, all_ready, all_new, all_fresh}
-use Rattle.table_meaning.proofs.Keeping.{all_apart, all_indexed}
-use Rattle.table_meaning.proofs.Rule.{key_count}
-use Rattle.table_meaning.proofs.Totals.{prepared_written}
+use Rattle.history_store_row_order.specs.Rows.{AllWidth}
+use Rattle.history_store_row_order.specs.Handing.{handed}
+use Rattle.history_store_writes.specs.Writing.{keys_handed}
+use Rattle.history_store_value_order.specs.ByValue.{Distinct, ids_handed}
+use Rattle.history_store_row_order.specs.Indexes.{index_of}
+use Rattle.history_store_writes.specs.RowRoom.{rows_room}
+use Rattle.history_store_row_order.specs.Logs.{cells_of, few_of}
+use Rattle.history_store_writes.specs.Logs.{AreRowsOf}
+use Rattle.history_store_writes.specs.ValueIndexes.{indexed_columns, indexed_after, least_room}
+use Rattle.history_store_row_order.proofs.Places.{few_placed}
+use Rattle.history_store_writes.proofs.Carry.{known, spare_least, spare_each, key_room, index_room}
+use Rattle.history_store_writes.proofs.Carry.{few_are_few}
+use Rattle.history_store_row_order.proofs.Cutting.{length-rows_of}
+use Rattle.history_store_row_order.proofs.Cells.{length-cells_of}
+use Rattle.history_store_change_spec.proofs.Showing.{key_before}
+use Rattle.history_store_change_spec.proofs.Valid.{is_store}
+use Rattle.history_store_change_spec.proofs.Installing.{placed_then, relation_from, prepared_kept}
+use Rattle.history_store_change_spec.proofs.Installing.{prepared_cells}
+use Rattle.history_store_change_spec.proofs.Installing.{prepared_before, prepared_from, prepared_later}
+use Rattle.history_store_change_spec.proofs.CellCounts.{still_counted}
+use Rattle.history_store_change_spec.proofs.ValueTypes.{gained_typed}
+use Rattle.history_store_writes.proofs.Others.{same_columns, least_room_below, least_room_each, ready_each}
+use Rattle.history_store_change_spec.proofs.Keeping.{ids_are_handed, all_lost, all_ready, all_new, all_fresh}
+use Rattle.history_store_change_spec.proofs.Keeping.{all_apart, all_indexed}
+use Rattle.history_store_change_spec.proofs.Rule.{key_count}
+use Rattle.history_store_change_spec.proofs.Totals.{prepared_written}
 use Rattle.history_store.proofs.table.StoredTable.install.Goals as goal
 
 -- the ids that are put into the indexes are those that are handed

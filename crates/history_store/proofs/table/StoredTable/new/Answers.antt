@@ -1,20 +1,20 @@
 use Rattle.std.proofs.Common.{◌≡◌, ◌<◌, ◌+◌, [], length, get_or, ap, sym, ◌∙◌, subst, arith}
-use Rattle.row_order.specs.Logs.{cells_of}
-use Rattle.row_writes.specs.Logs.{types_of}
+use Rattle.history_store_row_order.specs.Logs.{cells_of}
+use Rattle.history_store_writes.specs.Logs.{types_of}
 use Rattle.history_store.specs.Store.{Store, AreColumns, weight, relation_at}
-use Rattle.table_meaning.specs.Kept.{store_of}
-use Rattle.row_order.specs.Handing.{only_in, handed}
-use Rattle.table_meaning.specs.Handing.{written}
-use Rattle.table_meaning.specs.Change.{IsPrepared, keys_after, cells_after, rows_along, write_rows}
-use Rattle.table_meaning.specs.Change.{no_cells}
-use Rattle.row_writes.specs.ValueIndexes.{indexed_after}
-use Rattle.row_writes.proofs.Others.{none_after}
-use Rattle.row_order.proofs.Cells.{length-cells_of}
-use Rattle.table_meaning.proofs.CellCounts.{none_counted}
-use Rattle.table_meaning.proofs.CarriedOut.{length-new_keys}
-use Rattle.table_meaning.proofs.Beginning.{none_kept, none_before, none_now, all_gained, no_lost}
-use Rattle.table_meaning.proofs.Beginning.{first_keys, first_cells, none_weight, first_written}
-use Rattle.table_meaning.proofs.Beginning.{prepared_is}
+use Rattle.history_store_change_spec.specs.Kept.{store_of}
+use Rattle.history_store_row_order.specs.Handing.{only_in, handed}
+use Rattle.history_store_change_spec.specs.Handing.{written}
+use Rattle.history_store_change_spec.specs.Change.{IsPrepared, keys_after, cells_after, rows_along, write_rows}
+use Rattle.history_store_change_spec.specs.Change.{no_cells}
+use Rattle.history_store_writes.specs.ValueIndexes.{indexed_after}
+use Rattle.history_store_writes.proofs.Others.{none_after}
+use Rattle.history_store_row_order.proofs.Cells.{length-cells_of}
+use Rattle.history_store_change_spec.proofs.CellCounts.{none_counted}
+use Rattle.history_store_change_spec.proofs.CarriedOut.{length-new_keys}
+use Rattle.history_store_change_spec.proofs.Beginning.{none_kept, none_before, none_now, all_gained, no_lost}
+use Rattle.history_store_change_spec.proofs.Beginning.{first_keys, first_cells, none_weight, first_written}
+use Rattle.history_store_change_spec.proofs.Beginning.{prepared_is}
 use Rattle.history_store.proofs.table.StoredTable.new.Goals as goal
 
 pub invariant_of-table : goal.invariant_of-table

@@ -1,13 +1,13 @@
 use Rattle.std.proofs.Common.{rules, ◌≡◌, length, refl, sym, ap, subst, ◌∙◌}
 use Rattle.std.proofs.Math.Nat.{le_trans}
-use Rattle.row_order.specs.Rows.{AllWidth}
-use Rattle.row_order.specs.Logs.{cells_of}
-use Rattle.row_writes.specs.ValueIndexes.{indexed_columns}
-use Rattle.table_meaning.specs.Kept.{store_of}
-use Rattle.row_order.proofs.Cells.{length-cells_of}
-use Rattle.row_writes.proofs.Room.{least_rows_room}
-use Rattle.table_meaning.proofs.Making.{all_wide, made_leads, made_fits, made_gained, made_lost}
-use Rattle.table_meaning.proofs.Preparing.{all_known}
+use Rattle.history_store_row_order.specs.Rows.{AllWidth}
+use Rattle.history_store_row_order.specs.Logs.{cells_of}
+use Rattle.history_store_writes.specs.ValueIndexes.{indexed_columns}
+use Rattle.history_store_change_spec.specs.Kept.{store_of}
+use Rattle.history_store_row_order.proofs.Cells.{length-cells_of}
+use Rattle.history_store_writes.proofs.Room.{least_rows_room}
+use Rattle.history_store_change_spec.proofs.Making.{all_wide, made_leads, made_fits, made_gained, made_lost}
+use Rattle.history_store_change_spec.proofs.Preparing.{all_known}
 use Rattle.history_store.proofs.table.StoredTable.prepare.Goals as goal
 
 pub find_change-requires-clause-wide : goal.find_change-requires-clause-wide

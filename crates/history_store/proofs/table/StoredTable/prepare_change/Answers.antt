@@ -1,16 +1,16 @@
 use Rattle.std.proofs.Common.{rules, ◌≡◌, length, arith, refl, sym, ap, subst, ◌∙◌}
 use Rattle.std.proofs.Math.Nat.{le_trans}
-use Rattle.relations.specs.Sets.{In}
-use Rattle.row_order.specs.Rows.{AllWidth}
-use Rattle.row_order.specs.Logs.{cells_of}
-use Rattle.row_writes.specs.ValueIndexes.{indexed_columns}
-use Rattle.table_meaning.specs.Kept.{store_of}
-use Rattle.row_order.proofs.Cells.{length-cells_of}
-use Rattle.row_writes.proofs.Room.{least_rows_room}
-use Rattle.table_meaning.proofs.Making.{all_wide}
-use Rattle.table_meaning.proofs.Preparing.{all_known_in}
-use Rattle.table_meaning.proofs.Installing.{relation_from}
-use Rattle.table_meaning.proofs.Changing.{change_fits, change_leads, change_lost}
+use Rattle.relations_spec.specs.Sets.{In}
+use Rattle.history_store_row_order.specs.Rows.{AllWidth}
+use Rattle.history_store_row_order.specs.Logs.{cells_of}
+use Rattle.history_store_writes.specs.ValueIndexes.{indexed_columns}
+use Rattle.history_store_change_spec.specs.Kept.{store_of}
+use Rattle.history_store_row_order.proofs.Cells.{length-cells_of}
+use Rattle.history_store_writes.proofs.Room.{least_rows_room}
+use Rattle.history_store_change_spec.proofs.Making.{all_wide}
+use Rattle.history_store_change_spec.proofs.Preparing.{all_known_in}
+use Rattle.history_store_change_spec.proofs.Installing.{relation_from}
+use Rattle.history_store_change_spec.proofs.Changing.{change_fits, change_leads, change_lost}
 use Rattle.history_store.proofs.table.StoredTable.prepare_change.Goals as goal
 
 pub splice-requires-clause-lost_wide : goal.splice-requires-clause-lost_wide

@@ -1,7 +1,7 @@
 use Rattle.std.proofs.Common.{rules, ◌≡◌, ◌<◌, length, refl, arith, ◌∙◌, vec_len}
 use Rattle.std.proofs.lemmas.Grind.{common_steps}
-use Rattle.row_order.specs.Logs.{cells_of}
-use Rattle.row_writes.proofs.Others.{same_others, same_columns}
+use Rattle.history_store_row_order.specs.Logs.{cells_of}
+use Rattle.history_store_writes.proofs.Others.{same_others, same_columns}
 use Rattle.history_store.proofs.table.StoredTable.reserve_for.Goals as goal
 
 pub invariant_of-self : goal.invariant_of-self

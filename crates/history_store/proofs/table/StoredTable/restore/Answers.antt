@@ -1,11 +1,11 @@
 use Rattle.std.proofs.Common.{◌∙◌, length, refl, sym, ap, subst, arith}
 use Rattle.std.proofs.lemmas.List.{length-map}
-use Rattle.row_writes.specs.Logs.{types_of}
+use Rattle.history_store_writes.specs.Logs.{types_of}
 use Rattle.history_store.specs.Restoring.{entries_of}
-use Rattle.table_meaning.proofs.Valid.{is_store}
-use Rattle.table_meaning.proofs.ValueTypes.{entries_typed}
-use Rattle.table_meaning.proofs.Restored.{all_written, turns, counts, entries_restored}
-use Rattle.table_meaning.proofs.Restored.{restored_kept}
+use Rattle.history_store_change_spec.proofs.Valid.{is_store}
+use Rattle.history_store_change_spec.proofs.ValueTypes.{entries_typed}
+use Rattle.history_store_change_spec.proofs.Restored.{all_written, turns, counts, entries_restored}
+use Rattle.history_store_change_spec.proofs.Restored.{restored_kept}
 use Rattle.history_store.proofs.table.StoredTable.restore.Goals as goal
 
 pub restored_columns-requires-clause-turn : goal.restored_columns-requires-clause-turn

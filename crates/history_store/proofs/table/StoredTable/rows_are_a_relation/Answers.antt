@@ -1,5 +1,5 @@
-use Rattle.row_order.specs.Logs.{cells_of}
-use Rattle.table_meaning.proofs.Showing.{relation_now, current_relation}
+use Rattle.history_store_row_order.specs.Logs.{cells_of}
+use Rattle.history_store_change_spec.proofs.Showing.{relation_now, current_relation}
 use Rattle.history_store.proofs.table.StoredTable.rows_are_a_relation.Goals as goal
 
 pub returns : goal.returns

@@ -1,11 +1,11 @@
 use Rattle.std.proofs.Common.{◌≡◌, ◌+◌, ◌<◌, [], get_or, length, refl, sym, ap, ◌∙◌, subst, arith}
-use Rattle.row_order.specs.Logs.{cells_of}
-use Rattle.row_writes.specs.ValueIndexes.{Indexed, IsIndexed}
-use Rattle.table_meaning.proofs.Preparing.{all_known_in}
-use Rattle.table_meaning.proofs.Showing.{stored_at}
-use Rattle.row_writes.proofs.Others.{one_ready}
-use Rattle.table_meaning.proofs.Making.{wide_now}
-use Rattle.table_meaning.proofs.WithValue.{rows_found}
+use Rattle.history_store_row_order.specs.Logs.{cells_of}
+use Rattle.history_store_writes.specs.ValueIndexes.{Indexed, IsIndexed}
+use Rattle.history_store_change_spec.proofs.Preparing.{all_known_in}
+use Rattle.history_store_change_spec.proofs.Showing.{stored_at}
+use Rattle.history_store_writes.proofs.Others.{one_ready}
+use Rattle.history_store_change_spec.proofs.Making.{wide_now}
+use Rattle.history_store_change_spec.proofs.WithValue.{rows_found}
 use Rattle.history_store.proofs.table.StoredTable.rows_with.Goals as goal
 
 pub rows_with-requires-clause-ready : goal.rows_with-requires-clause-ready

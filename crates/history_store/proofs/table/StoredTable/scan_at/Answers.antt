@@ -1,7 +1,7 @@
 use Rattle.std.proofs.Common.{rules, ◌≡◌, ◌<◌, length, ap, sym, subst, ◌∙◌, vec_len}
-use Rattle.column_log.specs.Entries.{IsHistory}
-use Rattle.row_order.proofs.Cells.{length-cells_of}
-use Rattle.table_meaning.proofs.Reading.{here, history}
+use Rattle.history_store_columns.specs.Entries.{IsHistory}
+use Rattle.history_store_row_order.proofs.Cells.{length-cells_of}
+use Rattle.history_store_change_spec.proofs.Reading.{here, history}
 use Rattle.history_store.proofs.table.StoredTable.scan_at.Goals as goal
 
 pub index-requires : goal.index-requires

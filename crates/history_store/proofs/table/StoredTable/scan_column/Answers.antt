@@ -1,10 +1,10 @@
 use Rattle.std.proofs.Common.{rules, ◌≡◌, ◌<◌, Some, length, ap, sym, subst, ◌∙◌, vec_len}
-use Rattle.row_order.specs.Logs.{cells_of}
-use Rattle.column_log.specs.Entries.{IsHistory}
-use Rattle.row_order.proofs.Cells.{length-cells_of}
-use Rattle.table_meaning.proofs.Reading.{here, history}
-use Rattle.table_meaning.proofs.Showing.{count_entries}
-use Rattle.table_meaning.proofs.Valid.{is_store}
+use Rattle.history_store_row_order.specs.Logs.{cells_of}
+use Rattle.history_store_columns.specs.Entries.{IsHistory}
+use Rattle.history_store_row_order.proofs.Cells.{length-cells_of}
+use Rattle.history_store_change_spec.proofs.Reading.{here, history}
+use Rattle.history_store_change_spec.proofs.Showing.{count_entries}
+use Rattle.history_store_change_spec.proofs.Valid.{is_store}
 use Rattle.history_store.proofs.table.StoredTable.scan_column.Goals as goal
 
 pub index-requires : goal.index-requires

@@ -1,5 +1,5 @@
-use Rattle.row_order.specs.Logs.{cells_of}
-use Rattle.table_meaning.proofs.Valid.{is_store}
+use Rattle.history_store_row_order.specs.Logs.{cells_of}
+use Rattle.history_store_change_spec.proofs.Valid.{is_store}
 use Rattle.history_store.proofs.table.StoredTable.scan_keys.Goals as goal
 
 pub returns-clause-valid : goal.returns-clause-valid

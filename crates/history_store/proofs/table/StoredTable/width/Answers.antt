@@ -1,7 +1,7 @@
 use Rattle.std.proofs.Common.{rules, ◌≡◌, length, sym, ◌∙◌, vec_len}
-use Rattle.row_order.specs.Logs.{cells_of}
-use Rattle.row_order.proofs.Cells.{length-cells_of}
-use Rattle.table_meaning.proofs.Showing.{count_entries}
+use Rattle.history_store_row_order.specs.Logs.{cells_of}
+use Rattle.history_store_row_order.proofs.Cells.{length-cells_of}
+use Rattle.history_store_change_spec.proofs.Showing.{count_entries}
 use Rattle.history_store.proofs.table.StoredTable.width.Goals as goal
 
 pub returns-clause-columns : goal.returns-clause-columns

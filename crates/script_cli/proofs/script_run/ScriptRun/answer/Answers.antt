@@ -1,8 +1,8 @@
 use Rattle.std.proofs.Common.{ap, refl, sym, ◌∙◌, arith}
 use Rattle.std.specs.Prelude.{◌||◌}
-use Rattle.statement_response.specs.Replies.{reply}
+use Rattle.script_cli_statement.specs.Replies.{reply}
 use Rattle.script_cli.proofs.Counting.{one_put, none_put, error_put}
-use Rattle.statement_response.proofs.OnePut.{nothing_between}
+use Rattle.script_cli_statement.proofs.OnePut.{nothing_between}
 use Rattle.script_cli.proofs.script_run.ScriptRun.answer.Goals.{then-self, else-self}
 use Rattle.script_cli.proofs.script_run.ScriptRun.answer.Goals as goal
 

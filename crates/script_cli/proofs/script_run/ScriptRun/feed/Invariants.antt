@@ -1,10 +1,10 @@
 use Rattle.std.proofs.Common.{◌≡◌, false, length}
-use Rattle.piece_meaning.specs.Books.{book_of}
+use Rattle.piece_ir_spec.specs.Books.{book_of}
 use Rattle.archive_core.specs.Fields.{below}
-use Rattle.statement_response.specs.Given.{Given}
-use Rattle.statement_response.specs.Replies.{Recorded}
+use Rattle.script_cli_statement.specs.Given.{Given}
+use Rattle.script_cli_statement.specs.Replies.{Recorded}
 use Rattle.script_cli.specs.Taking.{Took}
-use Rattle.statement_response.specs.Responses.{RepresentsAt, TakesRecords}
+use Rattle.script_cli_statement.specs.Responses.{RepresentsAt, TakesRecords}
 use Rattle.script_cli.proofs.script_run.ScriptRun.feed.Given as goal
 
 abbrev pub invariant-turns : goal.invariant-turns

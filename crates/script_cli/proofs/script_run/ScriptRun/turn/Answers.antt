@@ -2,8 +2,8 @@ use Rattle.std.proofs.Common.{◌≡◌, ◌+◌, ℕ, Bool, true, false, ap, re
 use Rattle.std.specs.Prelude.{◌||◌}
 use Rattle.script_parse.specs.Script.{Whole, Skipped}
 use Rattle.script_parse.specs.Splitting.{found}
-use Rattle.statement_response.specs.declared.halt.Halt.TheVariants.{WriteFault}
-use Rattle.statement_response.proofs.OnePut.{nothing_between}
+use Rattle.script_cli_statement.specs.declared.halt.Halt.TheVariants.{WriteFault}
+use Rattle.script_cli_statement.proofs.OnePut.{nothing_between}
 use Rattle.script_cli.proofs.Taking.{took_all, took_answer, halted_answer, halted_memory, all_taken}
 use Rattle.script_cli.proofs.script_run.ScriptRun.turn.Goals as goal
 

@@ -1,11 +1,11 @@
 use Rattle.std.proofs.Common.{◌≡◌, get_or, refl, sym, ap, subst, ◌∙◌}
 use Rattle.std.specs.Prelude.{List, ℕ, length}
-use Rattle.relations.specs.Sets.{In, Ascends}
+use Rattle.relations_spec.specs.Sets.{In, Ascends}
 use Rattle.prima_base.specs.Order.{bytes_cmp}
-use Rattle.version_tables.specs.declared.made_table.MadeTable.{MadeTable}
-use Rattle.version_tables.specs.Stored.{stored_names}
-use Rattle.version_tables.specs.Places.{at_places, AreWithin}
-use Rattle.version_tables.specs.Changing.{HaveRoom, AreMade}
+use Rattle.version_groups_tables.specs.declared.made_table.MadeTable.{MadeTable}
+use Rattle.version_groups_tables.specs.Stored.{stored_names}
+use Rattle.version_groups_tables.specs.Places.{at_places, AreWithin}
+use Rattle.version_groups_tables.specs.Changing.{HaveRoom, AreMade}
 use Rattle.version_groups.specs.declared.groups.Groups.TheInside.{Inside}
 use Rattle.version_groups.specs.Groups.{Kept, newest_group}
 use Rattle.version_groups.specs.GroupFields.{groups_view}

@@ -1,7 +1,7 @@
 use Rattle.std.proofs.Common.{◌≡◌, ◌<◌, ◌+◌, List, [], ◌∷◌, length, ap, sym, subst, ◌∙◌, arith}
 use Rattle.std.proofs.lemmas.List.{length-append}
-use Rattle.smo_types.specs.declared.version.Version.{Version}
-use Rattle.smo_types.specs.Commands.{version_of}
+use Rattle.smo_ops_types.specs.declared.version.Version.{Version}
+use Rattle.smo_ops_types.specs.Commands.{version_of}
 use Rattle.version_groups.specs.Steps.{changed, evolved, step_of, IsStep}
 use Rattle.version_groups.specs.Groups.{versions_in, table_in}
 use Rattle.version_groups.specs.Installing.{HasStep}

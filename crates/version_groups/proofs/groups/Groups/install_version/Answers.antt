@@ -1,13 +1,13 @@
 use Rattle.std.proofs.Common.{◌≡◌, ◌<◌, ◌+◌, ◌++◌, length, refl, sym, ap, subst, ◌∙◌, arith}
 use Rattle.std.specs.Prelude.{List, ◌^◌, ℕ}
 use Rattle.std.specs.Global.{Vec}
-use Rattle.relations.specs.Sets.{Ascends}
+use Rattle.relations_spec.specs.Sets.{Ascends}
 use Rattle.prima_base.specs.Order.{bytes_cmp}
-use Rattle.smo_types.specs.Operators.{operator_of}
-use Rattle.version_tables.specs.declared.made_table.MadeTable.{MadeTable}
-use Rattle.version_tables.specs.Stored.{stored_names}
-use Rattle.version_tables.specs.Places.{at_places, AreWithin}
-use Rattle.version_tables.specs.Ending.{AreLiving}
+use Rattle.smo_ops_types.specs.Operators.{operator_of}
+use Rattle.version_groups_tables.specs.declared.made_table.MadeTable.{MadeTable}
+use Rattle.version_groups_tables.specs.Stored.{stored_names}
+use Rattle.version_groups_tables.specs.Places.{at_places, AreWithin}
+use Rattle.version_groups_tables.specs.Ending.{AreLiving}
 use Rattle.version_groups.specs.declared.groups.Groups.TheInside.{Inside}
 use Rattle.version_groups.specs.Groups.{Kept}
 use Rattle.version_groups.specs.GroupFields.{groups_view}

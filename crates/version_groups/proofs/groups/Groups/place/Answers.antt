@@ -1,8 +1,8 @@
 use Rattle.std.proofs.Common.{◌≡◌, ℕ, List, ap, sym, subst, ◌∙◌}
 use Rattle.std.specs.Prelude.{Option, None, MatchOption}
-use Rattle.version_tables.specs.declared.made_table.MadeTable.{MadeTable}
-use Rattle.version_tables.specs.Stored.{stored_as}
-use Rattle.version_tables.specs.Places.{at_places, IsFound}
+use Rattle.version_groups_tables.specs.declared.made_table.MadeTable.{MadeTable}
+use Rattle.version_groups_tables.specs.Stored.{stored_as}
+use Rattle.version_groups_tables.specs.Places.{at_places, IsFound}
 use Rattle.version_groups.specs.Covering.{AreOfLifelines}
 use Rattle.version_groups.specs.Groups.{Kept, places_of, stored_at, table_in}
 use Rattle.version_groups.proofs.Covered.{found_over, none_over, none_later}

@@ -1,10 +1,10 @@
 use Rattle.std.proofs.Common.{◌≡◌, ◌<◌, None, sym, subst}
 use Rattle.std.specs.Result.{IfOk}
-use Rattle.relations.specs.Spans.{forever}
-use Rattle.smo_meaning.specs.Accepts.{command_fault}
-use Rattle.smo_meaning.specs.ValidValues.{BodyHolds}
-use Rattle.smo_types.specs.Changes.{changes_of}
-use Rattle.smo_meaning.specs.Past.{newest_tables}
+use Rattle.relations_spec.specs.Spans.{forever}
+use Rattle.smo_ops_spec.specs.Accepts.{command_fault}
+use Rattle.smo_ops_spec.specs.ValidValues.{BodyHolds}
+use Rattle.smo_ops_types.specs.Changes.{changes_of}
+use Rattle.smo_ops_spec.specs.Past.{newest_tables}
 use Rattle.smo_ops.specs.TablePlaces.{StandAt}
 use Rattle.version_groups.specs.Judged.{judged_command, IsFound, IsCommandAccepted}
 use Rattle.version_groups.specs.Steps.{Prepares}

@@ -1,15 +1,15 @@
 use Rattle.std.proofs.Common.{◌≡◌, refl, sym, ap, subst, ◌∙◌, arith}
-use Rattle.relations.specs.Sets.{Ascends}
+use Rattle.relations_spec.specs.Sets.{Ascends}
 use Rattle.prima_base.specs.Order.{bytes_cmp}
 use Rattle.schema_catalog.specs.Tables.{Tables}
-use Rattle.smo_types.specs.Changes.{changes_of}
+use Rattle.smo_ops_types.specs.Changes.{changes_of}
 use Rattle.smo_ops.specs.TablePlaces.{StandAt}
-use Rattle.version_tables.specs.declared.made_table.MadeTable.{MadeTable}
-use Rattle.version_tables.specs.Stored.{stored_names}
+use Rattle.version_groups_tables.specs.declared.made_table.MadeTable.{MadeTable}
+use Rattle.version_groups_tables.specs.Stored.{stored_names}
 use Rattle.std.specs.Prelude.{List, length}
-use Rattle.version_tables.specs.Changing.{AreChangeable, AreOfSchema, AreReady, all_gained}
-use Rattle.version_tables.specs.Changing.{all_lost}
-use Rattle.version_tables.specs.Places.{at_places, AreWithin}
+use Rattle.version_groups_tables.specs.Changing.{AreChangeable, AreOfSchema, AreReady, all_gained}
+use Rattle.version_groups_tables.specs.Changing.{all_lost}
+use Rattle.version_groups_tables.specs.Places.{at_places, AreWithin}
 use Rattle.version_groups.specs.declared.groups.Groups.TheInside.{Inside}
 use Rattle.version_groups.specs.Groups.{Kept, newest_group}
 use Rattle.version_groups.specs.GroupFields.{groups_view}

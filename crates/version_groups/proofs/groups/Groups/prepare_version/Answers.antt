@@ -1,16 +1,16 @@
 use Rattle.std.proofs.Common.{◌≡◌, ◌+◌, length, None, refl, sym, ap, subst, ◌∙◌, arith}
-use Rattle.relations.specs.Sets.{Ascends}
+use Rattle.relations_spec.specs.Sets.{Ascends}
 use Rattle.prima_base.specs.Order.{bytes_cmp}
 use Rattle.schema_catalog.specs.Tables.{Tables}
 use Rattle.schema_catalog.specs.Databases.{IsDatabase}
-use Rattle.smo_meaning.specs.After.{op_fault, schema_after, IsValid}
-use Rattle.smo_types.specs.Commands.{version_of}
-use Rattle.smo_types.specs.Operators.{operator_of, operators_of}
-use Rattle.smo_meaning.specs.Past.{newest_tables, newest_database}
-use Rattle.version_tables.specs.Stored.{stored_names}
-use Rattle.version_tables.specs.Evolving.{IsEvolved}
-use Rattle.version_tables.specs.NewestTables.{AreStored}
-use Rattle.version_tables.specs.Places.{at_places, AreWithin}
+use Rattle.smo_ops_spec.specs.After.{op_fault, schema_after, IsValid}
+use Rattle.smo_ops_types.specs.Commands.{version_of}
+use Rattle.smo_ops_types.specs.Operators.{operator_of, operators_of}
+use Rattle.smo_ops_spec.specs.Past.{newest_tables, newest_database}
+use Rattle.version_groups_tables.specs.Stored.{stored_names}
+use Rattle.version_groups_tables.specs.Evolving.{IsEvolved}
+use Rattle.version_groups_tables.specs.NewestTables.{AreStored}
+use Rattle.version_groups_tables.specs.Places.{at_places, AreWithin}
 use Rattle.version_groups.specs.Groups.{Kept, newest_places, newest_group}
 use Rattle.version_groups.proofs.CarriedOut.{as_many}
 use Rattle.version_groups.proofs.GroupPlaces.{newest_places_are, newest_is}

@@ -3,12 +3,12 @@ use Rattle.std.proofs.Common.{append_assoc, ap, sym, subst}
 use Rattle.std.specs.Vec.Iter.{into_iter_items}
 use Rattle.std.proofs.lemmas.List.{map-append}
 use Rattle.schema_catalog.specs.Tables.{Tables}
-use Rattle.smo_types.specs.declared.version.Version.{Version}
-use Rattle.smo_types.specs.Commands.{version_of}
-use Rattle.smo_meaning.specs.After.{IsValid}
-use Rattle.smo_meaning.specs.ValidPast.{AreVersions}
-use Rattle.smo_meaning.specs.Past.{no_tables, newest_from}
-use Rattle.version_tables.specs.Restoring.{stores_of}
+use Rattle.smo_ops_types.specs.declared.version.Version.{Version}
+use Rattle.smo_ops_types.specs.Commands.{version_of}
+use Rattle.smo_ops_spec.specs.After.{IsValid}
+use Rattle.smo_ops_spec.specs.ValidPast.{AreVersions}
+use Rattle.smo_ops_spec.specs.Past.{no_tables, newest_from}
+use Rattle.version_groups_tables.specs.Restoring.{stores_of}
 use Rattle.version_groups.specs.Groups.{versions_in}
 use Rattle.version_groups.specs.Lifelines.{lifelines_of, lifeline_columns}
 use Rattle.version_groups.proofs.RestoredGroups.{no_versions, nothing_stored, nothing_restored}

@@ -1,11 +1,11 @@
 use Rattle.std.proofs.Common.{◌≡◌, ◌++◌, ℕ, map}
 use Rattle.std.specs.Prelude.{Option}
 use Rattle.std.specs.Vec.Iter.{into_iter_items}
-use Rattle.smo_types.specs.Commands.{version_of}
-use Rattle.smo_meaning.specs.After.{IsValid}
-use Rattle.smo_meaning.specs.ValidPast.{AreVersions}
-use Rattle.smo_meaning.specs.Past.{no_tables, newest_from}
-use Rattle.version_tables.specs.Restoring.{stores_of}
+use Rattle.smo_ops_types.specs.Commands.{version_of}
+use Rattle.smo_ops_spec.specs.After.{IsValid}
+use Rattle.smo_ops_spec.specs.ValidPast.{AreVersions}
+use Rattle.smo_ops_spec.specs.Past.{no_tables, newest_from}
+use Rattle.version_groups_tables.specs.Restoring.{stores_of}
 use Rattle.version_groups.specs.Groups.{versions_in}
 use Rattle.version_groups.specs.Restoring.{AreRestored}
 use Rattle.version_groups.proofs.groups.Groups.restore.Given as goal

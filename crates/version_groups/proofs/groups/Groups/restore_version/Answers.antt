@@ -4,20 +4,20 @@ use Rattle.std.specs.FinMap.{entries}
 use Rattle.std.specs.Vec.Iter.{into_iter_items}
 use Rattle.prima_base.specs.Columns.{Column}
 use Rattle.history_store.specs.Store.{Store}
-use Rattle.smo_types.specs.Operators.{operator_of}
-use Rattle.smo_meaning.specs.After.{IsValid}
-use Rattle.smo_meaning.specs.Past.{no_tables, newest_from}
-use Rattle.smo_meaning.specs.Touching.{makes}
-use Rattle.smo_meaning.proofs.NextSchemas.{next_is_valid}
-use Rattle.version_tables.specs.declared.made_table.MadeTable.{MadeTable}
-use Rattle.version_tables.specs.Evolving.{ComeNext}
-use Rattle.version_tables.specs.Stored.{stored_as}
-use Rattle.version_tables.specs.Places.{at_places}
-use Rattle.version_tables.specs.Restoring.{stores_of, HaveColumns, BeginsOver, HasColumns}
-use Rattle.version_tables.specs.Restoring.{OthersAre}
-use Rattle.smo_schemas.specs.Names.{is_one_of}
-use Rattle.version_tables.proofs.PlacedTables.{filter_alike}
-use Rattle.version_tables.proofs.RestoredTables.{one_of_made, come_alike}
+use Rattle.smo_ops_types.specs.Operators.{operator_of}
+use Rattle.smo_ops_spec.specs.After.{IsValid}
+use Rattle.smo_ops_spec.specs.Past.{no_tables, newest_from}
+use Rattle.smo_ops_spec.specs.Touching.{makes}
+use Rattle.smo_ops_spec.proofs.NextSchemas.{next_is_valid}
+use Rattle.version_groups_tables.specs.declared.made_table.MadeTable.{MadeTable}
+use Rattle.version_groups_tables.specs.Evolving.{ComeNext}
+use Rattle.version_groups_tables.specs.Stored.{stored_as}
+use Rattle.version_groups_tables.specs.Places.{at_places}
+use Rattle.version_groups_tables.specs.Restoring.{stores_of, HaveColumns, BeginsOver, HasColumns}
+use Rattle.version_groups_tables.specs.Restoring.{OthersAre}
+use Rattle.smo_ops_operators.specs.Names.{is_one_of}
+use Rattle.version_groups_tables.proofs.PlacedTables.{filter_alike}
+use Rattle.version_groups_tables.proofs.RestoredTables.{one_of_made, come_alike}
 use Rattle.version_groups.specs.Groups.{Kept, versions_in, newest_places, newest_group}
 use Rattle.version_groups.proofs.GroupPlaces.{newest_places_are, newest_is}
 use Rattle.version_groups.proofs.RestoredVersions.{version_again, come_again, others_stored}

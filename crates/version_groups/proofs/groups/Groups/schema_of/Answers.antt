@@ -1,6 +1,6 @@
 use Rattle.std.proofs.Common.{◌≡◌, ◌<◌, ◌-◌, suc, length, map, ap, sym, ◌∙◌, arith}
-use Rattle.smo_types.specs.Commands.{version_of}
-use Rattle.smo_meaning.specs.Past.{no_tables, tables_from}
+use Rattle.smo_ops_types.specs.Commands.{version_of}
+use Rattle.smo_ops_spec.specs.Past.{no_tables, tables_from}
 use Rattle.version_groups.specs.Groups.{Kept, versions_in}
 use Rattle.version_groups.proofs.VersionsKept.{at_nought, schema_at}
 use Rattle.version_groups.proofs.groups.Groups.schema_of.Goals as goal

@@ -1,7 +1,7 @@
 use Rattle.std.proofs.Common.{◌≡◌, ◌<◌, List, length, get_or, sym, ap, subst, ◌∙◌, arith}
 use Rattle.std.specs.Option.{unwrap_or}
-use Rattle.smo_meaning.specs.Sizes.{Size}
-use Rattle.version_tables.specs.declared.made_table.MadeTable.{MadeTable}
+use Rattle.smo_ops_spec.specs.Sizes.{Size}
+use Rattle.version_groups_tables.specs.declared.made_table.MadeTable.{MadeTable}
 use Rattle.version_groups.specs.Groups.{Kept}
 use Rattle.version_groups.specs.Sizes.{HasSize}
 use Rattle.version_groups.proofs.CarriedOut.{as_many}

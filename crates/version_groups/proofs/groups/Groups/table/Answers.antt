@@ -1,7 +1,7 @@
 use Rattle.std.proofs.Common.{ap, sym, ◌∙◌}
 use Rattle.std.specs.Option.{option_copied}
-use Rattle.version_tables.specs.Stored.{stored_as}
-use Rattle.version_tables.specs.Places.{at_places}
+use Rattle.version_groups_tables.specs.Stored.{stored_as}
+use Rattle.version_groups_tables.specs.Places.{at_places}
 use Rattle.version_groups.proofs.groups.Groups.table.Goals as goal
 
 pub returns-in_err-places : goal.returns-in_err-places

@@ -1,9 +1,9 @@
 use Rattle.std.proofs.Common.{length, map, ap, sym, ◌∙◌, arith}
 use Rattle.std.proofs.lemmas.List.{length-map}
-use Rattle.smo_types.specs.Commands.{version_of}
-use Rattle.smo_meaning.specs.ValidPast.{last_or_nought}
-use Rattle.smo_meaning.specs.Past.{begun_at}
-use Rattle.smo_meaning.proofs.PastMoments.{all_begun, few_begun}
+use Rattle.smo_ops_types.specs.Commands.{version_of}
+use Rattle.smo_ops_spec.specs.ValidPast.{last_or_nought}
+use Rattle.smo_ops_spec.specs.Past.{begun_at}
+use Rattle.smo_ops_spec.proofs.PastMoments.{all_begun, few_begun}
 use Rattle.version_groups.specs.Groups.{Kept}
 use Rattle.version_groups.proofs.groups.Groups.version_at.Goals as goal
 

@@ -1,0 +1,78 @@
+use Rattle.std.proofs.Common.{◌≡◌, ◌+◌, List, ◌∷◌, [], ◌++◌, sym, subst, refl, arith}
+use Rattle.smo_ops_types.specs.Commands.{command_of}
+use Rattle.store_image_spec.specs.ShownPast.{image_past}
+use Rattle.journal.specs.Records.{Record}
+use Rattle.journal.specs.Reading.{record_of}
+use Rattle.archive_core_state.specs.ArchiveContents.{RepresentsPast}
+use Rattle.archive_core_replay.specs.declared.record_reader.ReadRecords.{ReadRecords}
+use Rattle.archive_core_replay.specs.Reading.{AreJudged, AreKept}
+use Rattle.archive_core_replay.proofs.ReadRecords.{command_judged, kept_judged, command_kept, image_kept}
+use Rattle.archive_core_replay.proofs.ReadRecords.{other_kind}
+use Rattle.archive_core_replay.proofs.record_reader.ReadRecords.read.Goals as goal
+
+pub restored-requires : goal.restored-requires
+restored-requires c =
+    let it = c.in_ok-groups.ensures.image in (
+      image_past 0 it.0,
+      record { groups = it.4 0; last = it.3 },
+    )
+
+pub returns-then-rec-eq-CHECKPOINT-clause-read : goal.returns-then-rec-eq-CHECKPOINT-clause-read
+returns-then-rec-eq-CHECKPOINT-clause-read c =
+    let it = c.in_ok-groups.ensures.image in
+    let kind : c.args.rec.now.kind ≡ 2 = grind (arith, c.if-rec-eq-CHECKPOINT.true) in
+    let new : ReadRecords = record {
+      state = c.restored.result;
+      commands = c.new.result;
+      count =
+          c.args.self.now.count;
+    } in
+    let kept : (records : List Record) → AreJudged records c.args.self.now.count
+    → AreKept (records ++ record_of c.args.rec.now ∷ []) new = λ records judged.
+    image_kept records c.args.self.now.count judged new (record_of c.args.rec.now) it.0
+    (λ i. (kind i, it.2 i)) it.1
+    (λ n. subst (λ s. RepresentsPast s (image_past n it.0)) (sym c.restored.ensures)
+    (record { groups = it.4 n; last = it.3 })) c.new.ensures.items refl in
+    record {
+      judged = λ known records judged. kept_judged (records ++ record_of c.args.rec.now ∷ []) new
+          (kept records judged);
+      image = λ is records judged. kept records judged;
+      kept = λ after known records is. kept records (kept_judged records c.args.self.now is);
+    }
+
+pub returns-then-not-is_after-clause-read : goal.returns-then-not-is_after-clause-read
+returns-then-not-is_after-clause-read c =
+    let spells = c.in_ok-judge_command.ensures.command in
+    let no_image : c.args.rec.now.kind ≡ 2 → ⊥ = λ is.
+    grind (arith, c.if-rec-eq-CHECKPOINT.false, is) in
+    record {
+      judged = λ known records judged.
+          let kind : c.args.rec.now.kind ≡ 1 = other_kind c.args.rec.now.kind known no_image in
+          command_judged records c.args.self.now.count judged (record_of c.args.rec.now) spells.0
+          (λ i. (kind i, spells.1.1 i)) spells.1.0;
+      image = λ is records judged. absurd (no_image is);
+      kept = λ after known records is. absurd (cc (after, c.if-not-is_after.true));
+    }
+
+pub returns-clause-read : goal.returns-clause-read
+returns-clause-read c =
+    let spells = c.in_ok-command.ensures.command in
+    let no_image : c.args.rec.now.kind ≡ 2 → ⊥ = λ is.
+    grind (arith, c.if-rec-eq-CHECKPOINT.false, is) in
+    let new : ReadRecords = record {
+      state = c.args.self.now.state;
+      commands = c.push.new.self;
+      count = c.args.self.now.count + 1;
+    } in
+    record {
+      judged = λ known records judged.
+          let kind : c.args.rec.now.kind ≡ 1 = other_kind c.args.rec.now.kind known no_image in
+          command_judged records c.args.self.now.count judged (record_of c.args.rec.now)
+          (command_of c.in_ok-command.command) (λ i. (kind i, spells.1 i)) spells.0;
+      image = λ is records judged. absurd (no_image is);
+      kept = λ after known records kept.
+          let kind : c.args.rec.now.kind ≡ 1 = other_kind c.args.rec.now.kind known no_image in
+          command_kept records c.args.self.now new kept (record_of c.args.rec.now)
+          c.in_ok-command.command (λ i. (kind i, spells.1 i)) spells.0 refl
+          c.in_ok-push.ensures.items refl;
+    }

@@ -1,0 +1,188 @@
+//! Whether a command is accepted: the first refusal in the one order, and else what was found on
+//! the way.
+
+ghost use Rattle.std.specs.Prelude.{◌≡◌, ◌≤◌, length, nat_lt, IfOk, OnOk, None};
+ghost use Rattle.std.specs.Option.{option_map};
+ghost use Rattle.prima_base.specs.Faults.{IsTested, IsTestedAs};
+ghost use Rattle.prima_base.specs.declared.refusal.What.TheVariants.{Versions};
+ghost use Rattle.prima_base.specs.declared.refusal.Refusal.TheVariants.{TooMany};
+ghost use Rattle.prima_base.specs.Limits.{max_versions};
+ghost use Rattle.smo_ops_spec.specs.First.{unless, first_refusal};
+ghost use Rattle.smo_ops_types.specs.Commands.{evolving, body_of, command_of};
+ghost use Rattle.smo_ops_types.specs.Operators.{Operator, operator_of, operators_of};
+ghost use Rattle.smo_ops_spec.specs.Counts.{first_excess};
+ghost use Rattle.smo_ops_spec.specs.After.{op_fault, schema_after, HasFewNodes, HaveFewNodes};
+ghost use Rattle.smo_ops_spec.specs.ValidValues.{BodyHolds};
+ghost use Rattle.smo_ops_spec.specs.Inverses.{inverse_fault};
+ghost use Rattle.smo_ops_spec.specs.Accepts.{operator_refusal, count_fault, stamp_fault, body_tests};
+ghost use Rattle.smo_ops_spec.specs.Accepts.{command_fault};
+ghost use Rattle.smo_ops_spec.specs.Past.{Past, newest_tables};
+ghost use Rattle.version_groups.specs.Representation.{Represents};
+ghost use Rattle.version_groups.specs.Steps.{a_command};
+ghost use Rattle.archive_core_state.specs.AcceptedCommands.{accepted_command, HasFound};
+ghost use Rattle.archive_core_state.specs.AcceptedCommands.{IsAcceptedAfter};
+
+use crate::{AcceptedCommand, CommandFault};
+use prima_base::limits::MAX_VERSIONS;
+use prima_base::{Refusal, What};
+use schema_catalog::Schema;
+use smo_ops::{
+    Body, Command, InverseFault, Op, OpFault, Version, after, check_changes, check_counts,
+    check_way_back, counted_operators_are_few, operator_refusal,
+};
+use std::alloc::Global;
+use version_groups::Groups;
+
+// The counts of the command are within their limits.
+fn judge_counts(command: &Command) -> Result<(), CommandFault>
+    ensures counts { IsTested (count_fault (first_excess (body_of command.now.1))) result }
+    ensures constants { OnOk result (BodyHolds (body_of command.now.1)) }
+{
+    match check_counts(command) {
+        Ok(()) => Ok(()),
+        Err((what, limit)) => Err(CommandFault::Refused(Refusal::TooMany(what, limit))),
+    }
+}
+
+// The stamp is above the last one.
+fn judge_stamp(last: Option<u64>, stamp: u64) -> Result<(), CommandFault>
+    ensures { IsTested (stamp_fault last stamp) result }
+{
+    match last {
+        Some(last) if stamp <= last => {
+            Err(CommandFault::Refused(Refusal::StampNotLater(stamp, last)))
+        }
+        _ => Ok(()),
+    }
+}
+
+// There is room for one version more.
+fn judge_versions(newest: u32) -> Result<(), CommandFault>
+    ensures { IsTested (unless (nat_lt newest max_versions) (TooMany Versions max_versions))
+        result }
+{
+    if (newest as usize) < MAX_VERSIONS {
+        return Ok(());
+    }
+    Err(CommandFault::Refused(Refusal::TooMany(What::Versions, MAX_VERSIONS as u64)))
+}
+
+// The preconditions of the operator; the schema after it.
+fn judge_operator(alloc: Global, schema: &Schema, op: &Op) -> Result<Schema, CommandFault>
+    requires { HasFewNodes (operator_of op.now) }
+    ensures tested { IsTested (option_map operator_refusal
+        (op_fault schema.now (operator_of op.now))) result }
+    ensures next { IfOk result (λ next. next ≡ schema_after schema.now (operator_of op.now)) }
+{
+    match after(alloc, schema, op) {
+        Ok(next) => Ok(next),
+        Err(OpFault::Refused(refusal)) => Err(CommandFault::Refused(operator_refusal(refusal))),
+        Err(OpFault::NoMemory) => Err(CommandFault::NoMemory),
+    }
+}
+
+// The inverse leads back, from the schema after the operator to the one before it.
+fn judge_inverse(
+    alloc: Global,
+    before: &Schema,
+    next: &Schema,
+    inverse: &[Op],
+) -> Result<(), CommandFault>
+    requires inverse { HaveFewNodes (operators_of inverse.now) }
+    requires few { length inverse.now ≤ 8 }
+    ensures { (op : Operator) → next.now ≡ schema_after before.now op
+        → IsTested (inverse_fault before.now op (operators_of inverse.now)) result }
+{
+    match check_way_back(alloc, before, next, inverse) {
+        Ok(()) => Ok(()),
+        Err(InverseFault::Op(number, refusal)) => {
+            Err(CommandFault::Refused(Refusal::InverseOp(number as u32, refusal)))
+        }
+        Err(InverseFault::Misses(name)) => Err(CommandFault::Refused(Refusal::InverseMisses(name))),
+        Err(InverseFault::NoMemory) => Err(CommandFault::NoMemory),
+    }
+}
+
+// An operator and its inverse; the schema after it.
+#[tactic(auto, using(crate::proofs::Judging::few_operators))]
+fn judge_evolve(
+    alloc: Global,
+    groups: &Groups,
+    op: &Op,
+    inverse: &[Op],
+) -> Result<Schema, CommandFault>
+    requires counted { first_excess (evolving (operator_of op.now) (operators_of inverse.now))
+        ≡ None }
+    requires represents { (past : Past) × Represents groups.now past }
+    ensures tested { (past : Past) → Represents groups.now past
+        → IsTested (first_refusal (body_tests past
+        (evolving (operator_of op.now) (operators_of inverse.now)))) result }
+    ensures next { (past : Past) → Represents groups.now past
+        → IfOk result (λ next. next ≡ schema_after (newest_tables past) (operator_of op.now)) }
+{
+    counted_operators_are_few();
+    judge_versions(groups.newest())?;
+    let before = groups.newest_schema();
+    let next = judge_operator(alloc, before, op)?;
+    judge_inverse(alloc, before, &next, inverse)?;
+    Ok(next)
+}
+
+// What the command does from the stamp on, with what judging it finds.
+#[tactic(auto, using(crate::proofs::Judging::narrow_newest))]
+fn judge_body(
+    alloc: Global,
+    groups: &Groups,
+    stamp: u64,
+    body: Body,
+) -> Result<AcceptedCommand, CommandFault>
+    requires counted { first_excess (body_of body) ≡ None }
+    requires represents { (past : Past) × Represents groups.now past }
+    ensures tested { (past : Past) → Represents groups.now past
+        → IsTested (first_refusal (body_tests past (body_of body))) result }
+    ensures same { IfOk result (λ accepted. accepted_command accepted
+        ≡ a_command stamp (body_of body)) }
+    ensures found { (past : Past) → Represents groups.now past
+        → IfOk result (λ accepted. HasFound past accepted) }
+{
+    match body {
+        Body::Changes(changes) => {
+            let places = check_changes(alloc, groups.newest_schema(), &changes)?;
+            Ok(AcceptedCommand::Changes {
+                stamp,
+                changes,
+                places,
+            })
+        }
+        Body::Evolve { op, inverse } => {
+            let schema = judge_evolve(alloc, groups, &op, &inverse)?;
+            Ok(AcceptedCommand::Evolve(Version {
+                stamp,
+                op,
+                inverse,
+                schema,
+            }))
+        }
+    }
+}
+
+/// Whether the command is accepted after the past that the groups represent, with this last stamp,
+/// and then what judging it found; else its first refusal in the one order: its counts, its stamp,
+/// and then what it does.
+#[tactic(auto, using(crate::proofs::Judging::judged_after, crate::proofs::Judging::first_decides, crate::proofs::Judging::second_decides))]
+pub(crate) fn judge(
+    alloc: Global,
+    groups: &Groups,
+    last: Option<u64>,
+    command: Command,
+) -> Result<AcceptedCommand, CommandFault>
+    requires represents { (past : Past) × Represents groups.now past × (last ≡ past.last) }
+    ensures same { IfOk result (λ accepted. accepted_command accepted ≡ command_of command) }
+    ensures judges { (past : Past) → Represents groups.now past → last ≡ past.last
+        → IsTestedAs (IsAcceptedAfter past) (command_fault past (command_of command)) result }
+{
+    let stamp = command.stamp();
+    judge_counts(&command)?;
+    judge_stamp(last, stamp)?;
+    judge_body(alloc, groups, stamp, command.into_body())
+}

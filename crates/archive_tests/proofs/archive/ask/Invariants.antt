@@ -1,4 +1,0 @@
-use Rattle.archive_tests.proofs.archive.ask.Given as goal
-
-abbrev pub ghosts-answer_by : goal.ghosts-answer_by
-ghosts-answer_by g a = record { name = a.blank.name; parts = a.blank.parts }

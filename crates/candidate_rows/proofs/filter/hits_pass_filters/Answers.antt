@@ -1,5 +1,0 @@
-use Rattle.candidate_rows.proofs.FilterLaws.{hit_passes}
-use Rattle.candidate_rows.proofs.filter.hits_pass_filters.Goals as goal
-
-pub returns : goal.returns
-returns c its t tests row a r m f = hit_passes its t row a r m tests f

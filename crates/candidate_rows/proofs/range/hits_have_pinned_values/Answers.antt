@@ -1,5 +1,0 @@
-use Rattle.candidate_rows.proofs.RangeLaws.{hit_has_pinned}
-use Rattle.candidate_rows.proofs.range.hits_have_pinned_values.Goals as goal
-
-pub returns : goal.returns
-returns c its t row k v a r m h e = hit_has_pinned its t row a r m k v h e

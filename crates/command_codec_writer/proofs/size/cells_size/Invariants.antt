@@ -1,0 +1,11 @@
+use Rattle.std.proofs.Common.{◌≡◌, ◌+◌, ◌≤◌, length, min, drop}
+use Rattle.std.specs.List.{flat_map}
+use Rattle.command_codec_spec.specs.Spelling.{cell_bytes}
+use Rattle.command_codec_writer.proofs.size.cells_size.Given as goal
+
+abbrev pub invariant-loop-item : goal.invariant-loop-item
+invariant-loop-item l = record {
+  counted : min (length (flat_map cell_bytes l.list)) 18446744073709551615
+      ≡ min (l.size + length (flat_map cell_bytes (drop l.item-index l.list))) 18446744073709551615;
+  fits : l.size ≤ 18446744073709551615;
+}

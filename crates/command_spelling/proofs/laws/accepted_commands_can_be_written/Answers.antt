@@ -1,9 +1,0 @@
-use Rattle.command_spelling.proofs.AcceptedCommands.{accepted_writable}
-use Rattle.command_spelling.proofs.laws.accepted_commands_can_be_written.Goals as goal
-
-pub returns-clause-tables : goal.returns-clause-tables
-returns-clause-tables c = accepted_writable
-
-pub returns-clause-past : goal.returns-clause-past
-returns-clause-past c = λ past command made accepted.
-    accepted_writable past command made.tables accepted

@@ -1,5 +1,0 @@
-use Rattle.dead_conditions.proofs.DeadLaws.{dead_holds_of_nothing}
-use Rattle.dead_conditions.proofs.laws.a_dead_condition_holds_of_no_values.Goals as goal
-
-pub returns : goal.returns
-returns c = λ of at t fits valid dead. dead_holds_of_nothing of at t fits valid dead

@@ -1,5 +1,0 @@
-use Rattle.expr_grammar.proofs.Prefixes.{determine_expr, determine_cond}
-use Rattle.expr_grammar.proofs.laws.trees_and_rests.Goals as goal
-
-pub returns : goal.returns
-returns c = record { expr = determine_expr; cond = determine_cond }

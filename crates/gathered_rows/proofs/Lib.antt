@@ -1,6 +1,0 @@
-pub mod EntriesInTurn
-pub mod Passing
-pub mod Picking
-pub mod Adding
-pub mod KeysInTurn
-pub mod Steps

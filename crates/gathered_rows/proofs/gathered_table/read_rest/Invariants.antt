@@ -1,9 +1,0 @@
-use Rattle.std.proofs.Common.{◌≡◌, ◌+◌, length}
-use Rattle.gathered_rows.proofs.gathered_table.read_rest.Given as goal
-
-abbrev pub invariant-rest : goal.invariant-rest
-invariant-rest g l = l.steps + length l.cursor.unread
-    ≡ l.initial.steps + length l.initial.cursor.unread
-
-abbrev pub decreases-rest : goal.decreases-rest
-decreases-rest g l = length l.cursor.unread

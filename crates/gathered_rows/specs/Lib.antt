@@ -1,5 +1,0 @@
-pub mod Entries
-pub mod Gathered
-pub mod HeadValues
-pub mod Reading
-pub mod Walking

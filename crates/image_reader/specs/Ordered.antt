@@ -1,7 +1,0 @@
--- The current rows of a lifeline that was read, in order.
-use Rattle.image_reader.specs.Seen.{cells_seen}
-use Rattle.image_reader.specs.declared.line.ReadLine.{ReadLine}
-use Rattle.shown_rows.specs.Showing.{AreOrdered}
-
-abbrev pub IsOrdered : ReadLine → Type 0
-IsOrdered l = AreOrdered l.keys.items (cells_seen l.cells.items) l.order.items

@@ -1,5 +1,0 @@
-use Rattle.image_spelling.proofs.SamePasts.{known_past}
-use Rattle.image_spelling.proofs.laws.a_past_is_what_it_shows.Goals as goal
-
-pub returns : goal.returns
-returns c = known_past

@@ -1,5 +1,0 @@
-use Rattle.image_spelling.proofs.ImageLengths.{has_length}
-use Rattle.image_spelling.proofs.laws.an_image_has_its_length.Goals as goal
-
-pub returns : goal.returns
-returns c = λ n i h. has_length n i

@@ -1,6 +1,0 @@
-use Rattle.std.proofs.Common.{refl}
-use Rattle.lexical_grammar.proofs.Slices.{in_place}
-use Rattle.lexical_grammar.proofs.laws.tokens_in_place.Goals as goal
-
-pub returns : goal.returns
-returns c text ts e h = in_place text 0 text ts e refl h

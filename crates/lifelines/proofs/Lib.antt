@@ -1,3 +1,0 @@
-pub mod NamedEntries
-pub mod LifelinesAfter
-pub mod VersionsCovered

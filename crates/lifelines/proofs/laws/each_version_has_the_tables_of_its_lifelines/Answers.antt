@@ -1,5 +1,0 @@
-use Rattle.lifelines.proofs.VersionsCovered.{each_covered}
-use Rattle.lifelines.proofs.laws.each_version_has_the_tables_of_its_lifelines.Goals as goal
-
-pub returns : goal.returns
-returns c = each_covered

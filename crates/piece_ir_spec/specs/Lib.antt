@@ -1,0 +1,13 @@
+pub mod Pieces
+pub mod Typed
+pub mod Views
+pub mod Unfolding
+pub mod Constants
+pub mod Given
+pub mod Rules
+pub mod Books
+pub mod Chains
+pub mod Beginnings
+pub mod Reading
+pub mod UnfoldedPieces
+pub mod OperatorViews

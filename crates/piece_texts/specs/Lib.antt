@@ -1,2 +1,0 @@
-pub mod ExplainedPieces
-pub mod PieceTexts

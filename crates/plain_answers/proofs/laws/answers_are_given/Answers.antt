@@ -1,6 +1,0 @@
-use Rattle.plain_answers.proofs.PlainRows.{in_answers, from_answers}
-use Rattle.plain_answers.proofs.laws.answers_are_given.Goals as goal
-
-pub returns : goal.returns
-returns c = λ columns relations outs test row.
-    (from_answers columns relations outs test row, in_answers columns relations outs test row)

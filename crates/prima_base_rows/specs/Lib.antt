@@ -1,0 +1,4 @@
+pub mod Places
+pub mod RoomLaws
+pub mod Rows
+pub mod GivenRows

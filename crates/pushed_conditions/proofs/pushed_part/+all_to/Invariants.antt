@@ -1,5 +1,0 @@
-use Rattle.std.proofs.Common.{length}
-use Rattle.pushed_conditions.proofs.pushed_part.+all_to.Given as goal
-
-abbrev pub decreases-all_to : goal.decreases-all_to
-decreases-all_to l = length l.references.now

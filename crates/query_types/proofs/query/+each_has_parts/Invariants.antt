@@ -1,5 +1,0 @@
-use Rattle.std.proofs.Common.{length}
-use Rattle.query_types.proofs.query.+each_has_parts.Given as goal
-
-abbrev pub decreases-each_has_parts : goal.decreases-each_has_parts
-decreases-each_has_parts l = length l.branches.now

@@ -1,5 +1,0 @@
-use Rattle.relations.proofs.ListingLaws.{one_listing}
-use Rattle.relations.proofs.listing.at_most_one_listing.Goals as goal
-
-pub returns : goal.returns
-returns g c = λ exact relation slice a b p q. one_listing g.T.Ord.cmp exact relation slice a b p q

@@ -1,5 +1,0 @@
-use Rattle.relations.proofs.Runs.{timeline_listing}
-use Rattle.relations.proofs.listing.timeline_is_listed.Goals as goal
-
-pub returns : goal.returns
-returns g c = timeline_listing g.T.Ord.cmp

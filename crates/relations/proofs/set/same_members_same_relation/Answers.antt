@@ -1,5 +1,0 @@
-use Rattle.relations.proofs.SetLaws.{one_list}
-use Rattle.relations.proofs.set.same_members_same_relation.Goals as goal
-
-pub returns : goal.returns
-returns g c = one_list g.T.Ord.cmp

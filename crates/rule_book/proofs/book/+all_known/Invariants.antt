@@ -1,5 +1,0 @@
-use Rattle.std.proofs.Common.{length}
-use Rattle.rule_book.proofs.book.+all_known.Given as goal
-
-abbrev pub decreases-all_known : goal.decreases-all_known
-decreases-all_known g l = length l.rules.now

@@ -1,0 +1,119 @@
+-- A reply counts as an error exactly where its line is one.
+use Rattle.std.proofs.Common.{◌≡◌, ℕ, Bool, true, false, List, [], ◌∷◌, ◌++◌, length, refl, sym}
+use Rattle.std.specs.Prelude.{Some, None}
+use Rattle.std.specs.FinMap.{entries}
+use Rattle.relations_spec.specs.Timed.{Entry}
+use Rattle.prima_base.specs.Columns.{Column}
+use Rattle.prima_base.specs.declared.value.Value.{Value}
+use Rattle.prima_base.specs.declared.refusal.Refusal.{Refusal}
+use Rattle.schema_catalog.specs.Tables.{Tables}
+use Rattle.smo_ops_types.specs.Commands.{PlainBody, changing, evolving, PlainCommand, PlainVersion}
+use Rattle.smo_ops_spec.specs.Checks.{Fault}
+use Rattle.smo_ops_spec.specs.Past.{Past, past_with, tables_of}
+use Rattle.smo_ops_spec.specs.Sizes.{Size}
+use Rattle.archive_core.specs.Committing.{commit_fault}
+use Rattle.archive_core.specs.Checkpointing.{checkpoint_fault}
+use Rattle.piece_ir.specs.ExplainedPieces.{PlainExplained}
+use Rattle.temporal_lang_spec.specs.Accepted.{version_fault, fault_of_query}
+use Rattle.temporal_lang_spec.specs.Answers.{answer}
+use Rattle.script_parse.specs.Statements.{PlainStatement, write, ask, explain, show_versions}
+use Rattle.script_parse.specs.Statements.{show_schema, show_sizes, checkpoint}
+use Rattle.script_parse.specs.Reading.{Reading, Blank, Refused, Whole, reading}
+use Rattle.archive_core_state.specs.Asking.{tells_periods, pieces_told}
+use Rattle.answer_text.specs.Texts.{changed_text, evolved_text, checkpoint_text, listing_text}
+use Rattle.answer_text.specs.Texts.{piece_head, explain_text, tables_text, count_text, version_head}
+use Rattle.answer_text.specs.Texts.{versions_text, schema_text, size_text, sizes_text}
+use Rattle.answer_text.specs.RefusalTexts.{refusal_text}
+use Rattle.script_cli_statement.specs.Given.{Given}
+use Rattle.script_cli_statement.specs.Replies.{Recorded, Reply, refused, answered, put_command}
+use Rattle.script_cli_statement.specs.Replies.{put_image, refused_or, body_text, statement_reply}
+use Rattle.script_cli_statement.specs.Replies.{reading_reply, reply}
+use Rattle.script_cli_sample.specs.Summary.{is_error_line}
+
+abbrev Told : Reply → Type 0
+Told r = r.is_error ≡ is_error_line r.text
+
+refusal_told : (r : Refusal) (now : Recorded) → Told (refused r now)
+unfolding refusal_text
+refusal_told r now = refl
+
+body_told : (stamp : ℕ) (body : PlainBody) (past next : Past)
+    → is_error_line (body_text stamp body past next) ≡ false
+unfolding changed_text evolved_text
+body_told stamp (changing changes) past next = refl
+body_told stamp (evolving op inverse) past next = refl
+
+put_told : (command : PlainCommand) (now : Recorded) → Told (put_command command now)
+put_told command now = sym (body_told command.stamp command.body now.past
+    (past_with now.past command))
+
+image_told : (now : Recorded) → Told (put_image now)
+unfolding checkpoint_text
+image_told now = refl
+
+listing_told : (told : Bool) (entries : List (Entry (List Value))) (now : Recorded)
+    → Told (answered (listing_text told entries) now)
+unfolding listing_text
+listing_told told [] now = refl
+listing_told false (e ∷ entries) now = refl
+listing_told true (e ∷ entries) now = refl
+
+pieces_told_so : (pieces : List PlainExplained) (now : Recorded)
+    → Told (answered (explain_text pieces) now)
+unfolding explain_text piece_head
+pieces_told_so [] now = refl
+pieces_told_so (e ∷ pieces) now = refl
+
+versions_told : (versions : List PlainVersion) (now : Recorded)
+    → Told (answered (versions_text versions) now)
+unfolding versions_text version_head
+versions_told versions now = refl
+
+tables_told : (tables : List (List ℕ × List Column)) (n : ℕ)
+    → is_error_line (tables_text tables ++ count_text n) ≡ false
+tables_told [] n = refl
+tables_told (t ∷ tables) n = refl
+
+schema_told : (tables : Tables) (now : Recorded) → Told (answered (schema_text tables) now)
+unfolding schema_text
+schema_told tables now = sym (tables_told (entries tables) (length (entries tables)))
+
+sizes_told : (newest : ℕ) (sizes : List Size) (now : Recorded)
+    → Told (answered (sizes_text newest sizes) now)
+unfolding sizes_text size_text
+sizes_told newest [] now = refl
+sizes_told newest (s ∷ sizes) now = refl
+
+refused_told : (fault : Fault) (now : Recorded) (r : Reply) → Told r → Told (refused_or fault now r)
+refused_told None now r h = h
+refused_told (Some refusal) now r h = refusal_told refusal now
+
+statement_told : (limit : Given) (s : PlainStatement) (now : Recorded)
+    → Told (statement_reply limit s now)
+statement_told limit (write command) now = refused_told
+    (commit_fault now.past now.at limit.limit command) now (put_command command now)
+    (put_told command now)
+statement_told limit (ask query) now = refused_told (fault_of_query now.past query) now
+    (answered (listing_text (tells_periods query.when) (answer now.past query)) now)
+    (listing_told (tells_periods query.when) (answer now.past query) now)
+statement_told limit (explain query) now = refused_told (fault_of_query now.past query) now
+    (answered (explain_text (pieces_told limit.book now.past query)) now)
+    (pieces_told_so (pieces_told limit.book now.past query) now)
+statement_told limit show_versions now = versions_told now.past.versions now
+statement_told limit (show_schema version) now =
+    refused_told (version_fault now.past version) now
+    (answered (schema_text (tables_of now.past version)) now)
+    (schema_told (tables_of now.past version) now)
+statement_told limit show_sizes now = sizes_told (length now.past.versions) now.past.sizes now
+statement_told limit checkpoint now = refused_told (checkpoint_fault now.past now.at limit.limit)
+    now (put_image now) (image_told now)
+
+reading_told : (limit : Given) (r : Reading) (now : Recorded) → Told (reading_reply limit r now)
+reading_told limit Blank now = refl
+reading_told limit (Refused r) now = refusal_told r now
+reading_told limit (Whole s) now = statement_told limit s now
+
+pub error_told : (limit : Given) (now : Recorded) (text : List ℕ)
+    → (reply limit now text).is_error ≡ is_error_line (reply limit now text).text
+unfolding reply
+error_told limit now text = reading_told limit (reading text) now

@@ -1,0 +1,100 @@
+-- The past after a statement is valid where it was before it.
+use Rattle.std.proofs.Common.{◌≡◌, ◌<◌, ℕ, List, [], ◌∷◌, refl, sym, subst}
+use Rattle.std.specs.Prelude.{Some, None}
+use Rattle.archive_core_file_spec.specs.LogRecords.{logged, record_of}
+use Rattle.relations_spec.specs.Spans.{forever}
+use Rattle.smo_ops_types.specs.Commands.{PlainBody, changing, evolving, PlainCommand}
+use Rattle.smo_ops_spec.specs.Checks.{Fault}
+use Rattle.smo_ops_spec.specs.Accepts.{command_fault}
+use Rattle.smo_ops_spec.specs.ValidPast.{last_or_nought, IsPast}
+use Rattle.smo_ops_spec.specs.Past.{Past, next_past, past_with, tables_of}
+use Rattle.smo_ops_spec.proofs.PastSteps.{stays_valid, stamp_accepted}
+use Rattle.smo_ops_spec.proofs.PastSteps.{counts_accepted, body_accepted}
+use Rattle.piece_ir_spec.specs.Constants.{ValidInVersions, ValidInEvolution}
+use Rattle.piece_ir_spec.proofs.HeldValues.{valid_next}
+use Rattle.temporal_lang_spec.specs.Accepted.{version_fault, fault_of_query}
+use Rattle.temporal_lang_spec.specs.Answers.{answer}
+use Rattle.script_parse.specs.Statements.{PlainStatement, write, ask, explain, show_versions}
+use Rattle.script_parse.specs.Statements.{show_schema, show_sizes, checkpoint}
+use Rattle.script_parse.specs.Reading.{Reading, Blank, Refused, Whole, reading}
+use Rattle.archive_core_state.specs.Asking.{tells_periods, pieces_told}
+use Rattle.smo_ops_spec.proofs.Firsts.{none_of_first}
+use Rattle.archive_core.specs.Committing.{room_fault, commit_fault}
+use Rattle.archive_core.specs.Checkpointing.{checkpoint_fault}
+use Rattle.script_cli_statement.specs.Given.{Given}
+use Rattle.script_cli_statement.specs.Replies.{Recorded, answered, refused_or, put_command}
+use Rattle.script_cli_statement.specs.Replies.{put_image, statement_reply, reading_reply, reply}
+use Rattle.answer_text.specs.Texts.{listing_text, explain_text, schema_text}
+use Rattle.script_cli_statement.specs.Written.{IsWritten, HasWritten}
+use Rattle.script_cli_statement.proofs.WrittenStatements.{has_written}
+
+-- accepted commands make it, at moments before the end of time, and the constants of its versions
+-- are valid
+pub record IsOfScript (past : Past) : Type 0 where
+  pub made : IsPast past
+  pub ends : last_or_nought past.last < forever
+  pub constants : ValidInVersions past.versions
+
+last_is : (past : Past) (stamp : ℕ) (body : PlainBody)
+    → last_or_nought (next_past stamp body past).last ≡ stamp
+last_is past stamp (changing changes) = refl
+last_is past stamp (evolving op inverse) = refl
+
+pub command_keeps : (past : Past) (command : PlainCommand) → IsOfScript past
+    → (command.stamp < forever)
+    × ValidInEvolution command.body → command_fault past command ≡ None
+    → IsOfScript (past_with past command)
+command_keeps past command h written e = record {
+  made = stays_valid past command.stamp command.body h.made (stamp_accepted past command e)
+      (counts_accepted past command e) (body_accepted past command e);
+  ends = subst (λ n. n < forever) (sym (last_is past command.stamp command.body)) written.0;
+  constants = valid_next past command.stamp command.body h.constants written.1;
+}
+
+put_keeps : (now : Recorded) (command : PlainCommand) → IsOfScript now.past
+    → (command.stamp < forever) × ValidInEvolution command.body → (fault : Fault)
+    → (fault ≡ None → command_fault now.past command ≡ None)
+    → IsOfScript (refused_or fault now (put_command command now)).after.past
+put_keeps now command h written None met = command_keeps now.past command h written (met refl)
+put_keeps now command h written (Some r) met = h
+
+image_keeps : (now : Recorded) (fault : Fault) → IsOfScript now.past
+    → IsOfScript (refused_or fault now (put_image now)).after.past
+image_keeps now None h = h
+image_keeps now (Some r) h = h
+
+same_past : (now : Recorded) (fault : Fault) (text : List ℕ) → IsOfScript now.past
+    → IsOfScript (refused_or fault now (answered text now)).after.past
+same_past now None text h = h
+same_past now (Some r) text h = h
+
+module _ (limit : Given) where
+  statement_keeps : (now : Recorded) (s : PlainStatement) → IsWritten s → IsOfScript now.past
+      → IsOfScript (statement_reply limit s now).after.past
+  statement_keeps now (write command) written h =
+      put_keeps now command h written (commit_fault now.past now.at limit.limit command)
+      (λ e. (none_of_first (command_fault now.past command)
+      (room_fault now.at limit.limit (record_of (logged command)) ∷ []) e).0)
+  statement_keeps now (ask query) written h =
+      same_past now (fault_of_query now.past query)
+      (listing_text (tells_periods query.when) (answer now.past query)) h
+  statement_keeps now (explain query) written h =
+      same_past now (fault_of_query now.past query)
+      (explain_text (pieces_told limit.book now.past query)) h
+  statement_keeps now show_versions written h = h
+  statement_keeps now (show_schema version) written h =
+      same_past now (version_fault now.past version) (schema_text (tables_of now.past version)) h
+  statement_keeps now show_sizes written h = h
+  statement_keeps now checkpoint written h = image_keeps now
+      (checkpoint_fault now.past now.at limit.limit) h
+
+  reading_keeps : (now : Recorded) (r : Reading) → HasWritten r → IsOfScript now.past
+      → IsOfScript (reading_reply limit r now).after.past
+  reading_keeps now Blank has h = h
+  reading_keeps now (Refused r) has h = h
+  reading_keeps now (Whole s) has h = statement_keeps now s has h
+
+  pub reply_keeps : (now : Recorded) (text : List ℕ) → IsOfScript now.past
+      → IsOfScript (reply limit now text).after.past
+  unfolding reply
+  reply_keeps now text h = reading_keeps now (reading text) (has_written text) h

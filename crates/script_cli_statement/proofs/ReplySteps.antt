@@ -1,0 +1,203 @@
+-- What stands after a statement is the past of the records that it put, and the gate after them.
+use Rattle.std.proofs.Common.{◌≡◌, ℕ, ◌+◌, Bool, true, false, List, [], ◌∷◌, ◌++◌, length}
+use Rattle.std.proofs.Common.{refl, sym, ap, ◌∙◌, subst, arith, length-append}
+use Rattle.std.specs.Prelude.{Some, None, if◌then◌else◌}
+use Rattle.std.specs.Int.{w64, to_be_bytes}
+use Rattle.std.proofs.lemmas.List.{append-nil, map-append}
+use Rattle.smo_ops_types.specs.Commands.{PlainCommand}
+use Rattle.smo_ops_spec.specs.Checks.{Fault}
+use Rattle.smo_ops_spec.specs.Accepts.{command_fault}
+use Rattle.smo_ops_spec.specs.Past.{Past, beginning, past_with}
+use Rattle.smo_ops_spec.proofs.Firsts.{none_of_first}
+use Rattle.temporal_lang_spec.specs.Accepted.{version_fault, fault_of_query}
+use Rattle.journal.specs.Records.{Record, before_gate, body}
+use Rattle.journal.proofs.Putting.{before_gate-push}
+use Rattle.archive_core_file_spec.specs.LogRecords.{LogRecord, logged, checkpointed, record_of, records_of}
+use Rattle.archive_core_file_spec.specs.LogRecords.{gate_after, after_record, after_records, past_recorded}
+use Rattle.archive_core_file_spec.specs.LogRecords.{AreSound}
+use Rattle.archive_core_file_spec.proofs.Records.{after_append}
+use Rattle.archive_core.specs.Committing.{room_fault, commit_fault}
+use Rattle.archive_core.specs.Checkpointing.{checkpoint_fault}
+use Rattle.script_parse.specs.Statements.{PlainStatement, write, ask, explain, show_versions}
+use Rattle.script_parse.specs.Statements.{show_schema, show_sizes, checkpoint}
+use Rattle.script_parse.specs.Reading.{Reading, Blank, Refused, Whole, reading}
+use Rattle.script_cli_statement.specs.Given.{Given}
+use Rattle.script_cli_statement.specs.Due.{Due, command_due, image_due, due_length, past_after_due}
+use Rattle.script_cli_statement.specs.Due.{commands_due, IsRecordOf, AreRecordsOf, AreFirstOf}
+use Rattle.script_cli_statement.specs.Puts.{is_command, put_for}
+use Rattle.script_cli_statement.specs.Replies.{Recorded, recorded, recorded_with, Reply, answered}
+use Rattle.script_cli_statement.specs.Replies.{refused_or, put, reply, statement_reply, reading_reply}
+use Rattle.script_cli_statement.specs.Responses.{put_of}
+
+-- ---- one record more
+
+record_length : (r : Record) → length (body r) ≡ 9 + length r.1
+record_length r = omega (arith, length-append (to_be_bytes w64 (length r.1)) r.1)
+
+gate_push : (log : List LogRecord) (r : LogRecord)
+    → gate_after (log ++ r ∷ []) ≡ gate_after log + 10 + length (record_of r).1
+gate_push log r =
+    ap (λ (l : List Record). length (before_gate l)) (map-append record_of log (r ∷ []))
+    ∙ omega (
+      arith,
+      ap (λ (l : List ℕ). length l) (before_gate-push (records_of log) (record_of r)),
+      length-append (before_gate (records_of log)) (1 ∷ body (record_of r)),
+      record_length (record_of r),
+    )
+
+its_length : (due : Due) (r : LogRecord) → IsRecordOf due r
+    → length (record_of r).1 ≡ due_length due
+its_length (command_due command) (logged c) is =
+    ap (λ (x : PlainCommand). length (record_of (logged x)).1) is
+its_length (command_due command) (checkpointed image) is = absurd is
+its_length (image_due past) (logged c) is = absurd is
+its_length (image_due past) (checkpointed image) is = is.length
+
+-- what may be put after a past: its record is sound there, and leads to the past after it
+record IsDueAt (past : Past) (due : Due) : Type 0 where
+  sound : (r : LogRecord) → IsRecordOf due r → AreSound past (r ∷ [])
+  leads : (r : LogRecord) → IsRecordOf due r → after_record past r ≡ past_after_due past due
+
+command_at : (past : Past) (command : PlainCommand) → command_fault past command ≡ None
+    → IsDueAt past (command_due command)
+command_at past command accepted = record { sound = sound; leads = leads }
+  where
+    sound : (r : LogRecord) → IsRecordOf (command_due command) r → AreSound past (r ∷ [])
+    sound (logged c) is = (subst (λ x. command_fault past x ≡ None) (sym is) accepted, tt)
+    sound (checkpointed image) is = absurd is
+
+    leads : (r : LogRecord) → IsRecordOf (command_due command) r
+        → after_record past r ≡ past_with past command
+    leads (logged c) is = ap (past_with past) is
+    leads (checkpointed image) is = absurd is
+
+image_at : (past : Past) → IsDueAt past (image_due past)
+image_at past = record { sound = sound; leads = leads }
+  where
+    sound : (r : LogRecord) → IsRecordOf (image_due past) r → AreSound past (r ∷ [])
+    sound (logged c) is = absurd is
+    sound (checkpointed image) is = (is.shows, tt)
+
+    leads : (r : LogRecord) → IsRecordOf (image_due past) r → after_record past r ≡ past
+    leads (logged c) is = absurd is
+    leads (checkpointed image) is = is.shows
+
+recorded_push : (opening : List LogRecord) (due : Due) (r : LogRecord)
+    → IsDueAt (past_recorded opening) due → IsRecordOf due r
+    → recorded_with (recorded opening) due ≡ recorded (opening ++ r ∷ [])
+recorded_push opening due r here is =
+    let past : past_after_due (past_recorded opening) due ≡ past_recorded (opening ++ r ∷ []) =
+    sym (here.leads r is) ∙ sym (after_append beginning opening (r ∷ [])) in
+    let at : gate_after opening + 10 + due_length due ≡ gate_after (opening ++ r ∷ []) =
+    sym (gate_push opening r ∙ ap (λ n. gate_after opening + 10 + n) (its_length due r is)) in
+    λ i. record { past = past i; at = at i }
+
+-- ---- a statement
+
+abbrev pub one_if : Bool → ℕ
+one_if b = if b then 1 else 0
+
+-- it puts nothing and changes nothing, or one thing that may be put there
+pub record IsStep (now : Recorded) (reply : Reply) : Type 0 where
+  pub sound : (log : List LogRecord) → AreFirstOf reply.puts log → AreSound now.past log
+  pub past : (log : List LogRecord) → AreRecordsOf reply.puts log
+      → reply.after.past ≡ after_records now.past log
+  pub recorded_is : (opening log : List LogRecord) → now ≡ recorded opening
+      → AreRecordsOf reply.puts log → reply.after ≡ recorded (opening ++ log)
+  pub counted : length (commands_due reply.puts) ≡ one_if (is_command (put_of reply))
+
+pub none_of : (log : List LogRecord) → AreRecordsOf [] log → log ≡ []
+none_of [] are = refl
+none_of (r ∷ log) are = absurd are
+
+pub none_first : (log : List LogRecord) → AreFirstOf [] log → log ≡ []
+none_first [] are = refl
+none_first (r ∷ log) are = absurd are
+
+no_command : (b : Bool) → is_command (put_for b []) ≡ false
+no_command true = refl
+no_command false = refl
+
+pub unchanged : (now : Recorded) (reply : Reply) → reply.puts ≡ [] → reply.after ≡ now
+    → IsStep now reply
+unchanged now reply none same = record {
+  sound = λ log are. subst (AreSound now.past)
+      (sym (none_first log (subst (λ l. AreFirstOf l log) none are))) tt;
+  past = λ log are. ap (λ (n : Recorded). n.past) same
+      ∙ ap (after_records now.past) (sym (empty log are));
+  recorded_is = λ opening log is are. same ∙ is ∙ ap recorded (sym (append-nil opening))
+      ∙ ap (λ (l : List LogRecord). recorded (opening ++ l)) (sym (empty log are));
+  counted = ap (λ (l : List Due). length (commands_due l)) none
+      ∙ ap one_if (sym (no_command reply.is_error))
+      ∙ ap (λ (l : List Due). one_if (is_command (put_for reply.is_error l))) (sym none);
+}
+  where
+    empty : (log : List LogRecord) → AreRecordsOf reply.puts log → log ≡ []
+    empty log are = none_of log (subst (λ l. AreRecordsOf l log) none are)
+
+refused_step : (now : Recorded) (fault : Fault) (text : List ℕ)
+    → IsStep now (refused_or fault now (answered text now))
+refused_step now None text = unchanged now (answered text now) refl refl
+refused_step now (Some r) text = unchanged now (refused_or (Some r) now (answered text now)) refl
+    refl
+
+one_counted : (due : Due) → length (commands_due (due ∷ []))
+    ≡ one_if (is_command (put_for false (due ∷ [])))
+one_counted (command_due command) = refl
+one_counted (image_due past) = refl
+
+put_step : (now : Recorded) (text : List ℕ) (due : Due) (fault : Fault)
+    → (fault ≡ None → IsDueAt now.past due) → IsStep now (refused_or fault now (put text due now))
+put_step now text due (Some r) here = unchanged now (refused_or (Some r) now (put text due now))
+    refl refl
+put_step now text due None here = record {
+  sound = sound;
+  past = past;
+  recorded_is = recorded_so;
+  counted = one_counted due;
+}
+  where
+    sound : (log : List LogRecord) → AreFirstOf (due ∷ []) log → AreSound now.past log
+    sound [] are = tt
+    sound (r ∷ []) are = (here refl).sound r are.0
+    sound (r ∷ s ∷ log) are = absurd are.1
+
+    past : (log : List LogRecord) → AreRecordsOf (due ∷ []) log
+        → past_after_due now.past due ≡ after_records now.past log
+    past [] are = absurd are
+    past (r ∷ []) are = sym ((here refl).leads r are.0)
+    past (r ∷ s ∷ log) are = absurd are.1
+
+    recorded_so : (opening log : List LogRecord) → now ≡ recorded opening
+        → AreRecordsOf (due ∷ []) log → recorded_with now due ≡ recorded (opening ++ log)
+    recorded_so opening [] is are = absurd are
+    recorded_so opening (r ∷ []) is are = ap (λ n. recorded_with n due) is
+        ∙ recorded_push opening due r (subst (λ (n : Recorded). IsDueAt n.past due) is (here refl))
+        are.0
+    recorded_so opening (r ∷ s ∷ log) is are = absurd are.1
+
+statement_step : (limit : Given) (now : Recorded) (s : PlainStatement)
+    → IsStep now (statement_reply limit s now)
+statement_step limit now (write command) =
+    put_step now _ (command_due command) (commit_fault now.past now.at limit.limit command)
+    (λ e. command_at now.past command (none_of_first (command_fault now.past command)
+    (room_fault now.at limit.limit (record_of (logged command)) ∷ []) e).0)
+statement_step limit now (ask query) = refused_step now (fault_of_query now.past query) _
+statement_step limit now (explain query) = refused_step now (fault_of_query now.past query) _
+statement_step limit now show_versions = unchanged now (statement_reply limit show_versions now)
+    refl refl
+statement_step limit now (show_schema version) = refused_step now (version_fault now.past version) _
+statement_step limit now show_sizes = unchanged now (statement_reply limit show_sizes now) refl refl
+statement_step limit now checkpoint = put_step now _ (image_due now.past)
+    (checkpoint_fault now.past now.at limit.limit) (λ e. image_at now.past)
+
+reading_step : (limit : Given) (now : Recorded) (r : Reading)
+    → IsStep now (reading_reply limit r now)
+reading_step limit now Blank = unchanged now (reading_reply limit Blank now) refl refl
+reading_step limit now (Refused r) = unchanged now (reading_reply limit (Refused r) now) refl refl
+reading_step limit now (Whole s) = statement_step limit now s
+
+pub reply_step : (limit : Given) (now : Recorded) (text : List ℕ)
+    → IsStep now (reply limit now text)
+unfolding reply
+reply_step limit now text = reading_step limit now (reading text)

@@ -1,0 +1,118 @@
+use Rattle.std.proofs.Common.{◌≡◌, refl, sym, subst, List, ℕ, []}
+use Rattle.std.specs.Prelude.{Some, None}
+use Rattle.smo_ops_spec.specs.Checks.{Fault}
+use Rattle.piece_ir_spec.specs.Rules.{Book}
+use Rattle.temporal_lang_types.specs.Queries.{query_of}
+use Rattle.temporal_lang_spec.specs.Accepted.{version_fault, fault_of_query}
+use Rattle.script_parse.specs.Statements.{statement_of}
+use Rattle.script_cli_statement.specs.Replies.{Recorded, query_reply, explain_reply, versions_reply}
+use Rattle.script_cli_statement.specs.Replies.{schema_reply, sizes_reply, statement_reply, refused_or}
+use Rattle.script_cli_statement.specs.Replies.{answered}
+use Rattle.script_cli_statement.specs.Responses.{Says, Responds}
+use Rattle.script_cli_statement.proofs.Responding.{says_responds, halt_said, on_ok}
+use Rattle.script_cli_statement.proofs.response.respond_statement.Goals as goal
+
+no_puts : (fault : Fault) (now : Recorded) (text : List ℕ)
+    → (refused_or fault now (answered text now)).puts ≡ []
+no_puts None now text = refl
+no_puts (Some r) now text = refl
+
+same_after : (fault : Fault) (now : Recorded) (text : List ℕ)
+    → (refused_or fault now (answered text now)).after ≡ now
+same_after None now text = refl
+same_after (Some r) now text = refl
+
+pub returns-in-Ask-clause-replies : goal.returns-in-Ask-clause-replies
+returns-in-Ask-clause-replies g c = λ limit same now represents.
+    let a = c.args.archive.now in
+    let query = query_of c.in-Ask.query in
+    subst (λ s. Responds limit (statement_reply limit (statement_of s) now) c.respond_ask.result a a
+    (g.K.Sink.written c.args.sink.now) (g.K.Sink.written c.respond_ask.new.sink))
+    (sym c.in-Ask.is)
+    (says_responds _ _ limit now a a (query_reply query now) c.respond_ask.result
+    (g.met.D.Disk.valid a.journal.disk) represents
+    (no_puts (fault_of_query now.past query) now _)
+    (same_after (fault_of_query now.past query) now _)
+    (c.respond_ask.ensures.says now represents.past))
+
+pub returns-in-Explain-clause-replies : goal.returns-in-Explain-clause-replies
+returns-in-Explain-clause-replies g c = λ limit same now represents.
+    let a = c.args.archive.now in
+    let query = query_of c.in-Explain.query in
+    subst (λ s. Responds limit (statement_reply limit (statement_of s) now) c.respond_explain.result
+    a a (g.K.Sink.written c.args.sink.now) (g.K.Sink.written c.respond_explain.new.sink))
+    (sym c.in-Explain.is)
+    (says_responds _ _ limit now a a (explain_reply limit.book query now) c.respond_explain.result
+    (g.met.D.Disk.valid a.journal.disk) represents
+    (no_puts (fault_of_query now.past query) now _)
+    (same_after (fault_of_query now.past query) now _)
+    (subst (λ (b : Book). Says (explain_reply b query now) c.respond_explain.result
+    (g.K.Sink.written c.args.sink.now) (g.K.Sink.written c.respond_explain.new.sink)) (sym same)
+    (c.respond_explain.ensures.says now represents.past)))
+
+pub returns-in-ShowVersions-clause-replies : goal.returns-in-ShowVersions-clause-replies
+returns-in-ShowVersions-clause-replies g c = λ limit same now represents.
+    let a = c.args.archive.now in
+    subst (λ s. Responds limit (statement_reply limit (statement_of s) now)
+    c.respond_versions.result a a (g.K.Sink.written c.args.sink.now)
+    (g.K.Sink.written c.respond_versions.new.sink)) (sym c.in-ShowVersions.is)
+    (says_responds _ _ limit now a a (versions_reply now) c.respond_versions.result
+    (g.met.D.Disk.valid a.journal.disk) represents refl refl
+    (c.respond_versions.ensures.says now represents.past))
+
+pub returns-in-ShowSchema-clause-replies : goal.returns-in-ShowSchema-clause-replies
+returns-in-ShowSchema-clause-replies g c = λ limit same now represents.
+    let a = c.args.archive.now in
+    let version = c.in-ShowSchema.version in
+    subst (λ s. Responds limit (statement_reply limit (statement_of s) now) c.respond_schema.result
+    a a (g.K.Sink.written c.args.sink.now) (g.K.Sink.written c.respond_schema.new.sink))
+    (sym c.in-ShowSchema.is)
+    (says_responds _ _ limit now a a (schema_reply version now) c.respond_schema.result
+    (g.met.D.Disk.valid a.journal.disk) represents
+    (no_puts (version_fault now.past version) now _)
+    (same_after (version_fault now.past version) now _)
+    (c.respond_schema.ensures.says now represents.past))
+
+pub returns-in-ShowSizes-clause-replies : goal.returns-in-ShowSizes-clause-replies
+returns-in-ShowSizes-clause-replies g c = λ limit same now represents.
+    let a = c.args.archive.now in
+    subst (λ s. Responds limit (statement_reply limit (statement_of s) now) c.respond_sizes.result a
+    a (g.K.Sink.written c.args.sink.now) (g.K.Sink.written c.respond_sizes.new.sink))
+    (sym c.in-ShowSizes.is)
+    (says_responds _ _ limit now a a (sizes_reply now) c.respond_sizes.result
+    (g.met.D.Disk.valid a.journal.disk) represents refl refl
+    (c.respond_sizes.ensures.says now represents.past))
+
+pub returns-in-Ask-clause-counts : goal.returns-in-Ask-clause-counts
+returns-in-Ask-clause-counts g c = halt_said c.respond_ask.result _ _ _ c.respond_ask.ensures.counts
+
+pub returns-in-Explain-clause-counts : goal.returns-in-Explain-clause-counts
+returns-in-Explain-clause-counts g c = halt_said c.respond_explain.result _ _ _
+    c.respond_explain.ensures.counts
+
+pub returns-in-ShowVersions-clause-counts : goal.returns-in-ShowVersions-clause-counts
+returns-in-ShowVersions-clause-counts g c = halt_said c.respond_versions.result _ _ _
+    c.respond_versions.ensures.counts
+
+pub returns-in-ShowSchema-clause-counts : goal.returns-in-ShowSchema-clause-counts
+returns-in-ShowSchema-clause-counts g c = halt_said c.respond_schema.result _ _ _
+    c.respond_schema.ensures.counts
+
+pub returns-in-ShowSizes-clause-counts : goal.returns-in-ShowSizes-clause-counts
+returns-in-ShowSizes-clause-counts g c = halt_said c.respond_sizes.result _ _ _
+    c.respond_sizes.ensures.counts
+
+pub returns-in-Ask-clause-takes : goal.returns-in-Ask-clause-takes
+returns-in-Ask-clause-takes g c = on_ok _ _ c.requires.takes
+
+pub returns-in-Explain-clause-takes : goal.returns-in-Explain-clause-takes
+returns-in-Explain-clause-takes g c = on_ok _ _ c.requires.takes
+
+pub returns-in-ShowVersions-clause-takes : goal.returns-in-ShowVersions-clause-takes
+returns-in-ShowVersions-clause-takes g c = on_ok _ _ c.requires.takes
+
+pub returns-in-ShowSchema-clause-takes : goal.returns-in-ShowSchema-clause-takes
+returns-in-ShowSchema-clause-takes g c = on_ok _ _ c.requires.takes
+
+pub returns-in-ShowSizes-clause-takes : goal.returns-in-ShowSizes-clause-takes
+returns-in-ShowSizes-clause-takes g c = on_ok _ _ c.requires.takes

@@ -1,6 +1,0 @@
-use Rattle.std.proofs.Common.{◌≡◌, ◌++◌, drop}
-use Rattle.shown_rows.specs.Showing.{ids_on}
-use Rattle.shown_rows.proofs.order.ids_on.Given as goal
-
-abbrev pub invariant-loop-one : goal.invariant-loop-one
-invariant-loop-one g l = l.ids.items ++ ids_on (drop l.one-index l.showing) ≡ ids_on l.showing

@@ -1,0 +1,14 @@
+pub mod WaySteps
+pub mod VersionSteps
+pub mod OneSteps
+pub mod WayDatabases
+pub mod WayValues
+pub mod LossesByName
+pub mod LossCauses
+pub mod WholeDatabases
+pub mod RoundTrips
+pub mod WorkedWords
+pub mod WorkedWays
+pub mod NamedEntries
+pub mod LifelinesAfter
+pub mod VersionsCovered

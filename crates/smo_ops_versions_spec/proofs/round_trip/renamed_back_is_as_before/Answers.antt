@@ -1,0 +1,8 @@
+use Rattle.smo_ops_versions_spec.proofs.RoundTrips.{rename_inverse, rename_back}
+use Rattle.smo_ops_versions_spec.proofs.round_trip.renamed_back_is_as_before.Goals as goal
+
+pub returns-clause-inverse : goal.returns-clause-inverse
+returns-clause-inverse c = λ tables r t e. rename_inverse tables r t e
+
+pub returns-clause-database : goal.returns-clause-database
+returns-clause-database c = λ tables r t database e h. rename_back tables r t e database h

@@ -1,0 +1,5 @@
+pub mod Ways
+pub mod Migration
+pub mod LostNames
+pub mod Whole
+pub mod Lifelines

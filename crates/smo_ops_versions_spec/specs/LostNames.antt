@@ -1,0 +1,63 @@
+-- The tables that are lost on the way from one version to another, by names alone.
+use Rattle.std.specs.Prelude.{◌≡◌, ℕ, ◌+◌, ◌<◌, ◌≤◌, List, [], ◌∷◌, Option, Some, None, slice_get}
+use Rattle.std.specs.FinMap.{FinMap, get, insert, remove, empty}
+use Rattle.prima_base.specs.Order.{bytes_cmp}
+use Rattle.schema_catalog.specs.Tables.{Tables}
+use Rattle.schema_catalog.specs.Databases.{Database}
+use Rattle.smo_ops_types.specs.Operators.{Operator}
+use Rattle.smo_ops_types.specs.Commands.{PlainVersion}
+use Rattle.smo_ops_spec.specs.OperatorTable.{line, made_names}
+use Rattle.smo_ops_spec.specs.Touching.{made_of}
+use Rattle.smo_ops_spec.specs.Losses.{Loss, loss_in, first_loss}
+use Rattle.smo_ops_versions_spec.specs.Ways.{Along, taken}
+
+-- the lost tables, by their names
+abbrev pub Losses : Type 0
+Losses = FinMap bytes_cmp Loss
+
+-- these are the losses of the database
+abbrev pub AreLosses : Losses → Database → Type 0
+AreLosses losses db = (n : List ℕ) → loss_in db n ≡ get losses n
+
+abbrev pub none_lost : List (List ℕ) → Losses → Losses
+none_lost [] losses = losses
+none_lost (n ∷ names) losses = none_lost names (remove losses n)
+
+abbrev pub all_lost : Loss → List (List ℕ) → Losses → Losses
+all_lost loss [] losses = losses
+all_lost loss (n ∷ names) losses = all_lost loss names (insert losses n loss)
+
+-- the names have this loss, or none
+abbrev pub with_loss : Option Loss → List (List ℕ) → Losses → Losses
+with_loss None names losses = none_lost names losses
+with_loss (Some loss) names losses = all_lost loss names losses
+
+-- over an operator the consumed names go, and what is made has the first loss of what it is made of
+abbrev pub losses_over : Tables → Operator → Losses → Losses
+losses_over tables op losses =
+    with_loss (first_loss (get losses) (made_of op)) (made_names (line tables op).made)
+    (none_lost (line tables op).consumed losses)
+
+-- back over the operator of version k, where no inverse is named: the made names go, and the
+-- consumed ones are lost
+abbrev pub losses_undone : ℕ → Tables → Operator → Losses → Losses
+losses_undone k before op losses =
+    all_lost (k, 1) (line before op).consumed (none_lost (made_names (line before op).made) losses)
+
+abbrev pub of_losses : Along Losses
+of_losses = record { over = losses_over; undone = losses_undone }
+
+-- the tables that are lost on the way from version v to version q
+abbrev pub lost_names : List PlainVersion → ℕ → ℕ → Losses
+lost_names versions v q = taken of_losses versions v q empty
+
+-- the loss is by a version that is gone back over on the way from version v to version q, and that
+-- names no inverse: the one after version `before`, by its first operator
+pub record IsUnnamed (versions : List PlainVersion) (v q : ℕ) (loss : Loss) : Type 0 where
+  pub before : ℕ
+  pub by : PlainVersion
+  pub is : slice_get versions before ≡ Some by
+  pub unnamed : by.inverse ≡ []
+  pub from : q ≤ before
+  pub to : before < v
+  pub lost : loss ≡ (before + 1, 1)

@@ -1,0 +1,19 @@
+//! The ways between the versions of a past: a database taken from version to version, forward over
+//! the operators and back over their inverses, and the tables that are lost on the way, by names
+//! alone; and the lifelines of tables: the longest runs of versions in which no operator makes or
+//! consumes one. Definitions (`specs/`) and their laws.
+#![tactic(auto)]
+
+mod lifeline_laws;
+mod round_trip;
+mod way_laws;
+
+pub use lifeline_laws::each_version_has_the_tables_of_its_lifelines;
+pub use round_trip::{
+    copied_and_dropped_is_as_before, partitioned_and_merged_is_as_before, renamed_back_is_as_before,
+};
+pub use way_laws::{
+    a_lost_table_may_be_taken_for_an_empty_one, a_step_is_over_its_version,
+    names_tell_what_is_lost, the_way_is_step_by_step, the_way_keeps_a_database,
+    the_way_keeps_valid_values, what_is_lost_has_no_named_inverse,
+};

@@ -1,0 +1,165 @@
+ghost use Rattle.std.specs.Prelude.{◌≡◌, ◌+◌, ◌<◌, ◌≤◌, ℕ, List, [], ◌∷◌, None, Some, true, false};
+ghost use Rattle.std.specs.Prelude.{slice_get};
+ghost use Rattle.std.specs.FinMap.{get, empty};
+ghost use Rattle.schema_catalog.specs.Tables.{Tables};
+ghost use Rattle.schema_catalog.specs.Databases.{Database, IsDatabase, Rows, Lost};
+ghost use Rattle.smo_ops_types.specs.Operators.{Operator};
+ghost use Rattle.smo_ops_types.specs.Commands.{PlainVersion};
+ghost use Rattle.smo_ops_spec.specs.Losses.{IsDatabaseWithLosses, Loss, loss_in};
+ghost use Rattle.smo_ops_spec.specs.Touching.{makes, consumes};
+ghost use Rattle.smo_ops_spec.specs.After.{op_fault, schema_after, carried};
+ghost use Rattle.smo_ops_spec.specs.Past.{no_tables, tables_from};
+ghost use Rattle.smo_ops_spec.specs.ValidPast.{AreVersions};
+ghost use Rattle.smo_ops_spec.specs.ValidValues.{HoldsValues, VersionsHold};
+ghost use Rattle.smo_ops_versions_spec.specs.Ways.{over_each, to_next, from_next};
+ghost use Rattle.smo_ops_versions_spec.specs.Migration.{carried_over, carried_along, back, migrated_from};
+ghost use Rattle.smo_ops_versions_spec.specs.LostNames.{Losses, AreLosses, of_losses, losses_over};
+ghost use Rattle.smo_ops_versions_spec.specs.LostNames.{losses_undone, lost_names, IsUnnamed};
+ghost use Rattle.smo_ops_versions_spec.specs.Whole.{whole};
+
+/// The way from version to version, one step at a time and by way of a version between: to where
+/// one stands it changes nothing; to the next version it is carrying over that version's operator
+/// after the way up to it; to the version before it is the step back after the way down to it;
+/// and by way of a version between it is the two ways one after the other. The same of the tables
+/// that are lost on it, by names alone: where one stands none is.
+pub fn the_way_is_step_by_step()
+    ensures stays { (versions : List PlainVersion) → (v : ℕ) → (database : Database)
+        → migrated_from versions v v database ≡ database }
+    ensures forward { (versions : List PlainVersion) → (v : ℕ) → (q : ℕ)
+        → (database : Database) → v ≤ q
+        → migrated_from versions v (q + 1) database
+        ≡ carried_along versions q (migrated_from versions v q database) }
+    ensures back { (versions : List PlainVersion) → (v : ℕ) → (q : ℕ) → (database : Database)
+        → q < v
+        → migrated_from versions v q database
+        ≡ back versions q (migrated_from versions v (q + 1) database) }
+    ensures forward_by { (versions : List PlainVersion) → (v : ℕ) → (m : ℕ) → (q : ℕ)
+        → (database : Database) → v ≤ m → m ≤ q
+        → migrated_from versions v q database
+        ≡ migrated_from versions m q (migrated_from versions v m database) }
+    ensures back_by { (versions : List PlainVersion) → (v : ℕ) → (m : ℕ) → (q : ℕ)
+        → (database : Database) → q ≤ m → m ≤ v
+        → migrated_from versions v q database
+        ≡ migrated_from versions m q (migrated_from versions v m database) }
+    ensures losses_stay { (versions : List PlainVersion) → (v : ℕ)
+        → lost_names versions v v ≡ empty }
+    ensures losses_forward { (versions : List PlainVersion) → (v : ℕ) → (q : ℕ) → v ≤ q
+        → lost_names versions v (q + 1) ≡ to_next of_losses versions q (lost_names versions v q) }
+    ensures losses_back { (versions : List PlainVersion) → (v : ℕ) → (q : ℕ) → q < v
+        → lost_names versions v q ≡ from_next of_losses versions q (lost_names versions v (q + 1)) }
+{}
+
+/// What one step of a way is, at the version number `k + 1`, the one after the tables of version
+/// `k`. To it a database is carried over the version's operator. Back from it, where an inverse is
+/// named, it is carried over the inverse's operators, first to last, each after the one before; and
+/// where none is named, each table that the operator consumed is lost by the first operator of
+/// version `k + 1`, each that it made and did not consume is gone, and all others stay. The same of
+/// losses by names alone.
+pub fn a_step_is_over_its_version()
+    ensures forward { (versions : List PlainVersion) → (k : ℕ) → (v : PlainVersion)
+        → (database : Database) → slice_get versions k ≡ Some v
+        → carried_along versions k database
+        ≡ carried (tables_from no_tables versions k) v.op database }
+    ensures named { (versions : List PlainVersion) → (k : ℕ) → (v : PlainVersion)
+        → (database : Database) → (op : Operator) → (rest : List Operator)
+        → slice_get versions k ≡ Some v → v.inverse ≡ op ∷ rest
+        → back versions k database ≡ carried_over v.tables v.inverse database }
+    ensures over_none { (tables : Tables) → (database : Database)
+        → carried_over tables [] database ≡ database }
+    ensures over_each { (tables : Tables) → (op : Operator) → (ops : List Operator)
+        → (database : Database) → carried_over tables (op ∷ ops) database
+        ≡ carried_over (schema_after tables op) ops (carried tables op database) }
+    ensures lost { (versions : List PlainVersion) → (k : ℕ) → (v : PlainVersion)
+        → (database : Database) → (n : List ℕ)
+        → slice_get versions k ≡ Some v → v.inverse ≡ []
+        → consumes (tables_from no_tables versions k) v.op n ≡ true
+        → get (back versions k database) n ≡ Some (Lost (k + 1) 1) }
+    ensures gone { (versions : List PlainVersion) → (k : ℕ) → (v : PlainVersion)
+        → (database : Database) → (n : List ℕ)
+        → slice_get versions k ≡ Some v → v.inverse ≡ []
+        → makes (tables_from no_tables versions k) v.op n ≡ true
+        → consumes (tables_from no_tables versions k) v.op n ≡ false
+        → get (back versions k database) n ≡ None }
+    ensures others { (versions : List PlainVersion) → (k : ℕ) → (v : PlainVersion)
+        → (database : Database) → (n : List ℕ)
+        → slice_get versions k ≡ Some v → v.inverse ≡ []
+        → makes (tables_from no_tables versions k) v.op n ≡ false
+        → consumes (tables_from no_tables versions k) v.op n ≡ false
+        → get (back versions k database) n ≡ get database n }
+    ensures losses_over { (versions : List PlainVersion) → (k : ℕ) → (v : PlainVersion)
+        → (losses : Losses) → slice_get versions k ≡ Some v
+        → to_next of_losses versions k losses
+        ≡ losses_over (tables_from no_tables versions k) v.op losses }
+    ensures losses_named { (versions : List PlainVersion) → (k : ℕ) → (v : PlainVersion)
+        → (losses : Losses) → (op : Operator) → (rest : List Operator)
+        → slice_get versions k ≡ Some v → v.inverse ≡ op ∷ rest
+        → from_next of_losses versions k losses ≡ over_each of_losses v.tables v.inverse losses }
+    ensures losses_undone { (versions : List PlainVersion) → (k : ℕ) → (v : PlainVersion)
+        → (losses : Losses) → slice_get versions k ≡ Some v → v.inverse ≡ []
+        → from_next of_losses versions k losses
+        ≡ losses_undone (k + 1) (tables_from no_tables versions k) v.op losses }
+{}
+
+/// What is taken along the versions of a past is a database of the version that is reached, in
+/// which tables may be lost: over each operator, and back over each.
+pub fn the_way_keeps_a_database()
+    ensures way { (versions : List PlainVersion) → (v : ℕ) → (q : ℕ) → (database : Database)
+        → AreVersions None no_tables versions
+        → IsDatabaseWithLosses (tables_from no_tables versions v) database
+        → IsDatabaseWithLosses (tables_from no_tables versions q)
+        (migrated_from versions v q database) }
+    ensures forward { (versions : List PlainVersion) → (k : ℕ) → (database : Database)
+        → AreVersions None no_tables versions
+        → IsDatabaseWithLosses (tables_from no_tables versions k) database
+        → IsDatabaseWithLosses (tables_from no_tables versions (k + 1))
+        (carried_along versions k database) }
+    ensures back { (versions : List PlainVersion) → (k : ℕ) → (database : Database)
+        → AreVersions None no_tables versions
+        → IsDatabaseWithLosses (tables_from no_tables versions (k + 1)) database
+        → IsDatabaseWithLosses (tables_from no_tables versions k) (back versions k database) }
+{}
+
+/// Along versions whose operators and inverses have valid constants valid values stay valid: over
+/// each operator, and back over each.
+pub fn the_way_keeps_valid_values()
+    ensures way { (versions : List PlainVersion) → (v : ℕ) → (q : ℕ) → (database : Database)
+        → VersionsHold versions → HoldsValues database
+        → HoldsValues (migrated_from versions v q database) }
+    ensures forward { (versions : List PlainVersion) → (k : ℕ) → (database : Database)
+        → VersionsHold versions → HoldsValues database
+        → HoldsValues (carried_along versions k database) }
+    ensures back { (versions : List PlainVersion) → (k : ℕ) → (database : Database)
+        → VersionsHold versions → HoldsValues database → HoldsValues (back versions k database) }
+{}
+
+/// The tables that are lost on the way from one version to another, by names alone, are just those
+/// that are lost in a database of the first that is taken along, each by the same loss.
+pub fn names_tell_what_is_lost()
+    ensures { (versions : List PlainVersion) → (v : ℕ) → (q : ℕ) → (database : Database)
+        → IsDatabase (tables_from no_tables versions v) database
+        → AreLosses (lost_names versions v q) (migrated_from versions v q database) }
+{}
+
+/// A table that is lost on the way from one version to another is lost by a version that is gone
+/// back over on that way, and that names no inverse. So nothing is lost on the way forward, nor
+/// back over versions that name their inverses.
+pub fn what_is_lost_has_no_named_inverse()
+    ensures { (versions : List PlainVersion) → (v : ℕ) → (q : ℕ) → (n : List ℕ) → (loss : Loss)
+        → get (lost_names versions v q) n ≡ Some loss → IsUnnamed versions v q loss }
+{}
+
+/// With the empty relation in the place of each lost table a database with losses is one without,
+/// in which each other table is as it was; and what is carried from it has the same in each table
+/// that is not lost after the operator.
+pub fn a_lost_table_may_be_taken_for_an_empty_one()
+    ensures kept { (database : Database) → (n : List ℕ) → loss_in database n ≡ None
+        → get (whole database) n ≡ get database n }
+    ensures emptied { (database : Database) → (n : List ℕ) → (loss : Loss)
+        → loss_in database n ≡ Some loss → get (whole database) n ≡ Some (Rows []) }
+    ensures database { (tables : Tables) → (database : Database)
+        → IsDatabaseWithLosses tables database → IsDatabase tables (whole database) }
+    ensures carried { (tables : Tables) → (op : Operator) → (database : Database)
+        → op_fault tables op ≡ None → (n : List ℕ)
+        → loss_in (carried tables op database) n ≡ None
+        → get (carried tables op (whole database)) n ≡ get (whole (carried tables op database)) n }
+{}

@@ -1,7 +1,0 @@
-use Rattle.std.proofs.Common.{◌≤◌, length}
-use Rattle.smo_meaning.specs.Past.{Past}
-use Rattle.version_groups.specs.Representation.{Represents}
-use Rattle.statement_response.proofs.response.count_lifelines.Given as goal
-
-abbrev pub invariant-loop-i : goal.invariant-loop-i
-invariant-loop-i l = (past : Past) → Represents l.groups past → l.i ≤ length past.sizes

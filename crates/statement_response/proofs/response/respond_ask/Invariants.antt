@@ -1,4 +1,0 @@
-use Rattle.statement_response.proofs.response.respond_ask.Given as goal
-
-abbrev pub ghosts-ask_counted : goal.ghosts-ask_counted
-ghosts-ask_counted g a = record { name = a.blank.name; parts = a.blank.parts }

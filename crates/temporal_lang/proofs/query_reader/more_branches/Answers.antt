@@ -1,0 +1,70 @@
+use Rattle.std.proofs.Common.{[], ◌∷◌, ◌++◌, map, sym, ap, ◌∙◌, append_assoc, append-nil, codes}
+use Rattle.std.proofs.Common.{arith}
+use Rattle.std.proofs.lemmas.List.{map-append}
+use Rattle.std.proofs.lemmas.Result.{err_from_is_err_and}
+use Rattle.prima_base.specs.declared.refusal.What.TheVariants.{Branches}
+use Rattle.temporal_lang_types.specs.Branches.{branch_of, branches_of}
+use Rattle.lexer_spec.specs.Lexemes.{is_word}
+use Rattle.lexer_combinators.specs.Parsing.{more}
+use Rattle.lexer_combinators.specs.Reads.{ahead}
+use Rattle.lexer_combinators.proofs.ReadSteps.{after, after_fails, prepend_none, more_next}
+use Rattle.lexer_combinators.proofs.ReadSteps.{more_err, more_full, more_done}
+use Rattle.temporal_lang_grammar_spec.specs.QueryReader.{branch}
+use Rattle.temporal_lang.proofs.query_reader.more_branches.Goals as goal
+
+pub loop-alloc-init : goal.loop-alloc-init
+loop-alloc-init c = (
+  omega arith,
+  [],
+  sym (append-nil (branches_of c.args.list.now.items)),
+  prepend_none (more (is_word (codes "UNION")) Branches branch 15 c.args.c.now.nodes
+      (ahead c.args.c.now)),
+)
+
+pub loop-alloc-preserved : goal.loop-alloc-preserved
+loop-alloc-preserved c =
+    let inv = c.loop-alloc.invariant in
+    let x = branch_of c.in_ok-branch.field-0 in (
+      omega arith,
+      inv.1 ++ x ∷ [],
+      (let pushed = c.in_ok-push.ensures in
+          ap (map branch_of) pushed.items ∙ map-append branch_of c.loop-alloc.list.items
+          (c.in_ok-branch.field-0 ∷ []) ∙ ap (λ l. l ++ x ∷ []) inv.2
+          ∙ append_assoc (branches_of c.args.list.now.items) inv.1 (x ∷ [])),
+      more_next (is_word (codes "UNION")) Branches branch _ inv.1 c.loop-alloc.left
+          c.loop-alloc.c.nodes (ahead c.loop-alloc.c) inv.3 x c.branch-alloc.new.c.nodes
+          (ahead c.branch-alloc.new.c) (omega arith)
+          (sym c.sees_word.ensures ∙ c.loop-alloc-test.true)
+          (after branch _ c.loop-alloc.c.nodes c.skip.new.self.nodes (ahead c.loop-alloc.c)
+          (ahead c.skip.new.self) c.skip.ensures.nodes c.skip.ensures.rest
+          c.in_ok-branch.ensures),
+    )
+
+pub returns-in_err-branch : goal.returns-in_err-branch
+returns-in_err-branch c =
+    let inv = c.loop-alloc.invariant in
+    let failed = more_err (is_word (codes "UNION")) Branches branch _ inv.1 c.loop-alloc.left
+    c.loop-alloc.c.nodes (ahead c.loop-alloc.c) inv.3 c.in_err-branch.field-0.0
+    c.branch-alloc.new.c (omega arith) (sym c.sees_word.ensures ∙ c.loop-alloc-test.true)
+    (after_fails branch c.in_err-branch.field-0.0 c.branch-alloc.new.c c.loop-alloc.c.nodes
+    c.skip.new.self.nodes (ahead c.loop-alloc.c) (ahead c.skip.new.self) c.skip.ensures.nodes
+    c.skip.ensures.rest c.in_err-branch.ensures) in
+    let f = err_from_is_err_and c.from_residual.result c.from_residual.ensures.1 in
+    rw (f.1, f.2) failed
+
+pub returns-then-left-eq0 : goal.returns-then-left-eq0
+returns-then-left-eq0 c =
+    let inv = c.loop-alloc.invariant in
+    more_full (is_word (codes "UNION")) Branches branch _ inv.1 c.loop-alloc.left
+    c.loop-alloc.c.nodes (ahead c.loop-alloc.c) inv.3 c.if-left-eq0.true
+    (sym c.sees_word.ensures ∙ c.loop-alloc-test.true)
+
+pub returns : goal.returns
+returns c =
+    let inv = c.loop-alloc.invariant in (
+      inv.1,
+      more_done (is_word (codes "UNION")) Branches branch _ inv.1 c.loop-alloc.left
+          c.loop-alloc.c.nodes (ahead c.loop-alloc.c) inv.3
+          (sym c.sees_word.ensures ∙ c.loop-alloc-test.false),
+      inv.2,
+    )

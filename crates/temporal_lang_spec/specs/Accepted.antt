@@ -1,0 +1,66 @@
+-- Whether a query is accepted after a past: the first refusal in the one order.
+use Rattle.std.specs.Prelude.{◌≡◌, ℕ, ◌-◌, ◌<◌, ◌≤◌, List, [], ◌∷◌, ◌++◌, length, nat_le, Option}
+use Rattle.std.specs.Prelude.{Some, None, slice_get}
+use Rattle.std.specs.Option.{option_map}
+use Rattle.std.specs.FinMap.{get}
+use Rattle.relations_spec.specs.Sets.{In}
+use Rattle.prima_base.specs.declared.refusal.OpKind.{OpKind}
+use Rattle.prima_base.specs.declared.refusal.OpKind.TheVariants.{Nop}
+use Rattle.prima_base.specs.declared.refusal.Refusal.{Refusal}
+use Rattle.prima_base.specs.declared.refusal.Refusal.TheVariants.{NoVersion, NoInverse}
+use Rattle.smo_ops_types.specs.Commands.{PlainVersion}
+use Rattle.smo_ops_spec.specs.First.{unless, first_refusal}
+use Rattle.smo_ops_spec.specs.Checks.{Fault}
+use Rattle.smo_ops_spec.specs.Past.{Past, tables_of, version_at}
+use Rattle.smo_ops_spec.specs.Losses.{Loss}
+use Rattle.smo_ops_spec.specs.OperatorKinds.{operator_kind}
+use Rattle.smo_ops_versions_spec.specs.LostNames.{lost_names}
+use Rattle.temporal_lang_types.specs.Queries.{PlainQuery, slice_of}
+use Rattle.temporal_lang_spec.specs.Checking.{excess_of, excess_fault, query_tests}
+use Rattle.temporal_lang_spec.specs.Losing.{query_tables, loss_at, first_lost}
+
+-- the operator's kind
+abbrev pub version_kind : Option PlainVersion → OpKind
+version_kind None = Nop
+version_kind (Some v) = operator_kind v.op
+
+-- the version whose operator is not gone back over, and the operator's kind
+abbrev pub no_way_back : List PlainVersion → Loss → Refusal
+no_way_back versions loss = NoInverse loss.0 (version_kind (slice_get versions (loss.0 - 1)))
+
+abbrev pub loss_fault : List PlainVersion → Option Loss → Fault
+loss_fault versions loss = option_map (no_way_back versions) loss
+
+abbrev pub version_fault : Past → ℕ → Fault
+version_fault past version = unless (nat_le version (length past.versions))
+    (NoVersion version (length past.versions))
+
+-- counts, the version, and then names, types and periods over its tables; last the first loss
+abbrev pub tests_of_query : Past → PlainQuery → List Fault
+tests_of_query past query = excess_fault (excess_of query) ∷ version_fault past query.version
+    ∷ (query_tests (tables_of past query.version) query
+    ++ loss_fault past.versions (first_lost past query) ∷ [])
+
+-- the refusal of a query; none where it is accepted
+abbrev pub fault_of_query : Past → PlainQuery → Fault
+fault_of_query past query = first_refusal (tests_of_query past query)
+
+-- There is no way back over version k: at a moment of the query's slice a table of the query is
+-- lost, by names alone, on the way from the version in force back to the query's one, by version k,
+-- whose operator is of this kind and which names no inverse. At no earlier moment of the slice is a
+-- table of the query lost.
+pub record HasNoWayBack (past : Past) (query : PlainQuery) (k : ℕ) (kind : OpKind) : Type 0 where
+  pub moment : ℕ
+  pub after : (slice_of query.when).start ≤ moment
+  pub until : moment < (slice_of query.when).end
+  pub table : List ℕ
+  pub asked : In table (query_tables query.branches)
+  pub lost : get (lost_names past.versions (version_at past moment) query.version) table
+      ≡ Some (k, 1)
+  pub first : (m : ℕ) → (slice_of query.when).start ≤ m → m < moment → loss_at past query m ≡ None
+  pub by : PlainVersion
+  pub is : slice_get past.versions (k - 1) ≡ Some by
+  pub unnamed : by.inverse ≡ []
+  pub of_kind : operator_kind by.op ≡ kind
+  pub later : query.version < k
+  pub reached : k ≤ version_at past moment

@@ -1,8 +1,0 @@
-use Rattle.std.specs.FinMap.{empty}
-use Rattle.smo_meaning.specs.Past.{no_tables, tables_from}
-use Rattle.version_ways.proofs.LossesByName.{losses_are, no_losses}
-use Rattle.version_ways.proofs.laws.names_tell_what_is_lost.Goals as goal
-
-pub returns : goal.returns
-returns c = λ versions v q database h. losses_are versions v q empty database
-    (no_losses (tables_from no_tables versions v) database h)

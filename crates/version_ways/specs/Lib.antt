@@ -1,4 +1,0 @@
-pub mod Ways
-pub mod Migration
-pub mod LostNames
-pub mod Whole
