@@ -10,7 +10,8 @@ use Rattle.journal.specs.Reading.{records_in, record_of as plain_record, IsOpene
 use Rattle.journal.specs.MountLaws.{opened_stands, opened_records}
 use Rattle.journal.specs.JournalFiles.{Stands}
 use Rattle.journal.specs.declared.rec.Rec.{Rec}
-use Rattle.archive_core_file_spec.specs.LogRecords.{LogRecord, logged, records_of, gate_after, replayed_of}
+use Rattle.archive_core_file_spec.specs.LogRecords.{LogRecord, logged, records_of, gate_after}
+use Rattle.archive_core_file_spec.specs.LogRecords.{replayed_of}
 use Rattle.archive_core_file_spec.specs.Opening.{HasFaultAt, Damages, Opens}
 use Rattle.archive_core_state.specs.ArchiveContents.{ArchiveContent}
 use Rattle.archive_core_replay.specs.declared.opened.Opened.{Opened}

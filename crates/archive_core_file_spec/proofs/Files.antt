@@ -7,9 +7,12 @@ use Rattle.journal.specs.Damage.{IsDamagedAt}
 use Rattle.journal.specs.RecordLaws.{stands_for_one}
 use Rattle.journal.specs.DamageLaws.{not_damaged, damaged_at_one_place}
 use Rattle.journal.proofs.Whole.{stands_or_damaged}
-use Rattle.archive_core_file_spec.specs.LogRecords.{LogRecord, logged, records_of, gate_after, AreSpelled}
-use Rattle.archive_core_file_spec.specs.Opening.{IsRefusedAt, HasNoSpellingAt, HasFaultAt, Damages, Opens}
-use Rattle.archive_core_file_spec.proofs.RecordsOf.{ReadsRight, ReadsAll, IsRead, read_or_not, same_records}
+use Rattle.archive_core_file_spec.specs.LogRecords.{LogRecord, logged, records_of, gate_after}
+use Rattle.archive_core_file_spec.specs.LogRecords.{AreSpelled}
+use Rattle.archive_core_file_spec.specs.Opening.{IsRefusedAt, HasNoSpellingAt, HasFaultAt, Damages}
+use Rattle.archive_core_file_spec.specs.Opening.{Opens}
+use Rattle.archive_core_file_spec.proofs.RecordsOf.{ReadsRight, ReadsAll, IsRead, read_or_not}
+use Rattle.archive_core_file_spec.proofs.RecordsOf.{same_records}
 use Rattle.archive_core_file_spec.proofs.RecordsOf.{one_payload, no_payload, refused_once}
 use Rattle.archive_core_file_spec.proofs.Histories.{Stops, judged, stops_once, never_stops}
 

@@ -7,7 +7,8 @@ use Rattle.smo_ops_types.specs.Commands.{PlainCommand}
 use Rattle.smo_ops_spec.specs.Accepts.{command_fault}
 use Rattle.smo_ops_spec.specs.Past.{Past, past_with}
 use Rattle.store_image_spec.specs.ShownPast.{image_past}
-use Rattle.archive_core_file_spec.specs.LogRecords.{LogRecord, logged, checkpointed, has_image, after_record}
+use Rattle.archive_core_file_spec.specs.LogRecords.{LogRecord, logged, checkpointed, has_image}
+use Rattle.archive_core_file_spec.specs.LogRecords.{after_record}
 use Rattle.archive_core_file_spec.specs.LogRecords.{after_records, AreAccepted}
 
 -- those before it are accepted, and it is not

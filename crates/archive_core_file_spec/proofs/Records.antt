@@ -7,8 +7,10 @@ use Rattle.smo_ops_spec.specs.History.{AllAccepted, past_after}
 use Rattle.smo_ops_spec.specs.Past.{Past, next_past, past_with}
 use Rattle.store_image_spec.specs.Images.{Image}
 use Rattle.store_image_spec.specs.ShownPast.{image_past}
-use Rattle.archive_core_file_spec.specs.LogRecords.{LogRecord, logged, checkpointed, commands_in, has_image}
-use Rattle.archive_core_file_spec.specs.LogRecords.{replayed_in, after_record, after_records, AreAccepted}
+use Rattle.archive_core_file_spec.specs.LogRecords.{LogRecord, logged, checkpointed, commands_in}
+use Rattle.archive_core_file_spec.specs.LogRecords.{has_image}
+use Rattle.archive_core_file_spec.specs.LogRecords.{replayed_in, after_record, after_records}
+use Rattle.archive_core_file_spec.specs.LogRecords.{AreAccepted}
 use Rattle.archive_core_file_spec.specs.LogRecords.{AreSound}
 use Rattle.archive_core_file_spec.proofs.Histories.{images_append, none_in_prefix}
 

@@ -11,7 +11,8 @@ use Rattle.command_codec_spec.proofs.Deciding.{decoded, decoding_once, its_own}
 use Rattle.store_image_spec.specs.Images.{Image, IsImage}
 use Rattle.store_image_spec.specs.Spelling.{image_bytes}
 use Rattle.store_image_spec.specs.Reader as reader
-use Rattle.archive_core_file_spec.specs.LogRecords.{LogRecord, logged, checkpointed, record_of, records_of}
+use Rattle.archive_core_file_spec.specs.LogRecords.{LogRecord, logged, checkpointed, record_of}
+use Rattle.archive_core_file_spec.specs.LogRecords.{records_of}
 use Rattle.archive_core_file_spec.specs.LogRecords.{IsSpelled, AreSpelled}
 use Rattle.archive_core_file_spec.specs.Opening.{IsNoCommandAt, IsNoImageAt, IsRefusedAt}
 

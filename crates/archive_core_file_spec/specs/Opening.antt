@@ -10,7 +10,8 @@ use Rattle.command_codec_spec.specs.Reading.{Unexpected}
 use Rattle.store_image_spec.specs.Reader as reader
 use Rattle.journal.specs.Records.{Record, StandsFor}
 use Rattle.journal.specs.Damage.{IsDamagedAt}
-use Rattle.archive_core_file_spec.specs.LogRecords.{LogRecord, logged, records_of, gate_after, AreSpelled}
+use Rattle.archive_core_file_spec.specs.LogRecords.{LogRecord, logged, records_of, gate_after}
+use Rattle.archive_core_file_spec.specs.LogRecords.{AreSpelled}
 use Rattle.archive_core_file_spec.specs.LogRecords.{has_image, past_recorded, AreAccepted, AreSound}
 
 -- the bytes are no command's, at this place in them

@@ -7,8 +7,10 @@ ghost use Rattle.smo_ops_spec.specs.History.{AllAccepted, IsHistory, past_after,
 ghost use Rattle.smo_ops_spec.specs.Past.{Past, beginning};
 ghost use Rattle.store_image_spec.specs.Images.{Image};
 ghost use Rattle.store_image_spec.specs.ShownPast.{image_past};
-ghost use Rattle.archive_core_file_spec.specs.LogRecords.{LogRecord, logged, checkpointed, commands_in};
-ghost use Rattle.archive_core_file_spec.specs.LogRecords.{replayed_in, after_records, past_recorded};
+ghost use Rattle.archive_core_file_spec.specs.LogRecords.{LogRecord, logged, checkpointed};
+ghost use Rattle.archive_core_file_spec.specs.LogRecords.{commands_in};
+ghost use Rattle.archive_core_file_spec.specs.LogRecords.{replayed_in, after_records};
+ghost use Rattle.archive_core_file_spec.specs.LogRecords.{past_recorded};
 ghost use Rattle.archive_core_file_spec.specs.LogRecords.{AreAccepted, AreSound};
 ghost use Rattle.archive_core_file_spec.specs.Opening.{Opens, Damages};
 

@@ -17,12 +17,16 @@ use Rattle.store_image_spec.specs.ShownPast.{image_past}
 use Rattle.journal.specs.Records.{Record, AreKnown, IsKnown, before_gate}
 use Rattle.journal.specs.Reading.{records_in, record_of as plain_record, AreInPlace}
 use Rattle.journal.specs.declared.rec.Rec.{Rec}
-use Rattle.archive_core_file_spec.specs.LogRecords.{LogRecord, logged, checkpointed, record_of, records_of}
+use Rattle.archive_core_file_spec.specs.LogRecords.{LogRecord, logged, checkpointed, record_of}
+use Rattle.archive_core_file_spec.specs.LogRecords.{records_of}
 use Rattle.archive_core_file_spec.specs.LogRecords.{gate_after, IsSpelled, AreSpelled, commands_in}
-use Rattle.archive_core_file_spec.specs.LogRecords.{replayed_in, after_records, past_recorded, AreAccepted}
+use Rattle.archive_core_file_spec.specs.LogRecords.{replayed_in, after_records, past_recorded}
+use Rattle.archive_core_file_spec.specs.LogRecords.{AreAccepted}
 use Rattle.archive_core_file_spec.specs.Opening.{HasNoSpellingAt}
-use Rattle.archive_core_file_spec.proofs.Records.{after_append, after_commands, after_image, accepted_append}
-use Rattle.archive_core_file_spec.proofs.Records.{accepted_commands, accepted_image, no_images, all_replayed}
+use Rattle.archive_core_file_spec.proofs.Records.{after_append, after_commands, after_image}
+use Rattle.archive_core_file_spec.proofs.Records.{accepted_append}
+use Rattle.archive_core_file_spec.proofs.Records.{accepted_commands, accepted_image, no_images}
+use Rattle.archive_core_file_spec.proofs.Records.{all_replayed}
 use Rattle.archive_core_file_spec.proofs.Records.{replayed_after}
 use Rattle.archive_core_state.specs.ArchiveContents.{ArchiveContent, RepresentsPast}
 use Rattle.archive_core_replay.specs.declared.record_reader.ReadRecords.{ReadRecords}

@@ -8,7 +8,8 @@ use Rattle.smo_ops_spec.specs.Accepts.{command_fault}
 use Rattle.journal.specs.Records.{Record, before_gate}
 use Rattle.journal.specs.Reading.{records_in, record_of as plain_record, AreInPlace}
 use Rattle.journal.specs.declared.rec.Rec.{Rec}
-use Rattle.archive_core_file_spec.specs.LogRecords.{LogRecord, logged, record_of, records_of, gate_after}
+use Rattle.archive_core_file_spec.specs.LogRecords.{LogRecord, logged, record_of, records_of}
+use Rattle.archive_core_file_spec.specs.LogRecords.{gate_after}
 use Rattle.archive_core_file_spec.specs.LogRecords.{AreSpelled, past_recorded}
 use Rattle.archive_core_file_spec.specs.Opening.{HasFaultAt}
 use Rattle.archive_core_file_spec.proofs.Records.{no_images}

@@ -5,8 +5,10 @@ use Rattle.std.proofs.lemmas.List.{length-map}
 use Rattle.smo_ops_types.specs.Commands.{PlainCommand, command_of}
 use Rattle.store_image_spec.specs.Images.{Image}
 use Rattle.journal.specs.Records.{Record}
-use Rattle.archive_core_file_spec.specs.LogRecords.{LogRecord, logged, checkpointed, record_of, records_of}
-use Rattle.archive_core_file_spec.specs.LogRecords.{commands_in, has_image, replayed_in, replayed_of}
+use Rattle.archive_core_file_spec.specs.LogRecords.{LogRecord, logged, checkpointed, record_of}
+use Rattle.archive_core_file_spec.specs.LogRecords.{records_of}
+use Rattle.archive_core_file_spec.specs.LogRecords.{commands_in, has_image, replayed_in}
+use Rattle.archive_core_file_spec.specs.LogRecords.{replayed_of}
 use Rattle.archive_core_file_spec.proofs.RecordsOf.{head_record, tail_records}
 use Rattle.archive_core_replay.specs.declared.record_reader.ReadRecords.{ReadRecords}
 use Rattle.archive_core_replay.specs.Reading.{AreKept, commands_kept}

@@ -6,7 +6,8 @@ use Rattle.store_image_spec.specs.Images.{Image}
 use Rattle.journal.specs.Records.{Record, IsKnown}
 use Rattle.journal.specs.Reading.{record_of as plain_record}
 use Rattle.journal.specs.declared.rec.Rec.{Rec}
-use Rattle.archive_core_file_spec.specs.LogRecords.{LogRecord, logged, checkpointed, records_of, AreSpelled}
+use Rattle.archive_core_file_spec.specs.LogRecords.{LogRecord, logged, checkpointed, records_of}
+use Rattle.archive_core_file_spec.specs.LogRecords.{AreSpelled}
 use Rattle.archive_core_file_spec.specs.LogRecords.{commands_in, past_recorded}
 use Rattle.archive_core_file_spec.specs.Opening.{IsRefusedAt}
 use Rattle.archive_core_state.specs.ArchiveContents.{RepresentsPast}

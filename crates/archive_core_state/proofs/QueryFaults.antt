@@ -23,11 +23,13 @@ use Rattle.smo_ops_spec.proofs.Firsts.{first_after, first_before, first_later, f
 use Rattle.temporal_lang_types.specs.Queries.{PlainQuery, query_of, IsLasting}
 use Rattle.temporal_lang_types.specs.declared.query.Query.{Query}
 use Rattle.temporal_lang_spec.specs.Atoms.{with_atoms}
-use Rattle.temporal_lang_spec.specs.Accepted.{no_way_back, loss_fault, version_fault, fault_of_query}
+use Rattle.temporal_lang_spec.specs.Accepted.{no_way_back, loss_fault, version_fault}
+use Rattle.temporal_lang_spec.specs.Accepted.{fault_of_query}
 use Rattle.temporal_lang_spec.specs.Losing.{first_lost}
 use Rattle.temporal_lang_spec.proofs.WayBackLaws.{no_way_back_is}
 use Rattle.answer_text.specs.declared.listing.Listing.{Listing}
-use Rattle.archive_core_state.specs.Asking.{IsAsked, IsAskedSchema, IsChecked, IsWrong, TellsWayBack}
+use Rattle.archive_core_state.specs.Asking.{IsAsked, IsAskedSchema, IsChecked, IsWrong}
+use Rattle.archive_core_state.specs.Asking.{TellsWayBack}
 use Rattle.temporal_lang_spec.specs.Checking.{excess_of, excess_fault, query_tests, query_fault}
 use Rattle.temporal_lang_spec.specs.Checking.{IsQueryChecked}
 

@@ -75,7 +75,8 @@ impl ArchiveState {
     ghost use Rattle.piece_ir.specs.ExplainedPieces.{PlainExplained};
     ghost use Rattle.query_exec.specs.Borrowed.{BorrowedByBranch, AreSpared, AreBorrowedBy};
     ghost use Rattle.query_exec.specs.Reads.{explained_read, reads_of};
-    ghost use Rattle.archive_core_state.specs.Asking.{IsAsked, IsExplained, TellsWayBack, ArePiecesOf};
+    ghost use Rattle.archive_core_state.specs.Asking.{IsAsked, IsExplained, TellsWayBack};
+    ghost use Rattle.archive_core_state.specs.Asking.{ArePiecesOf};
     ghost use Rattle.archive_core_state.specs.Asking.{query_asked};
 
     /// An archive that has accepted nothing. It takes no memory.

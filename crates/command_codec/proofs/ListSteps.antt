@@ -3,7 +3,8 @@ use Rattle.std.proofs.Common.{◌≡◌, ℕ, suc, ◌+◌, ◌-◌, ◌<◌, �
 use Rattle.std.proofs.Common.{ap, ◌∙◌, append-nil, arith}
 use Rattle.std.proofs.lemmas.List.{map-append}
 use Rattle.command_codec.specs.declared.reader.ReadStop.{ReadStop}
-use Rattle.command_codec_spec.specs.Reading.{Out, Parsed, Unexpected, Parser, and_then, pure, map_to}
+use Rattle.command_codec_spec.specs.Reading.{Out, Parsed, Unexpected, Parser, and_then, pure}
+use Rattle.command_codec_spec.specs.Reading.{map_to}
 use Rattle.command_codec_spec.specs.Reading.{digits, items, listed, prepend}
 use Rattle.command_codec.specs.Reads.{Fails}
 use Rattle.command_codec.proofs.ReadSteps.{fails_along, prepend_more}

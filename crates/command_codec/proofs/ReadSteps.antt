@@ -6,7 +6,8 @@ use Rattle.std.proofs.lemmas.Bool.{leb-true}
 use Rattle.std.proofs.lemmas.List.{take_at}
 use Rattle.command_codec.specs.declared.reader.ReadStop.{ReadStop}
 use Rattle.command_codec.specs.declared.reader.ReadStop.TheVariants as stop
-use Rattle.command_codec_spec.specs.Reading.{Out, Parsed, Unexpected, Parser, and_then, pure, map_to}
+use Rattle.command_codec_spec.specs.Reading.{Out, Parsed, Unexpected, Parser, and_then, pure}
+use Rattle.command_codec_spec.specs.Reading.{map_to}
 use Rattle.command_codec_spec.specs.Reading.{byte_by, byte, run, digits, prepend}
 use Rattle.command_codec.specs.Reads.{Fails}
 use Rattle.command_codec_spec.proofs.Numbers.{goes_on, of_both, higher}

@@ -26,7 +26,8 @@ fn name_text<'a>(reader: &mut Reader<'a>, count: u8) -> Result<&'a [u8], Unexpec
 /// A name, where it stands in the bytes. It takes no memory.
 #[tactic(auto, unfolding(command_codec_spec::specs::Reader::name))]
 pub fn borrowed_name<'a>(reader: &mut Reader<'a>) -> Result<&'a [u8], Unexpected>
-    ensures reads { ReadsInPlace (λ s. s.now) (spec.name reader.old.rest.now) result reader.new.rest.now }
+    ensures reads { ReadsInPlace (λ s. s.now) (spec.name reader.old.rest.now) result
+        reader.new.rest.now }
     ensures valid { IfOk result (λ s. IsName s.now) }
 {
     let count = reader.name_length()?;

@@ -1,9 +1,9 @@
 //! Commands as bytes, written and read.
 //!
-//! command_codec_writer writes them; here they are read: `decode` a command that is all of the bytes,
-//! and `read_name`, `read_value` and `read_op` a part that begins at a place. Which bytes they are
-//! says command_codec_spec, with its laws. `Reader` goes over bytes from the start, and `name`,
-//! `value`, `op` and `ops` read a part from it, for who reads a larger format.
+//! command_codec_writer writes them; here they are read: `decode` a command that is all of the
+//! bytes, and `read_name`, `read_value` and `read_op` a part that begins at a place. Which bytes
+//! they are says command_codec_spec, with its laws. `Reader` goes over bytes from the start, and
+//! `name`, `value`, `op` and `ops` read a part from it, for who reads a larger format.
 #![tactic(auto)]
 
 mod command_reader;

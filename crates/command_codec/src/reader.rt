@@ -215,7 +215,8 @@ impl<'a> Reader<'a> {
 
     /// So many bytes, each of which may stand there.
     pub fn run(&mut self, alphabet: Alphabet, count: usize) -> Result<&'a [u8], Unexpected>
-        ensures { ReadsInPlace (λ s. s.now) (run (may_stand alphabet) count self.old.rest.now) result
+        ensures { ReadsInPlace (λ s. s.now) (run (may_stand alphabet) count self.old.rest.now)
+            result
             self.new.rest.now }
     {
         let start = self.rest;

@@ -14,7 +14,8 @@ use prima_base::limits::MAX_TEXT;
 /// A text, where it stands in the bytes. It takes no memory.
 #[tactic(auto, unfolding(command_codec_spec::specs::Reader::text))]
 pub fn borrowed_text<'a>(reader: &mut Reader<'a>) -> Result<&'a [u8], Unexpected>
-    ensures reads { ReadsInPlace (λ s. s.now) (spec.text reader.old.rest.now) result reader.new.rest.now }
+    ensures reads { ReadsInPlace (λ s. s.now) (spec.text reader.old.rest.now) result
+        reader.new.rest.now }
     ensures valid { IfOk result (λ s. IsTxt s.now) }
 {
     let count = reader.number(2, MAX_TEXT as u64)?;

@@ -1,7 +1,8 @@
 -- The steps of going over one item after the other.
 use Rattle.std.proofs.Common.{◌≡◌, ℕ, ◌+◌, ◌-◌, ◌<◌, ◌≤◌, List, [], ◌∷◌, ◌++◌, ap, ◌∙◌}
 use Rattle.command_codec.specs.declared.reader.ReadStop.TheVariants as stop
-use Rattle.command_codec_spec.specs.Reading.{Out, Parsed, Unexpected, Parser, and_then, digits, items}
+use Rattle.command_codec_spec.specs.Reading.{Out, Parsed, Unexpected, Parser, and_then, digits}
+use Rattle.command_codec_spec.specs.Reading.{items}
 use Rattle.command_codec_spec.specs.Reading.{listed}
 use Rattle.command_codec.specs.Reads.{Passes, Halts}
 use Rattle.command_codec.proofs.ListSteps.{SoMany, none_yet, one_item, no_item, all_items}

@@ -44,7 +44,8 @@ use Rattle.smo_ops_spec.specs.After.{op_fault, schema_after, IsValid}
 use Rattle.smo_ops_spec.specs.Inverses.{way_back, inverse_tests}
 use Rattle.smo_ops_spec.specs.Checks.{pair_names, names_after, name_faults, missing_fault}
 use Rattle.smo_ops_spec.specs.Checks.{cell_faults, reference_fault, set_references, set_faults}
-use Rattle.smo_ops_spec.specs.Checks.{sets_nodes, test_fault, table_fault, tests_after, change_tests}
+use Rattle.smo_ops_spec.specs.Checks.{sets_nodes, test_fault, table_fault, tests_after}
+use Rattle.smo_ops_spec.specs.Checks.{change_tests}
 use Rattle.smo_ops_spec.specs.Checks.{change_nodes, changes_tests}
 use Rattle.smo_ops_spec.specs.Past.{Past, newest_tables}
 use Rattle.smo_ops_spec.specs.Accepts.{operator_refusal, count_fault, stamp_fault}

@@ -26,7 +26,8 @@ use Rattle.command_codec_spec.specs.Reader.{columns, names, two_names, three_nam
 use Rattle.command_codec_spec.specs.Reader.{decomposed, joined_tables, operator_arm}
 use Rattle.command_codec_spec.specs.Reader.{operator, operators, cell, cells, set, sets, change_arm}
 use Rattle.command_codec_spec.specs.Reader.{change, changes, body_arm, body, a_command, command}
-use Rattle.command_codec_spec.specs.Reader.{created_table, renamed_table, copied_table, merged_table}
+use Rattle.command_codec_spec.specs.Reader.{created_table, renamed_table, copied_table}
+use Rattle.command_codec_spec.specs.Reader.{merged_table}
 use Rattle.command_codec_spec.specs.Reader.{added_column, dropped_column, renamed_column, inserted}
 use Rattle.command_codec_spec.specs.Reader.{deleted, updated, evolved}
 use Rattle.command_codec_spec.proofs.Correctness.{retold, mapped_correct, pair_correct, ArmCorrect}

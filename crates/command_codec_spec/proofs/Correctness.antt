@@ -2,7 +2,8 @@
 use Rattle.std.proofs.Common.{◌≡◌, ℕ, zero, suc, Bool, true, false, cond, List, [], ◌∷◌, ◌++◌, refl}
 use Rattle.std.proofs.Common.{sym, ap, ◌∙◌, subst, append_assoc, append-nil, arith, length, drop}
 use Rattle.std.specs.List.{AllByRecursion}
-use Rattle.command_codec_spec.specs.Reading.{Out, Parsed, Unexpected, Parser, Begins, Same, Explains}
+use Rattle.command_codec_spec.specs.Reading.{Out, Parsed, Unexpected, Parser, Begins, Same}
+use Rattle.command_codec_spec.specs.Reading.{Explains}
 use Rattle.command_codec_spec.specs.Reading.{IsCorrectParser, and_then, bind, pure, map_to, pair}
 use Rattle.command_codec_spec.specs.Reading.{byte, tagged, run}
 

@@ -6,12 +6,14 @@ use Rattle.std.proofs.Common.{arith, inl, inr}
 use Rattle.std.proofs.lemmas.Bool.{cases_lt}
 use Rattle.std.proofs.lemmas.List.{take_at, take-append-drop, length-append, length-drop}
 use Rattle.smo_ops_types.specs.Commands.{PlainCommand}
-use Rattle.command_codec_spec.specs.Reading.{Out, Parsed, Unexpected, Parser, Begins, Same, Explains}
+use Rattle.command_codec_spec.specs.Reading.{Out, Parsed, Unexpected, Parser, Begins, Same}
+use Rattle.command_codec_spec.specs.Reading.{Explains}
 use Rattle.command_codec_spec.specs.Reading.{IsCorrectParser}
 use Rattle.command_codec_spec.specs.Spelling.{command_bytes}
 use Rattle.command_codec_spec.specs.Valid.{IsCommand}
 use Rattle.command_codec_spec.specs.Reader.{command}
-use Rattle.command_codec_spec.specs.Found.{Spells, GoesOn, IsBadAt, Decoding, whole, bad_at, rest_at}
+use Rattle.command_codec_spec.specs.Found.{Spells, GoesOn, IsBadAt, Decoding, whole, bad_at}
+use Rattle.command_codec_spec.specs.Found.{rest_at}
 use Rattle.command_codec_spec.specs.Found.{IsDecoding, Part, part, no_part, more, IsPart}
 use Rattle.command_codec_spec.proofs.Correctness.{halts, is_read, one_value}
 use Rattle.command_codec_spec.proofs.CommandFormats.{command_correct}

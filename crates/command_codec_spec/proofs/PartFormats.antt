@@ -28,7 +28,8 @@ use Rattle.command_codec_spec.specs.Reader.{text, number_64, value_arm, value}
 use Rattle.command_codec_spec.specs.Reader.{type_of_tag, column_type, sign_of_tag, sign}
 use Rattle.command_codec_spec.proofs.Correctness.{by_test, true_false, retold, pure_correct}
 use Rattle.command_codec_spec.proofs.Correctness.{mapped_correct, then_correct, byte_correct, Each}
-use Rattle.command_codec_spec.proofs.Correctness.{run_correct, ArmCorrect, parts_correct, parts_read}
+use Rattle.command_codec_spec.proofs.Correctness.{run_correct, ArmCorrect, parts_correct}
+use Rattle.command_codec_spec.proofs.Correctness.{parts_read}
 use Rattle.command_codec_spec.proofs.Correctness.{tagged_correct}
 use Rattle.command_codec_spec.proofs.Numbers.{number_correct, both_true, of_both}
 

@@ -31,7 +31,8 @@ use Rattle.command_codec_spec.proofs.Correctness.{by_test, true_false, retold, p
 use Rattle.command_codec_spec.proofs.Correctness.{ArmCorrect, parts_correct, parts_read}
 use Rattle.command_codec_spec.proofs.Correctness.{tagged_correct}
 use Rattle.command_codec_spec.proofs.Numbers.{of_both}
-use Rattle.command_codec_spec.proofs.PartFormats.{name_correct, value_correct, sign_correct, Counted}
+use Rattle.command_codec_spec.proofs.PartFormats.{name_correct, value_correct, sign_correct}
+use Rattle.command_codec_spec.proofs.PartFormats.{Counted}
 use Rattle.command_codec_spec.proofs.PartFormats.{no_items_correct, items_correct, list_correct}
 use Rattle.command_codec_spec.proofs.PartFormats.{zero_valid}
 

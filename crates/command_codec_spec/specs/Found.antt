@@ -5,7 +5,8 @@ use Rattle.prima_base.specs.Columns.{IsValid}
 use Rattle.prima_base.specs.declared.value.Value.{Value}
 use Rattle.smo_ops_types.specs.Operators.{Operator}
 use Rattle.smo_ops_types.specs.Commands.{PlainCommand}
-use Rattle.command_codec_spec.specs.Spelling.{name_bytes, value_bytes, operator_bytes, command_bytes}
+use Rattle.command_codec_spec.specs.Spelling.{name_bytes, value_bytes, operator_bytes}
+use Rattle.command_codec_spec.specs.Spelling.{command_bytes}
 use Rattle.command_codec_spec.specs.Valid.{IsOperator, IsCommand}
 
 -- ---- spellings

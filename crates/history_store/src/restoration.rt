@@ -6,8 +6,10 @@ ghost use Rattle.history_store_row_order.specs.Logs.{cells_of};
 ghost use Rattle.history_store_writes.specs.Logs.{kinds_of, types_of};
 ghost use Rattle.history_store.specs.Store.{cells_in};
 ghost use Rattle.history_store.specs.Restoring.{cell_of, entries_of};
-ghost use Rattle.history_store_change_spec.specs.Restoring.{write_of, writes_of, AreInTurn, ids_known};
-ghost use Rattle.history_store_change_spec.specs.Restoring.{AreCellsOf, AreValidCells, AreEntriesOf};
+ghost use Rattle.history_store_change_spec.specs.Restoring.{write_of, writes_of, AreInTurn};
+ghost use Rattle.history_store_change_spec.specs.Restoring.{ids_known};
+ghost use Rattle.history_store_change_spec.specs.Restoring.{AreCellsOf, AreValidCells};
+ghost use Rattle.history_store_change_spec.specs.Restoring.{AreEntriesOf};
 
 use history_store_columns::Column;
 use prima_base::{ColType, Name, NoMemory, Period, Val};

@@ -99,8 +99,10 @@ impl StoredTable {
     ghost use Rattle.history_store_writes.specs.Writing.{new_keys};
     ghost use Rattle.history_store_row_order.specs.Handing.{handed, only_in};
     ghost use Rattle.history_store_change_spec.specs.Handing.{written};
-    ghost use Rattle.history_store_change_spec.specs.Change.{PreparedChange, IsPrepared, rows_after};
-    ghost use Rattle.history_store_change_spec.specs.Change.{rows_along, changed, keys_after, cells_after};
+    ghost use Rattle.history_store_change_spec.specs.Change.{PreparedChange, IsPrepared};
+    ghost use Rattle.history_store_change_spec.specs.Change.{rows_after};
+    ghost use Rattle.history_store_change_spec.specs.Change.{rows_along, changed, keys_after};
+    ghost use Rattle.history_store_change_spec.specs.Change.{cells_after};
     ghost use Rattle.history_store_change_spec.specs.Change.{write_rows, no_cells};
     ghost use Rattle.history_store.specs.Scans.{keys_from};
     ghost use Rattle.history_store_row_order.specs.Cuts.{between};

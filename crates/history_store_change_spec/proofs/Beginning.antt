@@ -16,7 +16,8 @@ use Rattle.history_store_writes.specs.Writing.{unpaired, new_keys}
 use Rattle.history_store_row_order.specs.Handing.{handed, only_in}
 use Rattle.history_store_change_spec.specs.Handing.{written}
 use Rattle.history_store_row_order.specs.Indexes.{Index}
-use Rattle.history_store_change_spec.specs.Change.{PreparedChange, IsPrepared, keys_after, cells_after}
+use Rattle.history_store_change_spec.specs.Change.{PreparedChange, IsPrepared, keys_after}
+use Rattle.history_store_change_spec.specs.Change.{cells_after}
 use Rattle.history_store_change_spec.specs.Change.{rows_along}
 use Rattle.history_store_change_spec.specs.Change.{write_rows, close_all, no_cells}
 use Rattle.history_store_row_order.proofs.Cells.{length-cells_of}

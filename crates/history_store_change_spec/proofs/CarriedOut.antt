@@ -15,12 +15,14 @@ use Rattle.relations_spec.specs.Sets.{In, Ascends}
 use Rattle.history_store_change_spec.specs.Table.{row_then, rows_then, AllColumns, IsStored}
 use Rattle.history_store_row_order.specs.Rows.{row_now, rows_of, AllWidth}
 use Rattle.history_store_columns.specs.Keys.{no_span, IsOpen, ended_at}
-use Rattle.history_store_writes.specs.Writing.{put_row, put_rows, end_keys, unpaired, new_keys, keys_handed}
+use Rattle.history_store_writes.specs.Writing.{put_row, put_rows, end_keys, unpaired, new_keys}
+use Rattle.history_store_writes.specs.Writing.{keys_handed}
 use Rattle.history_store_writes.specs.Writing.{logs_handed}
 use Rattle.history_store_row_order.specs.Handing.{handed}
 use Rattle.history_store_change_spec.specs.Handing.{Pairs, AllNext, IsHandOver}
 use Rattle.history_store_value_order.specs.ByValue.{Distinct}
-use Rattle.history_store_change_spec.proofs.Puts.{row_before, row_same, row_other, row_all, row_width}
+use Rattle.history_store_change_spec.proofs.Puts.{row_before, row_same, row_other, row_all}
+use Rattle.history_store_change_spec.proofs.Puts.{row_width}
 use Rattle.history_store_change_spec.proofs.Puts.{columns_more}
 
 -- columns

@@ -22,7 +22,8 @@ use Rattle.history_store_value_order.specs.ByValue.{Distinct}
 use Rattle.history_store_writes.specs.RowRoom.{rows_room}
 use Rattle.history_store_row_order.specs.Splices.{IsSplit, IsJoined, IsSpliced}
 use Rattle.history_store_row_order.specs.Indexes.{Index, later_ids, more_ids, IsPlaced}
-use Rattle.history_store_change_spec.specs.Change.{IsPrepared, ids_at, rows_after, rows_along, changed}
+use Rattle.history_store_change_spec.specs.Change.{IsPrepared, ids_at, rows_after, rows_along}
+use Rattle.history_store_change_spec.specs.Change.{changed}
 use Rattle.history_store_change_spec.specs.Change.{write_rows}
 use Rattle.history_store_change_spec.specs.Change.{close_all}
 use Rattle.history_store_value_order.proofs.Places.{not_true}

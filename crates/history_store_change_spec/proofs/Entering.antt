@@ -18,7 +18,8 @@ use Rattle.history_store_row_order.specs.Rows.{AllWidth}
 use Rattle.history_store_value_order.specs.ByValue.{Distinct}
 use Rattle.history_store_change_spec.specs.Change.{write_row, write_rows, close_all}
 use Rattle.history_store_columns.proofs.Histories.{put_new, none_known}
-use Rattle.history_store_change_spec.proofs.Histories.{BelowEach, histories_old, histories_new, histories_ended}
+use Rattle.history_store_change_spec.proofs.Histories.{BelowEach, histories_old, histories_new}
+use Rattle.history_store_change_spec.proofs.Histories.{histories_ended}
 use Rattle.history_store_change_spec.proofs.Histories.{below_stays}
 use Rattle.history_store_change_spec.proofs.Puts.{row_width}
 use Rattle.history_store_columns.proofs.Entering.{below_more, write_at, write_more, close_at}

@@ -14,7 +14,8 @@ use Rattle.relations_spec.specs.Sets.{has, In, Ascends}
 use Rattle.history_store_row_order.specs.Rows.{row_now, rows_of, AllWidth}
 use Rattle.history_store_change_spec.specs.Table.{IsStored}
 use Rattle.history_store_columns.specs.Keys.{IsOpen}
-use Rattle.history_store_row_order.specs.Handing.{lost_ids, handed, found, gained_by, gained_rows, id_by, lost_by}
+use Rattle.history_store_row_order.specs.Handing.{lost_ids, handed, found, gained_by, gained_rows}
+use Rattle.history_store_row_order.specs.Handing.{id_by, lost_by}
 use Rattle.history_store_row_order.specs.Handing.{next_by, after_ids}
 use Rattle.history_store_change_spec.specs.Handing.{Pairs, AllNext, IsHandOver}
 use Rattle.history_store_writes.specs.Writing.{logs_handed}

@@ -9,7 +9,8 @@ use Rattle.history_store_columns.specs.Chains.{of_id}
 use Rattle.history_store_change_spec.specs.Entries.{AreHistories}
 use Rattle.history_store_columns.specs.Keys.{no_span, IsOpen, ended_at}
 use Rattle.history_store_writes.specs.Writing.{put_row, put_rows}
-use Rattle.history_store_columns.proofs.Histories.{Below, history_ended, history_new, history_old, of_id_other}
+use Rattle.history_store_columns.proofs.Histories.{Below, history_ended, history_new, history_old}
+use Rattle.history_store_columns.proofs.Histories.{of_id_other}
 
 abbrev pub BelowEach : ℕ → ℕ → List (List Write) → Type 0
 BelowEach id stamp [] = Unit {0}

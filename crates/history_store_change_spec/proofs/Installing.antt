@@ -19,11 +19,13 @@ use Rattle.history_store_writes.specs.Writing.{logs_handed}
 use Rattle.history_store_row_order.specs.Handing.{handed}
 use Rattle.history_store_change_spec.specs.Handing.{IsHandOver}
 use Rattle.history_store_value_order.specs.ByValue.{Distinct}
-use Rattle.history_store_change_spec.specs.Change.{PreparedChange, IsPrepared, ids_at, ids_after, rows_after}
+use Rattle.history_store_change_spec.specs.Change.{PreparedChange, IsPrepared, ids_at, ids_after}
+use Rattle.history_store_change_spec.specs.Change.{rows_after}
 use Rattle.history_store_change_spec.specs.Change.{rows_along, cells_after, write_rows, close_all}
 use Rattle.history_store_row_order.specs.Indexes.{IsPlaced, later_ids}
 use Rattle.history_store_change_spec.proofs.Puts.{row_width}
-use Rattle.history_store_change_spec.proofs.CarriedOut.{stored_after, before_after, open_after, started_after}
+use Rattle.history_store_change_spec.proofs.CarriedOut.{stored_after, before_after, open_after}
+use Rattle.history_store_change_spec.proofs.CarriedOut.{started_after}
 use Rattle.history_store_change_spec.proofs.CarriedOut.{unpaired_in, not_both, rows_all}
 use Rattle.history_store_change_spec.proofs.Now.{at_now}
 use Rattle.history_store_row_order.proofs.RowsOf.{rows_of_in}
@@ -31,7 +33,8 @@ use Rattle.history_store_change_spec.proofs.Histories.{below_rows}
 use Rattle.history_store_change_spec.proofs.Entering.{Handed, hand_over, end_over}
 use Rattle.history_store_change_spec.proofs.Indexing.{ids_are}
 use Rattle.history_store_change_spec.proofs.Moments.{still_last, still_fit, still_apart}
-use Rattle.history_store_change_spec.proofs.Showing.{AllBelow, logs_below, below_each, key_before, stored_at}
+use Rattle.history_store_change_spec.proofs.Showing.{AllBelow, logs_below, below_each, key_before}
+use Rattle.history_store_change_spec.proofs.Showing.{stored_at}
 use Rattle.history_store_change_spec.proofs.Showing.{stored_more, along_is, relation_is, all_before}
 
 pub rows_width : (ids : List ℕ) (rows : List (List Value)) (stamp : ℕ) (columns : List (List Write))

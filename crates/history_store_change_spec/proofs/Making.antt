@@ -15,7 +15,8 @@ use Rattle.history_store_change_spec.specs.Handing.{IsHandOver}
 use Rattle.history_store_row_order.specs.Handing.{only_in, lost_ids, gained_rows, after_ids}
 use Rattle.history_store_writes.specs.RowRoom.{rows_room}
 use Rattle.history_store_row_order.specs.Indexes.{Whole}
-use Rattle.history_store_change_spec.specs.Change.{PreparedChange, IsPrepared, rows_after, rows_along}
+use Rattle.history_store_change_spec.specs.Change.{PreparedChange, IsPrepared, rows_after}
+use Rattle.history_store_change_spec.specs.Change.{rows_along}
 use Rattle.history_store_change_spec.proofs.FoundIds.{is_hand_over, found_rows, lost_is}
 use Rattle.history_store_change_spec.proofs.Rule.{lost_rule, gained_rule}
 use Rattle.history_store_change_spec.proofs.Showing.{along_is}

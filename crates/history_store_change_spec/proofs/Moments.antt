@@ -26,7 +26,8 @@ use Rattle.history_store_change_spec.proofs.Now.{row_is_now}
 use Rattle.history_store_row_order.proofs.RowsOf.{rows_of_in}
 use Rattle.history_store_change_spec.proofs.CarriedOut.{rows_before, in_or_not, length-end_keys}
 use Rattle.history_store_change_spec.proofs.CarriedOut.{length-new_keys}
-use Rattle.history_store_change_spec.proofs.CarriedOut.{new_key, ended_start, ended_other, ended_same}
+use Rattle.history_store_change_spec.proofs.CarriedOut.{new_key, ended_start, ended_other}
+use Rattle.history_store_change_spec.proofs.CarriedOut.{ended_same}
 use Rattle.history_store_change_spec.proofs.CarriedOut.{holds_ended}
 use Rattle.history_store_change_spec.proofs.CarriedOut.{unpaired_in}
 

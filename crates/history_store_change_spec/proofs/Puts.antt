@@ -5,7 +5,8 @@ use Rattle.history_store_columns.specs.Log.{Write}
 use Rattle.history_store_change_spec.specs.Table.{row_then, AllColumns}
 use Rattle.history_store_row_order.specs.Rows.{row_now}
 use Rattle.history_store_writes.specs.Writing.{put_row}
-use Rattle.history_store_columns.proofs.Puts.{all_more, put_all_cells, put_before, put_other, put_same}
+use Rattle.history_store_columns.proofs.Puts.{all_more, put_all_cells, put_before, put_other}
+use Rattle.history_store_columns.proofs.Puts.{put_same}
 
 pub row_before : (j m id : ℕ) (row : List Value) (stamp : ℕ) (columns : List (List Write))
     → m < stamp → row_then j m (put_row id row stamp columns) ≡ row_then j m columns

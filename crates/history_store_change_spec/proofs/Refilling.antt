@@ -20,7 +20,8 @@ use Rattle.prima_base.specs.declared.value.Value.{Value}
 use Rattle.history_store_columns.specs.Log.{Write}
 use Rattle.history_store_spec.specs.Store.{Cell, shown_at, IsPeriod, cell_cmp, IsFilled}
 use Rattle.history_store_columns.specs.Chains.{of_id}
-use Rattle.history_store_columns.specs.Entries.{entry, with_ends, entries_from, Climbs, Fits, IsHistory}
+use Rattle.history_store_columns.specs.Entries.{entry, with_ends, entries_from, Climbs, Fits}
+use Rattle.history_store_columns.specs.Entries.{IsHistory}
 use Rattle.history_store_columns.specs.Keys.{no_span}
 use Rattle.history_store_change_spec.specs.Restoring.{write_of, AreInTurn, ids_known}
 use Rattle.history_store_row_order.proofs.Sides.{passed_ascend}

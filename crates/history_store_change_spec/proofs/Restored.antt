@@ -6,7 +6,8 @@ use Rattle.relations_spec.specs.Sets.{In, Ascends}
 use Rattle.relations_spec.specs.Spans.{Span, forever, covers}
 use Rattle.prima_base.specs.Columns.{IsValid, Column, IsRow}
 use Rattle.prima_base.specs.Order.{row_cmp}
-use Rattle.history_store_spec.specs.Store.{Cell, cells_in, row_at, IsPeriod, IsFilled, Holds, IsStore}
+use Rattle.history_store_spec.specs.Store.{Cell, cells_in, row_at, IsPeriod, IsFilled, Holds}
+use Rattle.history_store_spec.specs.Store.{IsStore}
 use Rattle.history_store_change_spec.specs.Entries.{all_entries, AreHistories}
 use Rattle.history_store_columns.specs.Keys.{no_span, IsOpen}
 use Rattle.history_store_row_order.specs.Rows.{row_now, rows_of}
@@ -14,7 +15,8 @@ use Rattle.history_store_change_spec.specs.Table.{row_then, AllColumns}
 use Rattle.history_store_columns.specs.Entries.{AllCells}
 use Rattle.history_store_change_spec.specs.Kept.{IsKept}
 use Rattle.history_store_change_spec.specs.Change.{ids_from, rows_along}
-use Rattle.history_store_change_spec.specs.Restoring.{store_with, write_of, writes_of, AreInTurn, ids_known}
+use Rattle.history_store_change_spec.specs.Restoring.{store_with, write_of, writes_of, AreInTurn}
+use Rattle.history_store_change_spec.specs.Restoring.{ids_known}
 use Rattle.history_store_change_spec.specs.Restoring.{AreValidCells, IsInOrder}
 use Rattle.history_store_value_order.proofs.Places.{in_get}
 use Rattle.history_store_change_spec.proofs.Puts.{columns_more}

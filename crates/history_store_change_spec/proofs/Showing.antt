@@ -8,7 +8,8 @@ use Rattle.relations_spec.specs.Spans.{Span, forever, covers}
 use Rattle.prima_base.specs.Order.{row_cmp}
 use Rattle.prima_base.specs.declared.value.Value.{Value}
 use Rattle.history_store_columns.specs.Log.{Write}
-use Rattle.history_store_spec.specs.Store.{Cell, row_at, rows_from, relation_at, IsBefore, AllBefore}
+use Rattle.history_store_spec.specs.Store.{Cell, row_at, rows_from, relation_at, IsBefore}
+use Rattle.history_store_spec.specs.Store.{AllBefore}
 use Rattle.prima_base.specs.Columns.{Column, IsRow, IsRelation}
 use Rattle.history_store_columns.specs.Entries.{entries_from}
 use Rattle.history_store_change_spec.specs.Entries.{all_entries, AreHistories}
@@ -22,7 +23,8 @@ use Rattle.history_store_change_spec.proofs.Histories.{BelowEach}
 use Rattle.history_store_change_spec.proofs.Puts.{columns_more}
 use Rattle.history_store_change_spec.proofs.Now.{at_now, row_is_now}
 use Rattle.history_store_row_order.proofs.RowsOf.{in_rows_of}
-use Rattle.history_store_columns.proofs.Showing.{shown_is, all_below, below_of_id, cells_to, entries_before}
+use Rattle.history_store_columns.proofs.Showing.{shown_is, all_below, below_of_id, cells_to}
+use Rattle.history_store_columns.proofs.Showing.{entries_before}
 
 pub row_shown : (id m : ℕ) (keys : List Span) (columns : List (List Write))
     → AreHistories keys columns → id < length keys → covers (get_or keys id no_span) m ≡ true

@@ -13,7 +13,8 @@ use Rattle.history_store_columns.specs.Entries.{entry, with_ends, entries_from, 
 use Rattle.history_store_columns.specs.Keys.{no_span, ended_at}
 use Rattle.history_store_columns.specs.Puts.{is_value, put, goes_on, ended, begun, write, close}
 use Rattle.history_store_columns.proofs.Links.{of_id-append, other_id}
-use Rattle.history_store_columns.proofs.Histories.{written, Below, of_id_other, of_id_more, last_value}
+use Rattle.history_store_columns.proofs.Histories.{written, Below, of_id_other, of_id_more}
+use Rattle.history_store_columns.proofs.Histories.{last_value}
 use Rattle.history_store_columns.proofs.Histories.{newest_is}
 
 -- entries that are not those of the id

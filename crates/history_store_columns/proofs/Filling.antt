@@ -14,7 +14,8 @@ use Rattle.prima_base.specs.declared.value.Value.{Value}
 use Rattle.history_store_spec.specs.Store.{Cell, shown_at, Fills, IsPeriod, cell_cmp, IsFilled}
 use Rattle.history_store_columns.specs.Log.{Write, value_at}
 use Rattle.history_store_columns.specs.Chains.{of_id}
-use Rattle.history_store_columns.specs.Entries.{entry, with_ends, entries_from, Climbs, Fits, IsHistory}
+use Rattle.history_store_columns.specs.Entries.{entry, with_ends, entries_from, Climbs, Fits}
+use Rattle.history_store_columns.specs.Entries.{IsHistory}
 use Rattle.history_store_columns.specs.Keys.{no_span}
 use Rattle.history_store_columns.proofs.Entering.{AllOf, all_of_id}
 use Rattle.history_store_columns.proofs.Showing.{latest, value_is, some_value, shown_is}

@@ -10,7 +10,8 @@ use Rattle.relations_spec.specs.Spans.{Span}
 use Rattle.history_store_columns.specs.Log.{Write}
 use Rattle.history_store_columns.specs.Keys.{no_span}
 use Rattle.history_store_columns.specs.Chains.{of_id, id_at, IsChain}
-use Rattle.history_store_columns.specs.Entries.{entry, with_ends, entries_from, Climbs, Fits, IsHistory}
+use Rattle.history_store_columns.specs.Entries.{entry, with_ends, entries_from, Climbs, Fits}
+use Rattle.history_store_columns.specs.Entries.{IsHistory}
 use Rattle.history_store_columns.specs.ScanFields.{rest_of, Goes, IsAt}
 
 id_is : (cells : List Write) (p : ℕ) (d : Write) → p < length cells

@@ -9,7 +9,8 @@ use Rattle.history_store_columns.specs.ColumnFields.{IsIndex}
 use Rattle.history_store_columns.specs.StoredWrites.{writes_in, nexts_of}
 use Rattle.history_store_columns.proofs.Newest.{grown_index, changed_index}
 use Rattle.history_store_columns.proofs.Links.{grown_links, changed_links}
-use Rattle.history_store_columns.proofs.ColumnWrites.{write_of, length-writes_in, one_more, one_more_next}
+use Rattle.history_store_columns.proofs.ColumnWrites.{write_of, length-writes_in, one_more}
+use Rattle.history_store_columns.proofs.ColumnWrites.{one_more_next}
 use Rattle.history_store_columns.proofs.ColumnWrites.{linked_writes, linked_nexts}
 
 -- what is so of a column's fields

@@ -6,7 +6,8 @@ use Rattle.prima_base.specs.declared.value.Value.TheVariants.{Int, Text}
 use Rattle.prima_base.specs.Columns.{has_type}
 use Rattle.prima_base.specs.Order.{bytes_of}
 use Rattle.history_store_columns.specs.declared.stored_value.StoredValues.{StoredValues}
-use Rattle.history_store_columns.specs.declared.stored_value.StoredValues.TheVariants.{Numbers, Texts}
+use Rattle.history_store_columns.specs.declared.stored_value.StoredValues.TheVariants.{Numbers}
+use Rattle.history_store_columns.specs.declared.stored_value.StoredValues.TheVariants.{Texts}
 use Rattle.history_store_columns.specs.StoredValues.{kind_of, places_in, bytes_in, spare_in}
 use Rattle.history_store_columns.specs.StoredValues.{text_room}
 

@@ -11,11 +11,13 @@ use Rattle.prima_base.specs.declared.value.Value.{Value}
 use Rattle.history_store_spec.specs.Store.{Cell, shown_at, IsBefore}
 use Rattle.history_store_columns.specs.Log.{Write, over, value_at}
 use Rattle.history_store_columns.specs.Chains.{of_id}
-use Rattle.history_store_columns.specs.Entries.{entry, with_ends, entries_from, Climbs, Fits, IsHistory}
+use Rattle.history_store_columns.specs.Entries.{entry, with_ends, entries_from, Climbs, Fits}
+use Rattle.history_store_columns.specs.Entries.{IsHistory}
 use Rattle.history_store_columns.specs.Entries.{AllCells}
 use Rattle.history_store_columns.specs.Keys.{no_span}
 use Rattle.history_store_columns.proofs.Histories.{Below}
-use Rattle.history_store_columns.proofs.Entering.{Others, AllOf, all_of_id, segment_others, entries_others}
+use Rattle.history_store_columns.proofs.Entering.{Others, AllOf, all_of_id, segment_others}
+use Rattle.history_store_columns.proofs.Entering.{entries_others}
 use Rattle.history_store_columns.proofs.Newest.{over_nil}
 
 abbrev pub latest : ℕ → List Write → List Value

@@ -4,7 +4,8 @@ use Rattle.std.specs.Prelude.{slice_index_or, vec_len, vec_capacity}
 use Rattle.history_store_columns.specs.Log.{Log, Write, newest}
 use Rattle.history_store_columns.specs.declared.column.Column.TheInside.{Inside}
 use Rattle.history_store_columns.specs.Chains.{IsLinked}
-use Rattle.history_store_columns.specs.StoredValues.{kind_of, values_in, places_in, bytes_in, spare_in}
+use Rattle.history_store_columns.specs.StoredValues.{kind_of, values_in, places_in, bytes_in}
+use Rattle.history_store_columns.specs.StoredValues.{spare_in}
 use Rattle.history_store_columns.specs.StoredWrites.{writes_in, nexts_of}
 
 -- for how many writes more there is a place beside their values: for no more than numbers of 32

@@ -6,7 +6,8 @@ use Rattle.prima_base.specs.declared.value.ColType.{ColType}
 use Rattle.prima_base.specs.declared.value.ColType.TheVariants.{Int as IntType, Text as TextType}
 use Rattle.prima_base.specs.Order.{bytes_of}
 use Rattle.history_store_columns.specs.declared.stored_value.StoredValues.{StoredValues}
-use Rattle.history_store_columns.specs.declared.stored_value.StoredValues.TheVariants.{Numbers, Texts}
+use Rattle.history_store_columns.specs.declared.stored_value.StoredValues.TheVariants.{Numbers}
+use Rattle.history_store_columns.specs.declared.stored_value.StoredValues.TheVariants.{Texts}
 use Rattle.history_store_columns.specs.Texts.{room_unit}
 
 -- the type of the column

@@ -9,7 +9,8 @@ use Rattle.std.proofs.lemmas.List.{get_or-set_other, get_or-set_same}
 use Rattle.std.specs.List.{concat, insert, remove}
 use Rattle.std.proofs.lemmas.List.Edits.{insert-append_left, remove-append_left, length-insert}
 use Rattle.std.proofs.lemmas.List.Edits.{length-remove, get_or-insert_below}
-use Rattle.history_store_index.specs.Blocks.{before, filled, half_size, ids_left, blocks_left, IsCounted}
+use Rattle.history_store_index.specs.Blocks.{before, filled, half_size, ids_left, blocks_left}
+use Rattle.history_store_index.specs.Blocks.{IsCounted}
 
 -- ---- after other ids
 

@@ -17,12 +17,14 @@ use Rattle.prima_base.specs.declared.value.Value.{Value}
 use Rattle.history_store_columns.specs.Log.{Write}
 use Rattle.history_store_row_order.specs.Rows.{row_now, rows_of}
 use Rattle.history_store_row_order.specs.Logs.{few_changed_rows}
-use Rattle.history_store_row_order.specs.Indexes.{Index, Whole, Moved, IsPlaced, more_ids, without, with_each}
+use Rattle.history_store_row_order.specs.Indexes.{Index, Whole, Moved, IsPlaced, more_ids, without}
+use Rattle.history_store_row_order.specs.Indexes.{with_each}
 use Rattle.history_store_row_order.specs.Indexes.{place_without, AreAmong, AreAlong}
 use Rattle.history_store_row_order.proofs.RowsOf.{rows_of_in, in_rows_of}
 use Rattle.history_store_row_order.specs.Splices.{IsSplit, IsJoined}
 use Rattle.history_store_row_order.proofs.SideBySide.{all_less}
-use Rattle.history_store_row_order.proofs.Splicing.{IsTaken, IsPut, taken_first, taken_next, taken_all, put_first}
+use Rattle.history_store_row_order.proofs.Splicing.{IsTaken, IsPut, taken_first, taken_next}
+use Rattle.history_store_row_order.proofs.Splicing.{taken_all, put_first}
 use Rattle.history_store_row_order.proofs.Splicing.{put_next, put_all, parted, all_low, all_high}
 
 -- ---- lists

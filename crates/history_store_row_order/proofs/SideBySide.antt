@@ -12,8 +12,10 @@ use Rattle.history_store_columns.specs.Log.{Write}
 use Rattle.prima_base.specs.Order.{row_cmp}
 use Rattle.relations_spec.specs.Sets.{has, BeforeAll, Ascends}
 use Rattle.history_store_row_order.specs.Rows.{row_now, rows_of, AllWidth}
-use Rattle.history_store_row_order.specs.Handing.{lost_ids, first_order, found, owner, owners, no_owners}
-use Rattle.history_store_row_order.specs.Handing.{gained_by, gained_rows, given_ids, id_by, lost_by, next_by}
+use Rattle.history_store_row_order.specs.Handing.{lost_ids, first_order, found, owner, owners}
+use Rattle.history_store_row_order.specs.Handing.{no_owners}
+use Rattle.history_store_row_order.specs.Handing.{gained_by, gained_rows, given_ids, id_by, lost_by}
+use Rattle.history_store_row_order.specs.Handing.{next_by}
 use Rattle.history_store_row_order.specs.Handing.{after_ids}
 use Rattle.std.proofs.lemmas.List.{drop_more}
 use Rattle.std.proofs.lemmas.Bool.{cases_lt}

@@ -14,7 +14,8 @@ ghost use Rattle.history_store_row_order.specs.Rows.{row_now, rows_of};
 ghost use Rattle.history_store_row_order.specs.Handing.{handed, only_in};
 ghost use Rattle.history_store_row_order.specs.Rows.{AllWidth};
 ghost use Rattle.history_store_row_order.specs.Splices.{IsSplit, IsJoined, IsSpliced};
-ghost use Rattle.history_store_row_order.specs.Indexes.{without, with_each, place_without, AreAmong, AreAlong};
+ghost use Rattle.history_store_row_order.specs.Indexes.{without, with_each, place_without};
+ghost use Rattle.history_store_row_order.specs.Indexes.{AreAmong, AreAlong};
 ghost use Rattle.history_store_row_order.specs.Indexes.{index_of, later_ids, more_ids, IsPlaced};
 
 use crate::walk::{handed_id, place_in, place_of};

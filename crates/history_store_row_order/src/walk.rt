@@ -6,7 +6,8 @@ ghost use Rattle.history_store_columns.specs.Log.{Log};
 ghost use Rattle.prima_base.specs.Order.{row_cmp};
 ghost use Rattle.relations_spec.specs.Sets.{Ascends};
 ghost use Rattle.history_store_row_order.specs.Rows.{row_now, rows_of};
-ghost use Rattle.history_store_row_order.specs.Handing.{lost_ids, first_order, owners, no_owners, gained_rows};
+ghost use Rattle.history_store_row_order.specs.Handing.{lost_ids, first_order, owners, no_owners};
+ghost use Rattle.history_store_row_order.specs.Handing.{gained_rows};
 ghost use Rattle.history_store_row_order.specs.Handing.{given_ids, id_by, lost_by, next_by};
 ghost use Rattle.history_store_row_order.specs.Rows.{AllWidth};
 

@@ -20,7 +20,8 @@ use Rattle.prima_base.specs.Order.{row_cmp, value_eq}
 use Rattle.prima_base.specs.OrderLaws.{value_total, row_total, row_exact, exact_from}
 use Rattle.prima_base.specs.declared.value.Value.{Value}
 use Rattle.history_store_columns.specs.Log.{Write, newest}
-use Rattle.history_store_value_order.specs.ByValue.{Distinct, mark_cmp, mark_of, by_value, ids_handed, ids_with}
+use Rattle.history_store_value_order.specs.ByValue.{Distinct, mark_cmp, mark_of, by_value}
+use Rattle.history_store_value_order.specs.ByValue.{ids_handed, ids_with}
 use Rattle.history_store_value_order.specs.ByValue.{IsWithout, IsWith}
 use Rattle.history_store_columns.specs.Puts.{is_value}
 use Rattle.history_store_value_order.proofs.Places.{not_true}

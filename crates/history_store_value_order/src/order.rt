@@ -7,7 +7,8 @@ ghost use Rattle.std.specs.declared.cmp.Ordering.TheVariants.{Less};
 ghost use Rattle.relations_spec.specs.Sets.{Ascends, In, Same};
 ghost use Rattle.prima_base.specs.Order.{shown, IsBorrowed};
 ghost use Rattle.history_store_columns.specs.Log.{newest};
-ghost use Rattle.history_store_value_order.specs.ByValue.{Distinct, mark_cmp, mark_of, by_value, ids_handed};
+ghost use Rattle.history_store_value_order.specs.ByValue.{Distinct, mark_cmp, mark_of, by_value};
+ghost use Rattle.history_store_value_order.specs.ByValue.{ids_handed};
 ghost use Rattle.history_store_value_order.specs.ByValue.{IsWithout, IsWith};
 
 use history_store_columns::Column;

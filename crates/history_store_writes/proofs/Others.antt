@@ -10,7 +10,8 @@ use Rattle.relations_spec.proofs.SetLaws.{in_has, has_in}
 use Rattle.std.specs.Ordering.{nat_cmp}
 use Rattle.history_store_columns.specs.Log.{Log, Write}
 use Rattle.history_store_row_order.specs.Logs.{cells_of, few_of}
-use Rattle.history_store_writes.specs.ValueIndexes.{Indexed, indexed_columns, is_indexed, indexed_after}
+use Rattle.history_store_writes.specs.ValueIndexes.{Indexed, indexed_columns, is_indexed}
+use Rattle.history_store_writes.specs.ValueIndexes.{indexed_after}
 use Rattle.history_store_writes.specs.ValueIndexes.{least_room, IsIndexed, IsIndexReady}
 use Rattle.history_store_value_order.specs.ByValue.{by_value, IsWithout}
 use Rattle.history_store_row_order.proofs.Cells.{length-cells_of}

@@ -8,7 +8,8 @@ ghost use Rattle.history_store_row_order.specs.Logs.{cells_of, few_of};
 ghost use Rattle.history_store_value_order.specs.ByValue.{Distinct, ids_handed};
 ghost use Rattle.history_store_writes.specs.ValueIndexes.{Indexed, indexed_columns, is_indexed};
 ghost use Rattle.history_store_writes.specs.ValueIndexes.{indexed_after};
-ghost use Rattle.history_store_writes.specs.ValueIndexes.{least_room, IsIndexed, IsIndexReady, IsLosing};
+ghost use Rattle.history_store_writes.specs.ValueIndexes.{least_room, IsIndexed, IsIndexReady};
+ghost use Rattle.history_store_writes.specs.ValueIndexes.{IsLosing};
 ghost use Rattle.history_store_writes.specs.ValueIndexes.{IsGaining};
 
 use crate::value_index::ValueIndex;

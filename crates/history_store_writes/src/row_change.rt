@@ -1,10 +1,12 @@
 ghost use Rattle.std.specs.Prelude.{◌≡◌, OnOk, IfOk, [], ◌+◌, ◌-◌, ◌++◌, vec_len, vec_capacity};
 ghost use Rattle.std.specs.Prelude.{◌^◌, ◌<◌, ◌≤◌, max, length, All, slice_index_or, ℕ};
 ghost use Rattle.history_store_row_order.specs.Logs.{cells_of, few_of};
-ghost use Rattle.history_store_writes.specs.Logs.{kinds_of, types_of, AreOf, AreRowsOf, least_spare};
+ghost use Rattle.history_store_writes.specs.Logs.{kinds_of, types_of, AreOf, AreRowsOf};
+ghost use Rattle.history_store_writes.specs.Logs.{least_spare};
 ghost use Rattle.history_store_writes.specs.Logs.{countable_rows, spare_rows};
 ghost use Rattle.history_store_columns.specs.Keys.{ended_at, no_span};
-ghost use Rattle.history_store_writes.specs.Writing.{put_row, put_rows, unpaired, new_keys, end_keys};
+ghost use Rattle.history_store_writes.specs.Writing.{put_row, put_rows, unpaired, new_keys};
+ghost use Rattle.history_store_writes.specs.Writing.{end_keys};
 ghost use Rattle.history_store_writes.specs.Writing.{keys_handed, logs_handed};
 ghost use Rattle.history_store_row_order.specs.Handing.{handed};
 ghost use Rattle.history_store_row_order.specs.Rows.{AllWidth};

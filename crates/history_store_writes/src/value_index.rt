@@ -32,7 +32,8 @@ impl ValueIndex {
     ghost use Rattle.history_store_row_order.specs.Logs.{cells_of, few_of};
     ghost use Rattle.history_store_row_order.specs.Rows.{row_now, rows_of};
     ghost use Rattle.history_store_value_order.specs.ByValue.{Distinct, ids_handed, ids_with};
-    ghost use Rattle.history_store_writes.specs.ValueIndexes.{IsIndexed, IsIndexReady, IsLosing, IsGaining};
+    ghost use Rattle.history_store_writes.specs.ValueIndexes.{IsIndexed, IsIndexReady, IsLosing};
+    ghost use Rattle.history_store_writes.specs.ValueIndexes.{IsGaining};
 
     /// The index of the column at this place, with room for all ids that are put in by one change
     /// of these rows. It sorts the ids.

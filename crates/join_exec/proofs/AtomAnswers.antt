@@ -22,8 +22,10 @@ use Rattle.version_groups_tables.specs.NewestTables.{rows_stored}
 use Rattle.version_groups.specs.Groups.{Kept, table_in}
 use Rattle.cond_expr.specs.AtomColumns.{columns_at}
 use Rattle.plain_answers_spec.specs.Choosing.{answers_over}
-use Rattle.plain_answers_spec.specs.Naming.{is_to, written_names, names_at, names_from, all_references}
-use Rattle.plain_answers_spec.specs.Reading.{Read, read_of, read_rows, AsMany, AreEnough, whole_rows}
+use Rattle.plain_answers_spec.specs.Naming.{is_to, written_names, names_at, names_from}
+use Rattle.plain_answers_spec.specs.Naming.{all_references}
+use Rattle.plain_answers_spec.specs.Reading.{Read, read_of, read_rows, AsMany, AreEnough}
+use Rattle.plain_answers_spec.specs.Reading.{whole_rows}
 use Rattle.plain_answers_spec.specs.Reading.{read_columns as columns_left}
 use Rattle.plain_answers_spec.proofs.NameLaws.{in_names_at}
 use Rattle.plain_answers_spec.proofs.ReadLaws.{same_answers}

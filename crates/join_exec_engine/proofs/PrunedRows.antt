@@ -26,7 +26,8 @@ use Rattle.join_exec_spec.specs.Blocks.{answered, IsPruned}
 use Rattle.join_exec_spec.proofs.Groups.{shown_kept}
 use Rattle.join_exec_spec.proofs.BorrowedLaws.{each_kept}
 use Rattle.join_exec_spec.proofs.PrunedAtoms.{one_pruned}
-use Rattle.join_exec_engine.proofs.AtomOrder.{is_block, are_blocks, apart_of, atoms_borrow, both_atoms}
+use Rattle.join_exec_engine.proofs.AtomOrder.{is_block, are_blocks, apart_of, atoms_borrow}
+use Rattle.join_exec_engine.proofs.AtomOrder.{both_atoms}
 use Rattle.join_exec_engine.specs.Atoms.{AtomsBorrow, block_of, blocks_of, IsNumbered, AreNumbered}
 
 -- the rows that meet some conditions

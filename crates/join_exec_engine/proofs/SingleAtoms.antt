@@ -9,7 +9,8 @@ use Rattle.relations_spec.specs.Sets.{In, set_of}
 use Rattle.relations_spec.specs.Choices.{choices}
 use Rattle.relations_spec.specs.Spans.{Span, covers}
 use Rattle.relations_spec.specs.Timed.{Entry, held_at, at}
-use Rattle.relations_spec.proofs.SetLaws.{in_map, from_map, in_filter, from_filter, in_set, from_set}
+use Rattle.relations_spec.proofs.SetLaws.{in_map, from_map, in_filter, from_filter, in_set}
+use Rattle.relations_spec.proofs.SetLaws.{from_set}
 use Rattle.relations_spec.proofs.SetLaws.{set_same}
 use Rattle.prima_base.specs.declared.value.Value.{Value}
 use Rattle.prima_base.specs.declared.timed_row.TimedRow.{TimedRow}

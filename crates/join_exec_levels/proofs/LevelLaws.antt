@@ -29,7 +29,8 @@ use Rattle.join_exec_spec.proofs.JoinLaws.{held_answers, paired_valid}
 use Rattle.join_exec_spec.proofs.OneMore.{flat_step}
 use Rattle.join_exec_levels.specs.declared.level.Level.{Level}
 use Rattle.join_exec_levels.specs.declared.source.Source.{Source}
-use Rattle.join_exec_levels.specs.Levels.{with_key, made_beside, made_on, made_through, IsValidLevel}
+use Rattle.join_exec_levels.specs.Levels.{with_key, made_beside, made_on, made_through}
+use Rattle.join_exec_levels.specs.Levels.{IsValidLevel}
 use Rattle.join_exec_levels.specs.Levels.{AreValidLevels, LevelBorrows, LevelsBorrow}
 
 -- ---- one level more

@@ -18,7 +18,8 @@ ghost use Rattle.join_exec_spec.specs.Keeping.{meets_all, borrowed_tests, AllVal
 ghost use Rattle.cond_expr.specs.declared.expr.Column.{Column as OneColumn};
 ghost use Rattle.join_exec_spec.specs.BorrowedOutputs.{BorrowedValues, RowsBorrow, AllStayBorrowed};
 ghost use Rattle.join_exec_levels.specs.declared.source.Source.{Source as OneSource};
-ghost use Rattle.join_exec_levels.specs.Levels.{made_on, made_through, IsValidLevel, AreValidLevels};
+ghost use Rattle.join_exec_levels.specs.Levels.{made_on, made_through, IsValidLevel};
+ghost use Rattle.join_exec_levels.specs.Levels.{AreValidLevels};
 ghost use Rattle.join_exec_levels.specs.Levels.{LevelBorrows, LevelsBorrow};
 ghost use Rattle.join_exec_levels.specs.Sources.{SourcesBorrow, held, held_of};
 

@@ -15,7 +15,7 @@ mod rec;
 mod sealed;
 mod synced_write;
 
-pub use crate::Journal;
+pub use journal::Journal;
 pub use disk_model::{Disk, Failed, NoMemory};
 pub use fault::{JournalFault, PutFault, PutsFault};
 pub use laws::a_file_stands_or_is_damaged;

@@ -1,16 +1,16 @@
 //! The tokens of a statement, and what statements are read from.
 //!
 //! `tokens` makes the tokens of a text. `parse_expr` and `parse_cond` read an expression or a
-//! condition from a list of tokens. Their grammar is `specs/Grammar.antt` of lexer_trees_spec; what is
-//! counted at each token is its `specs/TreeCounts.antt`, and which token is the first that is too
-//! much `specs/Crossings.antt` of lexer_combinators.
+//! condition from a list of tokens. Their grammar is `specs/Grammar.antt` of lexer_trees_spec; what
+//! is counted at each token is its `specs/TreeCounts.antt`, and which token is the first that is
+//! too much `specs/Crossings.antt` of lexer_combinators.
 //!
 //! Crates above read statements over a `Cursor`, with these readers and their own: `name` and
 //! `names`, `moment`, `small`, `int`, `literal` and `constant` (`specs/Constants.antt` of
-//! lexer_trees_spec), `fresh_expr` and `fresh_cond`, which count anew, `outer_where` and `fresh_where`
-//! for a condition after WHERE, and the cursor's own steps (`expect_word`, `expect_sign`,
-//! `sees_word`, `sees_sign`, `skip`). `specs/Parsing.antt` of lexer_combinators has the steps of
-//! reading for any grammar, and says how a production is made of them.
+//! lexer_trees_spec), `fresh_expr` and `fresh_cond`, which count anew, `outer_where` and
+//! `fresh_where` for a condition after WHERE, and the cursor's own steps (`expect_word`,
+//! `expect_sign`, `sees_word`, `sees_sign`, `skip`). `specs/Parsing.antt` of lexer_combinators has
+//! the steps of reading for any grammar, and says how a production is made of them.
 //!
 //! This crate stands for those below it too: lexer_spec, lexer_combinators and lexer_trees_spec
 //! have the definitions with their laws.

@@ -19,12 +19,16 @@ use Rattle.lexer_combinators.specs.Grammar.{Size, nothing_counted, both, one_nod
 use Rattle.lexer_combinators.specs.Grammar.{AreMore, no_end}
 use Rattle.lexer_combinators.specs.Grammar as grammar
 use Rattle.lexer_trees_spec.specs.Grammar as g
-use Rattle.lexer_trees_spec.specs.Grammar.{spelled, leaf, IsExpr, AreParts, IsFact, AreFacts, IsConj}
+use Rattle.lexer_trees_spec.specs.Grammar.{spelled, leaf, IsExpr, AreParts, IsFact, AreFacts}
+use Rattle.lexer_trees_spec.specs.Grammar.{IsConj}
 use Rattle.lexer_trees_spec.specs.Grammar.{AreConjs, IsCond}
 use Rattle.lexer_trees_spec.specs.Constants.{name, name_grammar}
-use Rattle.lexer_trees_spec.specs.Reader.{Level, ref_rest, sign_op, op_arm, bracket, opens, length_rest}
-use Rattle.lexer_trees_spec.specs.Reader.{concat_rest, case_rest, atom_arm, expr_arm, expr, comparison}
-use Rattle.lexer_trees_spec.specs.Reader.{bracketed, fact_arm, fact, facts, conj, conjs, cond as whole}
+use Rattle.lexer_trees_spec.specs.Reader.{Level, ref_rest, sign_op, op_arm, bracket, opens}
+use Rattle.lexer_trees_spec.specs.Reader.{length_rest}
+use Rattle.lexer_trees_spec.specs.Reader.{concat_rest, case_rest, atom_arm, expr_arm, expr}
+use Rattle.lexer_trees_spec.specs.Reader.{comparison}
+use Rattle.lexer_trees_spec.specs.Reader.{bracketed, fact_arm, fact, facts, conj, conjs}
+use Rattle.lexer_trees_spec.specs.Reader.{cond as whole}
 use Rattle.lexer_trees_spec.specs.Reader.{nothing, made, level, outermost, follow_expr, follow_conj}
 use Rattle.lexer_trees_spec.specs.Reader.{follow_cond}
 use Rattle.lexer_spec.proofs.Cases.{true_false}
@@ -38,14 +42,17 @@ use Rattle.lexer_combinators.proofs.Parsing.{whole_correct, open_correct, bind_l
 use Rattle.lexer_combinators.proofs.Fresh.{fresh_correct}
 use Rattle.lexer_trees_spec.proofs.Singles.{name_correct, name_is}
 use Rattle.lexer_spec.proofs.LexemeTests.{word_exact, sign_exact, word_is, sign_is}
-use Rattle.lexer_trees_spec.proofs.Grammar.{CASE, WHEN, THEN, ELSE, END, LENGTH, CONCAT, AND, OR, NOT}
+use Rattle.lexer_trees_spec.proofs.Grammar.{CASE, WHEN, THEN, ELSE, END, LENGTH, CONCAT, AND, OR}
+use Rattle.lexer_trees_spec.proofs.Grammar.{NOT}
 use Rattle.lexer_trees_spec.proofs.Grammar.{TRUE, FALSE, OPEN, CLOSE, COMMA, POINT, aliased}
 use Rattle.lexer_trees_spec.proofs.Grammar.{alias_grammar, ref_grammar, insideLength_grammar}
 use Rattle.lexer_trees_spec.proofs.Grammar.{length_grammar, insideConcat_grammar, concat_grammar}
 use Rattle.lexer_trees_spec.proofs.Grammar.{case_grammar, expr_inv, length_up, concat_up, case_up}
-use Rattle.lexer_trees_spec.proofs.Grammar.{not_name, length_down, concat_down, case_down, atom_down}
+use Rattle.lexer_trees_spec.proofs.Grammar.{not_name, length_down, concat_down, case_down}
+use Rattle.lexer_trees_spec.proofs.Grammar.{atom_down}
 use Rattle.lexer_trees_spec.proofs.Grammar.{expr_not_none, op_grammar, right_grammar, cmp_grammar}
-use Rattle.lexer_trees_spec.proofs.Grammar.{bracket_grammar, not_grammar, fact_inv, cmp_up, bracket_up}
+use Rattle.lexer_trees_spec.proofs.Grammar.{bracket_grammar, not_grammar, fact_inv, cmp_up}
+use Rattle.lexer_trees_spec.proofs.Grammar.{bracket_up}
 use Rattle.lexer_trees_spec.proofs.Grammar.{not_up, not_down, bracket_down, true_down, false_down}
 use Rattle.lexer_trees_spec.proofs.Grammar.{cmp_down, fact_not_none, fact_nodes, conj_nodes}
 use Rattle.lexer_trees_spec.proofs.Grammar.{and_grammar, or_grammar, conj_up, conj_down, cond_up}

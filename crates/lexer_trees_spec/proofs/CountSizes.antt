@@ -5,7 +5,8 @@ use Rattle.cond_expr.specs.Trees.{Tree, Test}
 use Rattle.lexer_spec.specs.Lexemes.{Lexeme}
 use Rattle.lexer_combinators.specs.Grammar.{Size}
 use Rattle.lexer_trees_spec.specs.Grammar as g
-use Rattle.lexer_trees_spec.specs.Grammar.{IsExpr, AreParts, IsFact, AreFacts, IsConj, AreConjs, IsCond}
+use Rattle.lexer_trees_spec.specs.Grammar.{IsExpr, AreParts, IsFact, AreFacts, IsConj, AreConjs}
+use Rattle.lexer_trees_spec.specs.Grammar.{IsCond}
 use Rattle.lexer_combinators.specs.TokenCounts.{TokenCounts, AddUp, deepest, deeper, nodes_in}
 use Rattle.lexer_trees_spec.specs.TreeCounts.{expr_counts, part_counts, fact_counts, facts_counts}
 use Rattle.lexer_trees_spec.specs.TreeCounts.{conj_counts, conjs_counts, cond_counts}

@@ -11,7 +11,8 @@ use Rattle.lexer_combinators.specs.Parsing.{and_then, bind, pure, map_to, option
 use Rattle.lexer_combinators.specs.Parsing.{arm_run}
 use Rattle.lexer_combinators.specs.Grammar.{Size}
 use Rattle.lexer_trees_spec.specs.Grammar as g
-use Rattle.lexer_trees_spec.specs.Grammar.{IsExpr, AreParts, IsFact, AreFacts, IsConj, AreConjs, IsCond}
+use Rattle.lexer_trees_spec.specs.Grammar.{IsExpr, AreParts, IsFact, AreFacts, IsConj, AreConjs}
+use Rattle.lexer_trees_spec.specs.Grammar.{IsCond}
 use Rattle.lexer_combinators.specs.TokenCounts.{TokenCounts, plain, node, nodes_in}
 use Rattle.lexer_trees_spec.specs.TreeCounts.{expr_counts, part_counts, fact_counts, facts_counts}
 use Rattle.lexer_trees_spec.specs.TreeCounts.{conj_counts, conjs_counts, cond_counts}
@@ -28,10 +29,12 @@ use Rattle.lexer_trees_spec.proofs.Endings.{expr_free, fact_free, facts_free, co
 use Rattle.lexer_trees_spec.proofs.Endings.{cond_free}
 use Rattle.lexer_trees_spec.proofs.CountSizes.{expr_length, part_length, fact_length, conj_length}
 use Rattle.lexer_trees_spec.proofs.CountSizes.{cond_length, fact_some, conj_some}
-use Rattle.lexer_trees_spec.proofs.CountsRead.{at, in_room, ExprRead, PartsRead, FactRead, FactsRead}
+use Rattle.lexer_trees_spec.proofs.CountsRead.{at, in_room, ExprRead, PartsRead, FactRead}
+use Rattle.lexer_trees_spec.proofs.CountsRead.{FactsRead}
 use Rattle.lexer_trees_spec.proofs.CountsRead.{ConjRead, ConjsRead, CondRead, fact_at, conj_at}
 use Rattle.lexer_trees_spec.proofs.CountsRead.{int_read, text_read, of_atom_read, of_free_read}
-use Rattle.lexer_trees_spec.proofs.CountsRead.{of_alias_read, length_read, concat_read, no_part_read}
+use Rattle.lexer_trees_spec.proofs.CountsRead.{of_alias_read, length_read, concat_read}
+use Rattle.lexer_trees_spec.proofs.CountsRead.{no_part_read}
 use Rattle.lexer_trees_spec.proofs.CountsRead.{a_part_read, case_read, truth_read, falsehood_read}
 use Rattle.lexer_trees_spec.proofs.CountsRead.{not_read, bracket_read, compared_read}
 

@@ -21,11 +21,13 @@ use Rattle.lexer_trees_spec.specs.Grammar.{spelled, IsExpr}
 use Rattle.lexer_combinators.specs.TokenCounts.{TokenCounts, plain, node, begins, opened}
 use Rattle.lexer_trees_spec.specs.Constants.{name}
 use Rattle.lexer_trees_spec.specs.Reader.{level, can, inside, ref_rest, sign_op, op_arm, expr}
-use Rattle.lexer_trees_spec.specs.Reader.{length_rest, concat_rest, case_rest, comparison, bracketed}
+use Rattle.lexer_trees_spec.specs.Reader.{length_rest, concat_rest, case_rest, comparison}
+use Rattle.lexer_trees_spec.specs.Reader.{bracketed}
 use Rattle.lexer_trees_spec.specs.Reader.{fact, conj, follow_expr, follow_conj, follow_cond}
 use Rattle.lexer_combinators.specs.Reads.{sees}
 use Rattle.lexer_spec.proofs.Cases.{true_false, by_test}
-use Rattle.lexer_trees_spec.proofs.Grammar.{aliased, CASE, WHEN, THEN, ELSE, END, LENGTH, CONCAT, AND}
+use Rattle.lexer_trees_spec.proofs.Grammar.{aliased, CASE, WHEN, THEN, ELSE, END, LENGTH, CONCAT}
+use Rattle.lexer_trees_spec.proofs.Grammar.{AND}
 use Rattle.lexer_trees_spec.proofs.Grammar.{OR, NOT, TRUE, FALSE, OPEN, CLOSE, COMMA, POINT}
 use Rattle.lexer_trees_spec.proofs.Grammar.{length_no_name, concat_no_name, case_no_name, expr_some}
 use Rattle.lexer_trees_spec.proofs.Grammar.{starts_expr, starts_not, starts_true, starts_false}

@@ -18,7 +18,8 @@ use Rattle.lexer_combinators.specs.Grammar as grammar
 use Rattle.lexer_combinators.specs.Derivations.{Derivation, derivation, after_lexeme}
 use Rattle.lexer_trees_spec.specs.Constants.{name_grammar}
 use Rattle.lexer_trees_spec.specs.Grammar as g
-use Rattle.lexer_trees_spec.specs.Grammar.{spelled, leaf, IsExpr, AreParts, IsFact, AreFacts, IsConj}
+use Rattle.lexer_trees_spec.specs.Grammar.{spelled, leaf, IsExpr, AreParts, IsFact, AreFacts}
+use Rattle.lexer_trees_spec.specs.Grammar.{IsConj}
 use Rattle.lexer_trees_spec.specs.Grammar.{AreConjs, IsCond}
 use Rattle.lexer_spec.proofs.Cases.{true_false}
 use Rattle.lexer_combinators.proofs.Parsing.{after_down, both_none, last_size}

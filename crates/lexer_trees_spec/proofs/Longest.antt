@@ -9,7 +9,8 @@ use Rattle.lexer_combinators.specs.Grammar.{Grammar}
 use Rattle.lexer_combinators.specs.Parsing.{Stops, CanGoOn, Fine, Exceeds}
 use Rattle.lexer_combinators.specs.Grammar.{Size, both, one_node, one_open, nothing_counted}
 use Rattle.lexer_trees_spec.specs.Grammar as g
-use Rattle.lexer_trees_spec.specs.Grammar.{spelled, leaf, IsExpr, IsFact, AreFacts, IsConj, AreConjs}
+use Rattle.lexer_trees_spec.specs.Grammar.{spelled, leaf, IsExpr, IsFact, AreFacts, IsConj}
+use Rattle.lexer_trees_spec.specs.Grammar.{AreConjs}
 use Rattle.lexer_trees_spec.specs.Grammar.{IsCond}
 use Rattle.lexer_combinators.specs.TokenCounts.{TokenCounts, crossed_by}
 use Rattle.lexer_trees_spec.specs.TreeCounts.{expr_counts, cond_counts}

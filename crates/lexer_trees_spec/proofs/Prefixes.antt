@@ -19,18 +19,22 @@ use Rattle.lexer_combinators.specs.Derivations.{rest_of, source_of, in_node}
 use Rattle.lexer_combinators.proofs.DerivationLaws.{given_value, made_value}
 use Rattle.lexer_trees_spec.specs.Constants.{name_grammar}
 use Rattle.lexer_trees_spec.specs.Grammar as g
-use Rattle.lexer_trees_spec.specs.Grammar.{spelled, leaf, IsExpr, AreParts, IsFact, AreFacts, IsConj}
+use Rattle.lexer_trees_spec.specs.Grammar.{spelled, leaf, IsExpr, AreParts, IsFact, AreFacts}
+use Rattle.lexer_trees_spec.specs.Grammar.{IsConj}
 use Rattle.lexer_trees_spec.specs.Grammar.{AreConjs, IsCond}
 use Rattle.lexer_trees_spec.specs.Reader.{follow_expr, follow_cond}
 use Rattle.lexer_spec.proofs.Cases.{true_false}
 use Rattle.lexer_trees_spec.proofs.CountsRead.{no_word}
-use Rattle.lexer_trees_spec.proofs.Grammar.{CASE, WHEN, THEN, ELSE, END, LENGTH, CONCAT, AND, OR, NOT}
+use Rattle.lexer_trees_spec.proofs.Grammar.{CASE, WHEN, THEN, ELSE, END, LENGTH, CONCAT, AND, OR}
+use Rattle.lexer_trees_spec.proofs.Grammar.{NOT}
 use Rattle.lexer_trees_spec.proofs.Grammar.{TRUE, FALSE, OPEN, CLOSE, COMMA, POINT, aliased}
 use Rattle.lexer_trees_spec.proofs.Grammar.{alias_grammar, ref_grammar, insideLength_grammar}
 use Rattle.lexer_trees_spec.proofs.Grammar.{length_grammar, insideConcat_grammar, concat_grammar}
-use Rattle.lexer_trees_spec.proofs.Grammar.{case_grammar, expr_inv, length_down, concat_down, case_down}
+use Rattle.lexer_trees_spec.proofs.Grammar.{case_grammar, expr_inv, length_down, concat_down}
+use Rattle.lexer_trees_spec.proofs.Grammar.{case_down}
 use Rattle.lexer_trees_spec.proofs.Grammar.{atom_down, expr_not_none, expr_some, starts_expr}
-use Rattle.lexer_trees_spec.proofs.Grammar.{length_no_name, concat_no_name, case_no_name, right_grammar}
+use Rattle.lexer_trees_spec.proofs.Grammar.{length_no_name, concat_no_name, case_no_name}
+use Rattle.lexer_trees_spec.proofs.Grammar.{right_grammar}
 use Rattle.lexer_trees_spec.proofs.Grammar.{cmp_grammar, bracket_grammar, not_grammar, fact_inv}
 use Rattle.lexer_trees_spec.proofs.Grammar.{sign_of, after_sign}
 use Rattle.lexer_trees_spec.proofs.Grammar.{not_down, bracket_down, true_down, false_down}
@@ -38,7 +42,8 @@ use Rattle.lexer_trees_spec.proofs.Grammar.{fact_not_none, conj_down, cond_down}
 use Rattle.std.proofs.lemmas.List.{append_cancel_right}
 use Rattle.lexer_combinators.specs.Prefixes.{DetermineEachOther}
 use Rattle.lexer_trees_spec.proofs.Unambiguous.{Only, only_first, only_open, only_closed, only_expr}
-use Rattle.lexer_trees_spec.proofs.Unambiguous.{only_cond, once, sign_grammar, as_cmp, and_all, or_all}
+use Rattle.lexer_trees_spec.proofs.Unambiguous.{only_cond, once, sign_grammar, as_cmp, and_all}
+use Rattle.lexer_trees_spec.proofs.Unambiguous.{or_all}
 
 -- whatever else spells it at the same place is this prefix
 abbrev pub OnePrefix : {A : Type 0} → Grammar A → A → List Lexeme → Type 0

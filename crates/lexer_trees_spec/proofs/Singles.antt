@@ -10,8 +10,10 @@ use Rattle.lexer_combinators.specs.Parsing.{IsCorrectParser, pure, single, singl
 use Rattle.lexer_combinators.specs.Parsing.{maybe}
 use Rattle.lexer_combinators.specs.Grammar.{Size, nothing_counted, no_end}
 use Rattle.lexer_combinators.specs.Grammar as grammar
-use Rattle.lexer_trees_spec.specs.Constants.{as_name, as_natural, as_moment, as_small, as_int, as_text}
-use Rattle.lexer_trees_spec.specs.Constants.{as_constant, name, name_grammar, natural, natural_grammar}
+use Rattle.lexer_trees_spec.specs.Constants.{as_name, as_natural, as_moment, as_small, as_int}
+use Rattle.lexer_trees_spec.specs.Constants.{as_text}
+use Rattle.lexer_trees_spec.specs.Constants.{as_constant, name, name_grammar, natural}
+use Rattle.lexer_trees_spec.specs.Constants.{natural_grammar}
 use Rattle.lexer_trees_spec.specs.Constants.{moment, moment_grammar, small, small_grammar, int}
 use Rattle.lexer_trees_spec.specs.Constants.{int_grammar, literal, literal_grammar, constant}
 use Rattle.lexer_trees_spec.specs.Constants.{constant_grammar, names, names_grammar, more_names}

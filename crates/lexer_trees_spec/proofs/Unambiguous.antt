@@ -18,24 +18,31 @@ use Rattle.lexer_combinators.specs.Grammar.{so_wide, AreMore, no_end}
 use Rattle.lexer_combinators.specs.Grammar as grammar
 use Rattle.lexer_trees_spec.specs.Constants.{as_name, name_grammar}
 use Rattle.lexer_trees_spec.specs.Grammar as g
-use Rattle.lexer_trees_spec.specs.Grammar.{spelled, leaf, IsExpr, AreParts, IsFact, AreFacts, IsConj}
+use Rattle.lexer_trees_spec.specs.Grammar.{spelled, leaf, IsExpr, AreParts, IsFact, AreFacts}
+use Rattle.lexer_trees_spec.specs.Grammar.{IsConj}
 use Rattle.lexer_trees_spec.specs.Grammar.{AreConjs, IsCond}
 use Rattle.lexer_trees_spec.specs.Reader.{sign_op, follow_expr, follow_conj, follow_cond}
 use Rattle.lexer_spec.proofs.Cases.{true_false, by_test}
 use Rattle.lexer_combinators.proofs.Parsing.{both_none}
 use Rattle.lexer_trees_spec.proofs.CountsRead.{no_word, spelled_op, no_point}
 use Rattle.lexer_spec.proofs.LexemeTests.{word_is, sign_is, word_exact, sign_exact}
-use Rattle.lexer_trees_spec.proofs.Grammar.{CASE, WHEN, THEN, ELSE, END, LENGTH, CONCAT, AND, OR, NOT}
-use Rattle.lexer_trees_spec.proofs.Grammar.{TRUE, FALSE, OPEN, CLOSE, COMMA, POINT, parts_down, aliased}
+use Rattle.lexer_trees_spec.proofs.Grammar.{CASE, WHEN, THEN, ELSE, END, LENGTH, CONCAT, AND, OR}
+use Rattle.lexer_trees_spec.proofs.Grammar.{NOT}
+use Rattle.lexer_trees_spec.proofs.Grammar.{TRUE, FALSE, OPEN, CLOSE, COMMA, POINT, parts_down}
+use Rattle.lexer_trees_spec.proofs.Grammar.{aliased}
 use Rattle.lexer_trees_spec.proofs.Grammar.{alias_grammar, ref_grammar, insideLength_grammar}
 use Rattle.lexer_trees_spec.proofs.Grammar.{length_grammar, insideConcat_grammar, concat_grammar}
-use Rattle.lexer_trees_spec.proofs.Grammar.{case_grammar, expr_inv, length_down, concat_down, case_down}
+use Rattle.lexer_trees_spec.proofs.Grammar.{case_grammar, expr_inv, length_down, concat_down}
+use Rattle.lexer_trees_spec.proofs.Grammar.{case_down}
 use Rattle.lexer_trees_spec.proofs.Grammar.{atom_down, expr_not_none, expr_some, starts_expr}
 use Rattle.lexer_trees_spec.proofs.Grammar.{starts_not, starts_true, starts_false, starts_open}
-use Rattle.lexer_trees_spec.proofs.Grammar.{length_no_name, concat_no_name, case_no_name, op_grammar}
-use Rattle.lexer_trees_spec.proofs.Grammar.{right_grammar, cmp_grammar, bracket_grammar, not_grammar}
+use Rattle.lexer_trees_spec.proofs.Grammar.{length_no_name, concat_no_name, case_no_name}
+use Rattle.lexer_trees_spec.proofs.Grammar.{op_grammar}
+use Rattle.lexer_trees_spec.proofs.Grammar.{right_grammar, cmp_grammar, bracket_grammar}
+use Rattle.lexer_trees_spec.proofs.Grammar.{not_grammar}
 use Rattle.lexer_trees_spec.proofs.Grammar.{fact_inv, not_down, bracket_down, true_down, false_down}
-use Rattle.lexer_trees_spec.proofs.Grammar.{cmp_down, fact_not_none, conj_down, cond_down, facts_down}
+use Rattle.lexer_trees_spec.proofs.Grammar.{cmp_down, fact_not_none, conj_down, cond_down}
+use Rattle.lexer_trees_spec.proofs.Grammar.{facts_down}
 use Rattle.lexer_trees_spec.proofs.Grammar.{conjs_down}
 
 -- whatever else is read at the same place is this

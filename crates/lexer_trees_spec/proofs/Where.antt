@@ -8,7 +8,8 @@ use Rattle.lexer_combinators.specs.ListCrossings.{fresh_crossing}
 use Rattle.lexer_trees_spec.specs.Grammar.{IsCond}
 use Rattle.lexer_trees_spec.specs.Reader.{outermost, follow_cond}
 use Rattle.lexer_trees_spec.specs.TreeCounts.{cond_counts}
-use Rattle.lexer_trees_spec.specs.Where.{IsWhere, IsFreshWhere, outer_where, fresh_where, follow_where}
+use Rattle.lexer_trees_spec.specs.Where.{IsWhere, IsFreshWhere, outer_where, fresh_where}
+use Rattle.lexer_trees_spec.specs.Where.{follow_where}
 use Rattle.lexer_trees_spec.specs.Where.{where_crossings}
 use Rattle.lexer_spec.proofs.LexemeTests.{word_exact, word_is}
 use Rattle.lexer_combinators.proofs.Parsing.{correct_follow, option_takes_correct}

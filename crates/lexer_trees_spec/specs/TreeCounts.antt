@@ -6,7 +6,8 @@ use Rattle.lexer_combinators.specs.Grammar.{Size}
 use Rattle.lexer_combinators.specs.TokenCounts.{TokenCounts, plain, node, begins, opened}
 use Rattle.lexer_combinators.specs.ListCrossings.{Crossing, count_crossing}
 use Rattle.lexer_trees_spec.specs.Grammar as g
-use Rattle.lexer_trees_spec.specs.Grammar.{IsExpr, AreParts, IsFact, AreFacts, IsConj, AreConjs, IsCond}
+use Rattle.lexer_trees_spec.specs.Grammar.{IsExpr, AreParts, IsFact, AreFacts, IsConj, AreConjs}
+use Rattle.lexer_trees_spec.specs.Grammar.{IsCond}
 
 -- A comparison counts at its sign, an AND or OR at the first of its words, and each other node at
 -- its own first token. LENGTH and CONCAT open at their bracket. A part of a CONCAT after the first

@@ -5,7 +5,8 @@ use Rattle.std.specs.Prelude.{Some, None, if◌then◌else◌}
 use Rattle.std.specs.List.{filter, list_all}
 use Rattle.std.specs.FinMap.{get}
 use Rattle.relations_spec.specs.Sets.{In}
-use Rattle.relations_spec.proofs.SetLaws.{in_map, from_map, in_filter, from_filter, in_set, from_set}
+use Rattle.relations_spec.proofs.SetLaws.{in_map, from_map, in_filter, from_filter, in_set}
+use Rattle.relations_spec.proofs.SetLaws.{from_set}
 use Rattle.prima_base.specs.Order.{row_cmp}
 use Rattle.prima_base.specs.OrderLaws.{row_exact}
 use Rattle.prima_base.specs.declared.value.Value.{Value}

@@ -13,7 +13,8 @@ use Rattle.smo_ops_types.specs.Commands.{PlainVersion}
 use Rattle.smo_ops_spec.specs.OneRow.{Relation}
 use Rattle.smo_ops_spec.specs.Effects.{columns_of, rows_under}
 use Rattle.smo_ops_spec.specs.ValidValues.{EachHolds}
-use Rattle.smo_ops_spec.specs.Past.{Past, no_tables, tables_from, tables_of, version_at, database_at}
+use Rattle.smo_ops_spec.specs.Past.{Past, no_tables, tables_from, tables_of, version_at}
+use Rattle.smo_ops_spec.specs.Past.{database_at}
 use Rattle.smo_ops_spec.specs.ValidPast.{AreVersions, IsPast}
 use Rattle.smo_ops_versions_spec.specs.Migration.{migrated_from, migrated}
 use Rattle.smo_ops_versions_spec.specs.LostNames.{lost_names}

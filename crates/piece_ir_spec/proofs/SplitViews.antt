@@ -37,7 +37,8 @@ use Rattle.piece_ir_spec.specs.OperatorViews.{operator_views, unmet}
 use Rattle.piece_ir_spec.proofs.ViewConstants.{whole_constants, parts_constants, unmet_constants}
 use Rattle.piece_ir_spec.proofs.OneTable.{only_one, given_by_one, given_by_both, two_there}
 use Rattle.piece_ir_spec.proofs.OneTable.{typed_by_one, given_by_view}
-use Rattle.piece_ir_spec.proofs.OneViews.{made_image, made_filter, made_whole, own_column, none_typed}
+use Rattle.piece_ir_spec.proofs.OneViews.{made_image, made_filter, made_whole, own_column}
+use Rattle.piece_ir_spec.proofs.OneViews.{none_typed}
 use Rattle.piece_ir_spec.proofs.TestLaws.{typed_test, part_typed, parts_hold, and_all, unmet_fails}
 use Rattle.piece_ir_spec.proofs.TestLaws.{unmet_typed}
 

@@ -16,7 +16,8 @@ use Rattle.smo_ops_spec.specs.OperatorTable.{line, made_names}
 use Rattle.smo_ops_spec.specs.Losses.{Loss, first_loss}
 use Rattle.smo_ops_spec.specs.Past.{no_tables, tables_from}
 use Rattle.smo_ops_versions_spec.specs.Ways.{taken, over_version, to_next, from_next, forward}
-use Rattle.smo_ops_versions_spec.specs.LostNames.{Losses, none_lost, all_lost, with_loss, losses_over}
+use Rattle.smo_ops_versions_spec.specs.LostNames.{Losses, none_lost, all_lost, with_loss}
+use Rattle.smo_ops_versions_spec.specs.LostNames.{losses_over}
 use Rattle.smo_ops_versions_spec.specs.LostNames.{losses_undone, of_losses, lost_names}
 use Rattle.smo_ops_versions_spec.proofs.WaySteps.{goes_forward, back_by}
 use Rattle.smo_ops_versions_spec.proofs.LossesByName.{taken_so}

@@ -4,7 +4,8 @@ use Rattle.std.specs.Prelude.{◌==◌, ◌↔◌}
 use Rattle.std.specs.List.{filter}
 use Rattle.std.proofs.lemmas.Bool.Decides.{nat_tests}
 use Rattle.relations_spec.specs.Sets.{In}
-use Rattle.relations_spec.proofs.SetLaws.{in_map, from_map, in_filter, from_filter, in_set, from_set}
+use Rattle.relations_spec.proofs.SetLaws.{in_map, from_map, in_filter, from_filter, in_set}
+use Rattle.relations_spec.proofs.SetLaws.{from_set}
 use Rattle.relations_spec.proofs.SetLaws.{set_same}
 use Rattle.prima_base.specs.Order.{bytes_cmp}
 use Rattle.prima_base.specs.OrderLaws.{bytes_exact}

@@ -27,7 +27,8 @@ use Rattle.smo_ops_spec.proofs.MadeRows.{column_named}
 use Rattle.smo_ops_spec.proofs.MadeCells.{same_cell}
 use Rattle.plain_answers_spec.specs.Choosing.{chosen_cell, chosen_cells, choice_meets, answered}
 use Rattle.plain_answers_spec.specs.Choosing.{answers_over}
-use Rattle.plain_answers_spec.specs.Branches.{Item, PlainBranch, item_columns, item_rows, branch_answers}
+use Rattle.plain_answers_spec.specs.Branches.{Item, PlainBranch, item_columns, item_rows}
+use Rattle.plain_answers_spec.specs.Branches.{branch_answers}
 use Rattle.plain_answers_spec.specs.Branches.{plain}
 use Rattle.plain_answers_spec.specs.Naming.{all_references, IsNamed, names_from}
 use Rattle.plain_answers_spec.specs.Reading.{Read, read_columns, read_rows, AsMany, AreEnough}

@@ -15,7 +15,8 @@ use Rattle.smo_ops_spec.specs.OneRow.{Relation}
 use Rattle.plain_answers_spec.specs.Choosing.{answers_over}
 use Rattle.plain_answers_spec.specs.Branches.{PlainBranch}
 use Rattle.plain_answers_spec.specs.Naming.{all_references, IsNamed, names_from}
-use Rattle.plain_answers_spec.specs.Reading.{Read, read_columns, read_rows, said_of, IsPartOf, AreEnough}
+use Rattle.plain_answers_spec.specs.Reading.{Read, read_columns, read_rows, said_of, IsPartOf}
+use Rattle.plain_answers_spec.specs.Reading.{AreEnough}
 use Rattle.cond_expr.specs.Parts.{parts_but_true as parts}
 use Rattle.plain_answers_spec.proofs.NameLaws.{in_names_at}
 

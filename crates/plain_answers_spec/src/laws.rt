@@ -12,7 +12,8 @@ ghost use Rattle.smo_ops_spec.specs.OneRow.{Row, Relation, own_cells, meets};
 ghost use Rattle.plain_answers_spec.specs.Choosing.{answers_over, Gives};
 ghost use Rattle.plain_answers_spec.specs.Branches.{PlainBranch, plain, BranchGives};
 ghost use Rattle.plain_answers_spec.specs.Naming.{IsNamed, names_at};
-ghost use Rattle.plain_answers_spec.specs.Reading.{Read, read_columns, read_rows, AsMany, AreEnough};
+ghost use Rattle.plain_answers_spec.specs.Reading.{Read, read_columns, read_rows, AsMany};
+ghost use Rattle.plain_answers_spec.specs.Reading.{AreEnough};
 ghost use Rattle.plain_answers_spec.specs.Reading.{needed, plain_read};
 ghost use Rattle.plain_answers_spec.specs.Pushing.{pushed_reads};
 

@@ -6,7 +6,8 @@ use Rattle.std.specs.Prelude.{Option, ◌⊎◌}
 use Rattle.relations_spec.specs.Sets.{In, set_of}
 use Rattle.relations_spec.specs.Spans.{Span, covers}
 use Rattle.relations_spec.proofs.Held.{in_at, covers_is}
-use Rattle.relations_spec.proofs.SetLaws.{in_left, in_right, in_append, in_map, from_map, in_flat_map}
+use Rattle.relations_spec.proofs.SetLaws.{in_left, in_right, in_append, in_map, from_map}
+use Rattle.relations_spec.proofs.SetLaws.{in_flat_map}
 use Rattle.relations_spec.proofs.SetLaws.{from_flat_map, from_set}
 use Rattle.prima_base.specs.declared.value.Val.{Val}
 use Rattle.prima_base.specs.declared.timed_row.TimedRow.{TimedRow}

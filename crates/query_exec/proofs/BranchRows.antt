@@ -7,7 +7,8 @@ use Rattle.std.specs.List.{flat_map}
 use Rattle.std.proofs.lemmas.List.{map-append, length-map, length-take-le}
 use Rattle.relations_spec.specs.Sets.{In, set_of}
 use Rattle.relations_spec.specs.Timed.{Entry, at}
-use Rattle.relations_spec.proofs.SetLaws.{in_left, in_right, in_append, in_set, from_set, in_flat_map}
+use Rattle.relations_spec.proofs.SetLaws.{in_left, in_right, in_append, in_set, from_set}
+use Rattle.relations_spec.proofs.SetLaws.{in_flat_map}
 use Rattle.relations_spec.proofs.SetLaws.{from_flat_map, one_list, set_ascends}
 use Rattle.relations_spec.proofs.Held.{in_at, at_ascends}
 use Rattle.prima_base.specs.declared.timed_row.TimedRow.{TimedRow}

@@ -40,7 +40,8 @@ use Rattle.piece_ir_spec.specs.Chains.{unfolded_to}
 use Rattle.piece_ir_spec.specs.Reading.{AreQuestions, Suffices}
 use Rattle.piece_ir_spec.proofs.ReadMoments.{table_typed, table_valid}
 use Rattle.temporal_lang_spec.specs.Accepted.{fault_of_query}
-use Rattle.temporal_lang_spec.specs.Atoms.{Source, sources_of, to_atoms, branch_with_atoms, with_atoms}
+use Rattle.temporal_lang_spec.specs.Atoms.{Source, sources_of, to_atoms, branch_with_atoms}
+use Rattle.temporal_lang_spec.specs.Atoms.{with_atoms}
 use Rattle.temporal_lang_types.specs.Queries.{PlainQuery, slice_of}
 use Rattle.query_pieces_spec.specs.Piecewise.{asked_branches, IsAskedOf}
 use Rattle.query_pieces_spec.proofs.ReadByPieces.{pushed_enough, items_kept}

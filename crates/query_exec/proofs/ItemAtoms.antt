@@ -26,7 +26,8 @@ use Rattle.version_groups.specs.Groups.{Kept, versions_in}
 use Rattle.version_groups.specs.Representation.{Represents}
 use Rattle.plain_answers_spec.specs.Choosing.{answers_over}
 use Rattle.cond_expr.specs.AtomColumns.{columns_at}
-use Rattle.plain_answers_spec.specs.Branches.{Item, PlainBranch, item_columns, item_rows, branch_answers}
+use Rattle.plain_answers_spec.specs.Branches.{Item, PlainBranch, item_columns, item_rows}
+use Rattle.plain_answers_spec.specs.Branches.{branch_answers}
 use Rattle.plain_answers_spec.specs.Naming.{all_references}
 use Rattle.plain_answers_spec.specs.Pushing.{pushed_from, pushed_reads}
 use Rattle.plain_answers_spec.specs.Reading.{Read, read_columns, read_rows}

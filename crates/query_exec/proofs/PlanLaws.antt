@@ -11,7 +11,8 @@ use Rattle.relations_spec.proofs.SetLaws.{in_append}
 use Rattle.schema_catalog.specs.Tables.{Tables}
 use Rattle.schema_catalog.specs.Databases.{IsDatabase}
 use Rattle.smo_ops_types.specs.Commands.{PlainVersion}
-use Rattle.smo_ops_spec.specs.Past.{Past, no_tables, tables_from, tables_of, version_at, database_at}
+use Rattle.smo_ops_spec.specs.Past.{Past, no_tables, tables_from, tables_of, version_at}
+use Rattle.smo_ops_spec.specs.Past.{database_at}
 use Rattle.smo_ops_versions_spec.specs.LostNames.{lost_names}
 use Rattle.version_groups.specs.Groups.{Kept, versions_in}
 use Rattle.version_groups.specs.Representation.{Represents, IsInForce}

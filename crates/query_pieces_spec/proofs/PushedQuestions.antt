@@ -34,8 +34,10 @@ use Rattle.piece_prune.proofs.PushedTypes.{pushed_typed}
 use Rattle.piece_ir_spec.specs.Reading.{AreQuestions, Suffices}
 use Rattle.temporal_lang_spec.specs.Atoms.{branch_with_atoms, branches_with_atoms, sources_of}
 use Rattle.temporal_lang_spec.specs.Atoms.{atom_kinds}
-use Rattle.temporal_lang_spec.specs.Checking.{items_after, item_tests, branch_references, branch_names}
-use Rattle.temporal_lang_spec.specs.Checking.{names_tests, reference_test, trees_types, outputs_nodes}
+use Rattle.temporal_lang_spec.specs.Checking.{items_after, item_tests, branch_references}
+use Rattle.temporal_lang_spec.specs.Checking.{branch_names}
+use Rattle.temporal_lang_spec.specs.Checking.{names_tests, reference_test, trees_types}
+use Rattle.temporal_lang_spec.specs.Checking.{outputs_nodes}
 use Rattle.temporal_lang_spec.specs.Checking.{branch_types, branch_nodes, types_from}
 use Rattle.temporal_lang_spec.specs.Resolved.{AllKnown}
 use Rattle.temporal_lang_spec.proofs.BranchLaws.{all_known}

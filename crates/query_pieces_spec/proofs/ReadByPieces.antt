@@ -36,7 +36,8 @@ use Rattle.temporal_lang_spec.specs.Losing.{branch_tables, query_tables, first_l
 use Rattle.temporal_lang_spec.specs.Checking.{excess_of, excess_fault, query_tests, names_tests}
 use Rattle.temporal_lang_spec.specs.Checking.{types_from, arities, output_kinds, typing_tests}
 use Rattle.temporal_lang_spec.specs.Checking.{period_tests, when_fault, keep_fault}
-use Rattle.temporal_lang_spec.specs.Accepted.{no_way_back, loss_fault, version_fault, fault_of_query}
+use Rattle.temporal_lang_spec.specs.Accepted.{no_way_back, loss_fault, version_fault}
+use Rattle.temporal_lang_spec.specs.Accepted.{fault_of_query}
 use Rattle.temporal_lang_spec.specs.Answers.{asked_at, listing, answer}
 use Rattle.temporal_lang_spec.proofs.StageLaws.{listing_is}
 use Rattle.query_pieces_spec.specs.Piecewise.{asked_branches, pieces_at, pushed_at, IsAskedOf}

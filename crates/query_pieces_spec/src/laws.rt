@@ -29,7 +29,8 @@ ghost use Rattle.temporal_lang_spec.specs.Losing.{first_lost};
 ghost use Rattle.temporal_lang_spec.specs.Accepted.{fault_of_query};
 ghost use Rattle.temporal_lang_spec.specs.Answers.{asked_at, answer};
 ghost use Rattle.query_pieces_spec.specs.Gathering.{IsOfPart, IsGathered, HasMoment};
-ghost use Rattle.query_pieces_spec.specs.Piecewise.{loss_from, asked_branches, pieces_at, pushed_at};
+ghost use Rattle.query_pieces_spec.specs.Piecewise.{loss_from, asked_branches, pieces_at};
+ghost use Rattle.query_pieces_spec.specs.Piecewise.{pushed_at};
 ghost use Rattle.query_pieces_spec.specs.Piecewise.{IsAskedOf, IsReadByPieces};
 
 /// The first loss of a query is decided version by version. From an earlier version no more is

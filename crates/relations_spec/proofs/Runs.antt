@@ -9,7 +9,8 @@ use Rattle.relations_spec.specs.Sets.{In, Ascends, set_of, has, IsExact}
 use Rattle.relations_spec.specs.Spans.{Span, span, forever, always}
 use Rattle.relations_spec.specs.Timed.{Entry}
 use Rattle.relations_spec.specs.Listing.{IsEntry, IsListing, entry_cmp}
-use Rattle.relations_spec.specs.Timeline.{Stage, relation_from, relation_at, StagesFollow, IsTimeline}
+use Rattle.relations_spec.specs.Timeline.{Stage, relation_from, relation_at, StagesFollow}
+use Rattle.relations_spec.specs.Timeline.{IsTimeline}
 use Rattle.relations_spec.specs.Timeline.{runs, all_items, with_item, listed, listing_of}
 use Rattle.relations_spec.proofs.SetLaws.{in_left, in_right, in_append, below_less, below_each}
 use Rattle.relations_spec.proofs.SetLaws.{ascends_append, has_in, has_not, in_set, set_ascends}

@@ -6,7 +6,8 @@ use Rattle.std.proofs.Common.{refl, sym, ap, subst, ◌∙◌, inl, inr}
 use Rattle.std.specs.List.{filter, flat_map}
 use Rattle.std.specs.declared.cmp.Ordering.{Ordering}
 use Rattle.std.specs.declared.cmp.Ordering.TheVariants.{Less, Equal, Greater}
-use Rattle.relations_spec.specs.Sets.{In, Same, BeforeAll, Ascends, placed, put_in, set_of, has, IsExact}
+use Rattle.relations_spec.specs.Sets.{In, Same, BeforeAll, Ascends, placed, put_in, set_of, has}
+use Rattle.relations_spec.specs.Sets.{IsExact}
 
 -- membership in a join of lists, a map and a filter
 pub in_left : {X : Type 0} (z : X) (xs ys : List X) → In z xs → In z (xs ++ ys)

@@ -6,7 +6,8 @@ ghost use Rattle.smo_ops_types.specs.Operators.{operator_of, operators_of};
 ghost use Rattle.smo_ops_spec.specs.Touching.{these_names};
 ghost use Rattle.smo_ops_spec.specs.Losses.{first_loss};
 ghost use Rattle.smo_ops_versions_spec.specs.Ways.{over_each, back_over};
-ghost use Rattle.smo_ops_versions_spec.specs.LostNames.{none_lost, all_lost, losses_over, of_losses};
+ghost use Rattle.smo_ops_versions_spec.specs.LostNames.{none_lost, all_lost, losses_over};
+ghost use Rattle.smo_ops_versions_spec.specs.LostNames.{of_losses};
 
 use prima_base::{Name, NoMemory};
 use smo_ops_operators::{Made, consumed, made, made_of};

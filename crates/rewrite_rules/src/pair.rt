@@ -7,7 +7,8 @@ ghost use Rattle.smo_ops_spec.specs.Effects.{columns_of};
 ghost use Rattle.cond_expr.specs.Parts.{parts_but_true};
 ghost use Rattle.piece_ir_spec.specs.Views.{out_of};
 ghost use Rattle.piece_ir.specs.Shown.{view_of};
-ghost use Rattle.piece_ir_spec.specs.OperatorViews.{common_names, second_names, from_second, in_both};
+ghost use Rattle.piece_ir_spec.specs.OperatorViews.{common_names, second_names, from_second};
+ghost use Rattle.piece_ir_spec.specs.OperatorViews.{in_both};
 ghost use Rattle.piece_ir_spec.specs.OperatorViews.{shown_in, paired};
 
 use cond_expr::{CmpOp, ColRef, Cond, Expr, Fill, Whose};

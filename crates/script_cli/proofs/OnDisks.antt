@@ -14,10 +14,12 @@ use Rattle.journal.specs.Mounting.{SameOrNine}
 use Rattle.journal.specs.Puts.{HoldsPrefix, StandsForPrefix}
 use Rattle.journal.specs.MountLaws.{none_yet, mount_then}
 use Rattle.smo_ops_spec.specs.Past.{beginning}
-use Rattle.archive_core_file_spec.specs.LogRecords.{LogRecord, record_of, records_of, AreSpelled, AreAccepted}
+use Rattle.archive_core_file_spec.specs.LogRecords.{LogRecord, record_of, records_of, AreSpelled}
+use Rattle.archive_core_file_spec.specs.LogRecords.{AreAccepted}
 use Rattle.archive_core_file_spec.specs.LogRecords.{AreSound, past_recorded}
 use Rattle.archive_core_file_spec.specs.Opening.{Opens, IsSound}
-use Rattle.archive_core_file_spec.proofs.Records.{accepted_append, sound_accepted, sound_prefix, sound_append}
+use Rattle.archive_core_file_spec.proofs.Records.{accepted_append, sound_accepted, sound_prefix}
+use Rattle.archive_core_file_spec.proofs.Records.{sound_append}
 use Rattle.piece_ir_spec.specs.Rules.{Book}
 use Rattle.archive_core.specs.declared.archive.Archive.{Archive}
 use Rattle.archive_core_replay.specs.declared.opened.Opened.{Opened}

@@ -11,7 +11,8 @@ use Rattle.script_parse.specs.Script.{StatementPart, Whole as Text, Skipped}
 use Rattle.script_cli_statement.specs.Given.{Given}
 use Rattle.script_cli_statement.specs.Due.{AreRecordsOf, AreFirstOf}
 use Rattle.script_cli_statement.specs.Replies.{Recorded, recorded}
-use Rattle.script_cli_statement.proofs.ReplySteps.{IsStep, reply_step, unchanged, none_of, none_first}
+use Rattle.script_cli_statement.proofs.ReplySteps.{IsStep, reply_step, unchanged, none_of}
+use Rattle.script_cli_statement.proofs.ReplySteps.{none_first}
 use Rattle.script_cli.specs.Output.{part_reply, all_puts, recorded_after}
 use Rattle.script_cli.proofs.DueRecords.{records_apart, are_first, first_apart}
 

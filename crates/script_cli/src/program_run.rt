@@ -20,7 +20,8 @@ ghost use Rattle.temporal_lang_spec.specs.Accepted.{fault_of_query, HasNoWayBack
 ghost use Rattle.temporal_lang_spec.specs.Answers.{asked_at, listing, answer};
 ghost use Rattle.rewrite.specs.Books.{meaning_of};
 ghost use Rattle.prima_base.specs.Keeping.{kept};
-ghost use Rattle.archive_core_file_spec.specs.LogRecords.{LogRecord, AreSpelled, AreAccepted, AreSound};
+ghost use Rattle.archive_core_file_spec.specs.LogRecords.{LogRecord, AreSpelled, AreAccepted};
+ghost use Rattle.archive_core_file_spec.specs.LogRecords.{AreSound};
 ghost use Rattle.archive_core_file_spec.specs.LogRecords.{past_recorded};
 ghost use Rattle.archive_core_file_spec.specs.Opening.{Opens, IsSound, Damages};
 ghost use Rattle.script_parse.specs.Script.{StatementPart, statements_of, tail_of};

@@ -11,19 +11,23 @@ use Rattle.clap.specs.declared.error.kind.ErrorKind.{ErrorKind}
 use Rattle.clap.specs.Walk.{is_empty, Row, Walk, idle, option}
 use Rattle.clap.specs.declared.error.kind.ErrorKind.TheVariants.{InvalidValue, UnknownArgument}
 use Rattle.script_cli_arguments.specs.Reading.{program, parsed, parts_in}
-use Rattle.script_cli_arguments.specs.Words.{Word, Parts, no_parts, asked_by, asked, Next, any, value}
+use Rattle.script_cli_arguments.specs.Words.{Word, Parts, no_parts, asked_by, asked, Next, any}
+use Rattle.script_cli_arguments.specs.Words.{value}
 use Rattle.script_cli_arguments.specs.Words.{no_option, words_read, Setting, journal_limit, size}
 use Rattle.script_cli_arguments.specs.Words.{setting_name, option_value, with_value}
 use Rattle.script_cli_arguments.proofs.WordKinds.{IsPlainWord, KindOf, dashes, long, short, plain}
 use Rattle.script_cli_arguments.proofs.WordKinds.{kind_of_word}
 use Rattle.script_cli_arguments.proofs.WordsRead.{Naming, names, unknown, naming, reads_unknown}
-use Rattle.script_cli_arguments.proofs.WordsRead.{reads_apart, reads_joined, reads_short, reads_other}
+use Rattle.script_cli_arguments.proofs.WordsRead.{reads_apart, reads_joined, reads_short}
+use Rattle.script_cli_arguments.proofs.WordsRead.{reads_other}
 use Rattle.script_cli_arguments.proofs.WordsRead.{reads_second, reads_value, reads_after}
 use Rattle.script_cli_arguments.proofs.WordsRead.{reads_second_after}
 use Rattle.script_cli_arguments.proofs.FoundRows.{Keeps, held_values, values_of}
-use Rattle.script_cli_arguments.proofs.ClapSteps.{walk_at, Pending, nothing, a_value, a_word, pending_text}
+use Rattle.script_cli_arguments.proofs.ClapSteps.{walk_at, Pending, nothing, a_value, a_word}
+use Rattle.script_cli_arguments.proofs.ClapSteps.{pending_text}
 use Rattle.script_cli_arguments.proofs.ClapSteps.{parts_with, Fits, rows_with, keeps_with, outcome}
-use Rattle.script_cli_arguments.proofs.ClapSteps.{outcome_at_once, goes_on, is_refused, ends, ends_waiting}
+use Rattle.script_cli_arguments.proofs.ClapSteps.{outcome_at_once, goes_on, is_refused, ends}
+use Rattle.script_cli_arguments.proofs.ClapSteps.{ends_waiting}
 use Rattle.script_cli_arguments.proofs.ClapWords as clap
 
 -- where the next other word goes

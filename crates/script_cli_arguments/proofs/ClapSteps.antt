@@ -10,7 +10,8 @@ use Rattle.clap.specs.Simple.{built, Shape, matches_of}
 use Rattle.clap.specs.declared.error.kind.ErrorKind.{ErrorKind}
 use Rattle.clap.proofs.FaultLemmas.{leaf_fault}
 use Rattle.script_cli_arguments.specs.Reading.{program, parts_in, parsed}
-use Rattle.script_cli_arguments.specs.Words.{Word, Parts, Setting, journal_limit, size, setting_name}
+use Rattle.script_cli_arguments.specs.Words.{Word, Parts, Setting, journal_limit, size}
+use Rattle.script_cli_arguments.specs.Words.{setting_name}
 use Rattle.script_cli_arguments.specs.Words.{with_value}
 use Rattle.script_cli_arguments.proofs.WordsRead.{with_other}
 use Rattle.script_cli_arguments.proofs.FoundRows.{Keeps, word_name, more_of, word_of}

@@ -7,17 +7,23 @@ use Rattle.std.proofs.lemmas.Bool.{both_ways}
 use Rattle.std.proofs.lemmas.Slice.Eq.{bytes_eq-Decides}
 use Rattle.script_cli_arguments.specs.declared.request.Mode.{Mode}
 use Rattle.script_cli_arguments.specs.declared.request.Request.{Request}
-use Rattle.script_cli_arguments.specs.Words.{Word, Parts, Setting, journal_limit, size, setting_name}
-use Rattle.script_cli_arguments.specs.Words.{with_value, any, value, no_option, no_parts, asked_by, asked}
+use Rattle.script_cli_arguments.specs.Words.{Word, Parts, Setting, journal_limit, size}
+use Rattle.script_cli_arguments.specs.Words.{setting_name}
+use Rattle.script_cli_arguments.specs.Words.{with_value, any, value, no_option, no_parts, asked_by}
+use Rattle.script_cli_arguments.specs.Words.{asked}
 use Rattle.script_cli_arguments.specs.Words.{limit_of, size_of, mode_of, words_read, is_dashed}
 use Rattle.script_cli_arguments.specs.Words.{option_name, option_value}
-use Rattle.script_cli_arguments.specs.Consisting.{AskFor, Item, joined, apart, plain, IsItem, words_of}
+use Rattle.script_cli_arguments.specs.Consisting.{AskFor, Item, joined, apart, plain, IsItem}
+use Rattle.script_cli_arguments.specs.Consisting.{words_of}
 use Rattle.script_cli_arguments.specs.Consisting.{values_in, plain_in, with_dashes, after_dashes}
-use Rattle.script_cli_arguments.proofs.WordKinds.{IsPlainWord, KindOf, dashes, long, short, kind_of_word}
+use Rattle.script_cli_arguments.proofs.WordKinds.{IsPlainWord, KindOf, dashes, long, short}
+use Rattle.script_cli_arguments.proofs.WordKinds.{kind_of_word}
 use Rattle.script_cli_arguments.proofs.WordKinds as kinds
 use Rattle.script_cli_arguments.proofs.OptionTexts.{name_alone, name_and_value}
-use Rattle.script_cli_arguments.proofs.WordsRead.{IsNamed, Naming, names, unknown, naming, reads_unknown}
-use Rattle.script_cli_arguments.proofs.WordsRead.{reads_apart, reads_joined, reads_short, reads_other}
+use Rattle.script_cli_arguments.proofs.WordsRead.{IsNamed, Naming, names, unknown, naming}
+use Rattle.script_cli_arguments.proofs.WordsRead.{reads_unknown}
+use Rattle.script_cli_arguments.proofs.WordsRead.{reads_apart, reads_joined, reads_short}
+use Rattle.script_cli_arguments.proofs.WordsRead.{reads_other}
 use Rattle.script_cli_arguments.proofs.WordsRead.{reads_second, reads_value, reads_no_value}
 use Rattle.script_cli_arguments.proofs.WordsRead.{reads_second_after}
 

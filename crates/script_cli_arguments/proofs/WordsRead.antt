@@ -3,7 +3,8 @@ use Rattle.std.proofs.Common.{◌≡◌, ℕ, ◌==◌, Bool, true, false, List,
 use Rattle.std.proofs.Common.{None}
 use Rattle.std.specs.Str.{bytes_eq}
 use Rattle.script_cli_arguments.specs.Words.{Word, Parts, Setting, journal_limit, size, any, value}
-use Rattle.script_cli_arguments.specs.Words.{no_option, words_read, is_dashed, option_name, option_value}
+use Rattle.script_cli_arguments.specs.Words.{no_option, words_read, is_dashed, option_name}
+use Rattle.script_cli_arguments.specs.Words.{option_value}
 use Rattle.script_cli_arguments.specs.Words.{with_value}
 use Rattle.script_cli_arguments.proofs.WordKinds.{IsPlainWord}
 

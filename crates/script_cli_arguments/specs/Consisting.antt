@@ -3,7 +3,8 @@ use Rattle.std.specs.Prelude.{◌≡◌, ℕ, Bool, true, false, List, [], ◌�
 use Rattle.std.specs.Prelude.{codes, if◌then◌else◌}
 use Rattle.std.specs.List.{AllByRecursion}
 use Rattle.script_cli_arguments.specs.declared.request.Request.{Request}
-use Rattle.script_cli_arguments.specs.Words.{Word, Setting, setting_name, journal_limit, size, is_dashed}
+use Rattle.script_cli_arguments.specs.Words.{Word, Setting, setting_name, journal_limit, size}
+use Rattle.script_cli_arguments.specs.Words.{is_dashed}
 use Rattle.script_cli_arguments.specs.Words.{limit_of, size_of, mode_of}
 
 -- `--NAME=TEXT`; `--NAME` and after it TEXT; a word that is no option

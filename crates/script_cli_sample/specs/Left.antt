@@ -8,10 +8,12 @@ use Rattle.script_cli_sample.specs.declared.place.Question.TheVariants as questi
 use Rattle.script_cli_sample.specs.declared.place.Place.{Place}
 use Rattle.script_cli_sample.specs.declared.place.Place.TheVariants.{Start, Row, Evolve, Update}
 use Rattle.script_cli_sample.specs.declared.place.Place.TheVariants.{Retitle, Ask, End}
-use Rattle.script_cli_sample.specs.Statements.{numbers, titles, page_inserted, state_added, pages_split}
+use Rattle.script_cli_sample.specs.Statements.{numbers, titles, page_inserted, state_added}
+use Rattle.script_cli_sample.specs.Statements.{pages_split}
 use Rattle.script_cli_sample.specs.Statements.{title_renamed, cold_split, is_hot, hot_updated}
 use Rattle.script_cli_sample.specs.Statements.{checkpoint_made, retitled, hot_then_asked, hot_asked}
-use Rattle.script_cli_sample.specs.Statements.{kind_asked, titles_asked, questions, retitlings, updates}
+use Rattle.script_cli_sample.specs.Statements.{kind_asked, titles_asked, questions, retitlings}
+use Rattle.script_cli_sample.specs.Statements.{updates}
 use Rattle.script_cli_sample.specs.Statements.{sample_statements}
 
 abbrev pub questions_from : ℕ → Question → List (List ℕ)

@@ -21,10 +21,12 @@ use Rattle.smo_parse.specs.Productions.{IsNop, IsCreateTable, IsDropTable, IsRen
 use Rattle.smo_parse.specs.Productions.{IsCopyTable, IsMergeTable, IsPartitionTable}
 use Rattle.smo_parse.specs.Productions.{IsDecomposeTable, IsJoinTable, IsAddColumn, IsDropColumn}
 use Rattle.smo_parse.specs.Productions.{IsRenameColumn, IsOperator}
-use Rattle.temporal_lang_grammar_spec.specs.QueryGrammar.{counted_grammar, IsOutput, IsBranch, IsAsk}
+use Rattle.temporal_lang_grammar_spec.specs.QueryGrammar.{counted_grammar, IsOutput, IsBranch}
+use Rattle.temporal_lang_grammar_spec.specs.QueryGrammar.{IsAsk}
 use Rattle.script_parse.specs.Productions.{IsOp, AreOps, IsInverse, IsEvolve, AreChanges, IsBody}
 use Rattle.query_exec.specs.Constants.{ValidInBranch, ValidInQuery}
-use Rattle.script_cli_statement.proofs.ReadConstants.{AllValid, expr_valid, cond_valid, after, prefix}
+use Rattle.script_cli_statement.proofs.ReadConstants.{AllValid, expr_valid, cond_valid, after}
+use Rattle.script_cli_statement.proofs.ReadConstants.{prefix}
 use Rattle.script_cli_statement.proofs.ReadConstants.{back}
 use Rattle.script_cli_statement.proofs.ReadParts.{Read, value_read, read, led, first, rest, source}
 use Rattle.script_cli_statement.proofs.ReadParts.{anew}

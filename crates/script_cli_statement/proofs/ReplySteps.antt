@@ -12,8 +12,10 @@ use Rattle.smo_ops_spec.proofs.Firsts.{none_of_first}
 use Rattle.temporal_lang_spec.specs.Accepted.{version_fault, fault_of_query}
 use Rattle.journal.specs.Records.{Record, before_gate, body}
 use Rattle.journal.proofs.Putting.{before_gate-push}
-use Rattle.archive_core_file_spec.specs.LogRecords.{LogRecord, logged, checkpointed, record_of, records_of}
-use Rattle.archive_core_file_spec.specs.LogRecords.{gate_after, after_record, after_records, past_recorded}
+use Rattle.archive_core_file_spec.specs.LogRecords.{LogRecord, logged, checkpointed, record_of}
+use Rattle.archive_core_file_spec.specs.LogRecords.{records_of}
+use Rattle.archive_core_file_spec.specs.LogRecords.{gate_after, after_record, after_records}
+use Rattle.archive_core_file_spec.specs.LogRecords.{past_recorded}
 use Rattle.archive_core_file_spec.specs.LogRecords.{AreSound}
 use Rattle.archive_core_file_spec.proofs.Records.{after_append}
 use Rattle.archive_core.specs.Committing.{room_fault, commit_fault}
@@ -26,7 +28,8 @@ use Rattle.script_cli_statement.specs.Due.{Due, command_due, image_due, due_leng
 use Rattle.script_cli_statement.specs.Due.{commands_due, IsRecordOf, AreRecordsOf, AreFirstOf}
 use Rattle.script_cli_statement.specs.Puts.{is_command, put_for}
 use Rattle.script_cli_statement.specs.Replies.{Recorded, recorded, recorded_with, Reply, answered}
-use Rattle.script_cli_statement.specs.Replies.{refused_or, put, reply, statement_reply, reading_reply}
+use Rattle.script_cli_statement.specs.Replies.{refused_or, put, reply, statement_reply}
+use Rattle.script_cli_statement.specs.Replies.{reading_reply}
 use Rattle.script_cli_statement.specs.Responses.{put_of}
 
 -- ---- one record more

@@ -37,7 +37,8 @@ use Rattle.script_cli_statement.specs.Replies.{reading_reply, reply}
 use Rattle.script_cli_statement.specs.declared.put.Put.{Put}
 use Rattle.script_cli_statement.specs.declared.put.Put.TheVariants.{NoError, Command, ErrorLine}
 use Rattle.script_cli_statement.specs.declared.halt.Halt.{Halt}
-use Rattle.script_cli_statement.specs.declared.halt.Halt.TheVariants.{WriteFault, DiskFault, NoMemory}
+use Rattle.script_cli_statement.specs.declared.halt.Halt.TheVariants.{WriteFault, DiskFault}
+use Rattle.script_cli_statement.specs.declared.halt.Halt.TheVariants.{NoMemory}
 use Rattle.script_cli_statement.specs.Halts.{or_write_fault, HaltCounted, SaidCounted}
 use Rattle.script_cli_statement.specs.Puts.{put_for}
 use Rattle.script_cli_statement.specs.Putting.{HasPut}

@@ -4,7 +4,8 @@ use Rattle.prima_io.specs.Causes.{Rose}
 use Rattle.prima_base.specs.declared.failure.Failed.{Failed}
 use Rattle.script_cli_statement.specs.declared.put.Put.{Put}
 use Rattle.script_cli_statement.specs.declared.halt.Halt.{Halt}
-use Rattle.script_cli_statement.specs.declared.halt.Halt.TheVariants.{WriteFault, DiskFault, NoMemory}
+use Rattle.script_cli_statement.specs.declared.halt.Halt.TheVariants.{WriteFault, DiskFault}
+use Rattle.script_cli_statement.specs.declared.halt.Halt.TheVariants.{NoMemory}
 
 -- a reply that was not put whole since the sink failed
 abbrev pub or_write_fault : Result Put Failed → Result Put Halt

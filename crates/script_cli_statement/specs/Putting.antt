@@ -4,7 +4,8 @@ use Rattle.disk_model.specs.Meaning.{Meaning}
 use Rattle.disk_model.specs.Moments.{GoesOn}
 use Rattle.journal.specs.JournalFiles.{Stands}
 use Rattle.journal.specs.Puts.{HavePut, Puts}
-use Rattle.archive_core_file_spec.specs.LogRecords.{LogRecord, record_of, records_of, IsSpelled, AreSpelled}
+use Rattle.archive_core_file_spec.specs.LogRecords.{LogRecord, record_of, records_of, IsSpelled}
+use Rattle.archive_core_file_spec.specs.LogRecords.{AreSpelled}
 use Rattle.archive_core.specs.Holding.{HoldsAt}
 use Rattle.script_cli_statement.specs.Due.{Due, IsRecordOf}
 

@@ -11,7 +11,8 @@ use Rattle.archive_core.specs.declared.archive.Archive.{Archive}
 use Rattle.archive_core.specs.Fields.{standing_of, below, place_of, limit_of, is_broken}
 use Rattle.script_cli_statement.specs.declared.put.Put.{Put}
 use Rattle.script_cli_statement.specs.declared.halt.Halt.{Halt}
-use Rattle.script_cli_statement.specs.declared.halt.Halt.TheVariants.{WriteFault, DiskFault, NoMemory}
+use Rattle.script_cli_statement.specs.declared.halt.Halt.TheVariants.{WriteFault, DiskFault}
+use Rattle.script_cli_statement.specs.declared.halt.Halt.TheVariants.{NoMemory}
 use Rattle.script_cli_statement.specs.Puts.{put_for}
 use Rattle.script_cli_statement.specs.Due.{Due, AreRecordsOf}
 use Rattle.script_cli_statement.specs.Given.{Given}

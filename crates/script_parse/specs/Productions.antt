@@ -11,7 +11,8 @@ use Rattle.lexer_spec.specs.Lexemes.{word, sign}
 use Rattle.lexer_combinators.specs.Grammar.{Grammar, AreMore, so_wide, nothing_counted}
 use Rattle.lexer_combinators.specs.Grammar as grammar
 use Rattle.lexer_trees_spec.specs.Grammar.{IsExpr, IsCond}
-use Rattle.lexer_trees_spec.specs.Constants.{name_grammar, names_grammar, moment_grammar, small_grammar}
+use Rattle.lexer_trees_spec.specs.Constants.{name_grammar, names_grammar, moment_grammar}
+use Rattle.lexer_trees_spec.specs.Constants.{small_grammar}
 use Rattle.lexer_trees_spec.specs.Constants.{constant_grammar}
 use Rattle.lexer_trees_spec.specs.Where.{IsFreshWhere}
 use Rattle.smo_parse.specs.Productions.{IsOperator}

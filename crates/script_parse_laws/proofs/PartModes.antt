@@ -9,7 +9,8 @@ use Rattle.script_parse.specs.declared.mode.Mode.{Mode}
 use Rattle.script_parse.specs.declared.mode.Mode.TheVariants.{Plain, Dash, Quoted, Comment}
 use Rattle.script_parse.specs.Script.{next, is_end, mode_after}
 use Rattle.script_parse.specs.Joining.{has_end, IsStatement, IsTail}
-use Rattle.script_parse_laws.specs.Parts.{IsInside, nothing, a_byte, a_quote, is_semicolon, IsPart, gap}
+use Rattle.script_parse_laws.specs.Parts.{IsInside, nothing, a_byte, a_quote, is_semicolon, IsPart}
+use Rattle.script_parse_laws.specs.Parts.{gap}
 use Rattle.script_parse_laws.specs.Parts.{text, other, AreParts, no_part, a_part, HasOpenText}
 use Rattle.script_parse_laws.proofs.Bytes.{true_false, by_test, not_byte}
 

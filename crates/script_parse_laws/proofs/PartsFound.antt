@@ -10,7 +10,8 @@ use Rattle.script_parse.specs.declared.mode.Mode.{Mode}
 use Rattle.script_parse.specs.declared.mode.Mode.TheVariants.{Plain, Dash, Quoted, Comment}
 use Rattle.script_parse.specs.Script.{next, is_end, mode_after}
 use Rattle.script_parse.specs.Joining.{has_end}
-use Rattle.script_parse_laws.specs.Parts.{IsInside, nothing, a_byte, a_quote, IsPart, gap, text, other}
+use Rattle.script_parse_laws.specs.Parts.{IsInside, nothing, a_byte, a_quote, IsPart, gap, text}
+use Rattle.script_parse_laws.specs.Parts.{other}
 use Rattle.script_parse_laws.specs.Parts.{AreParts, no_part, a_part, HasOpenText}
 use Rattle.script_parse_laws.proofs.Bytes.{true_false, by_test, no_gap_at, no_comment_at}
 use Rattle.script_parse_laws.proofs.PartModes.{is_dash, plain_byte}

@@ -5,7 +5,8 @@ ghost use Rattle.prima_base.specs.Bytes.{is_text_byte};
 ghost use Rattle.lexer_spec.specs.Spaced.{Each as EachByte, IsGap, IsOpen};
 ghost use Rattle.script_parse.specs.Script.{is_clean, statements_of, tail_of};
 ghost use Rattle.script_parse.specs.Joining.{Each};
-ghost use Rattle.script_parse_laws.specs.Parts.{HasOpenText, IsClosed, IsInside, IsOpenFault, IsScript};
+ghost use Rattle.script_parse_laws.specs.Parts.{HasOpenText, IsClosed, IsInside, IsOpenFault};
+ghost use Rattle.script_parse_laws.specs.Parts.{IsScript};
 ghost use Rattle.script_parse_laws.specs.Parts.{IsShownText};
 
 use lexer::tokens_are_spaced;

@@ -15,7 +15,8 @@ use Rattle.smo_ops_spec.specs.OneRow.{own_kinds}
 use Rattle.smo_ops_spec.specs.Checks.{Fault, AreSmall, pair_names, name_faults, missing_fault}
 use Rattle.smo_ops_spec.specs.Checks.{cell_faults, reference_fault, set_references, set_faults}
 use Rattle.smo_ops_spec.specs.Checks.{sets_nodes, test_fault, tests_after}
-use Rattle.smo_ops_spec.proofs.Firsts.{first_after, first_before, first_at, first_later, first_alone}
+use Rattle.smo_ops_spec.proofs.Firsts.{first_after, first_before, first_at, first_later}
+use Rattle.smo_ops_spec.proofs.Firsts.{first_alone}
 use Rattle.smo_ops_spec.proofs.Firsts.{none_mapped}
 use Rattle.smo_ops.proofs.CheckLaws.{known_both}
 use Rattle.smo_ops_spec.proofs.FewNames.{few_names}

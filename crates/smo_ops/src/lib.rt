@@ -1,10 +1,10 @@
 //! Schema modification operators, changes of rows, and the commands that are made of them: what
 //! each means, and the checks before a command is accepted.
 //!
-//! The types stand in `smo_ops_types`, with their plain mirrors that contracts see; what they mean in
-//! `smo_ops_spec`, and the ways from version to version in `smo_ops_versions_spec`; the schema after an
-//! operator in `smo_ops_operators`. The checks and the effects of changes stand here, and all is exported
-//! again.
+//! The types stand in `smo_ops_types`, with their plain mirrors that contracts see; what they mean
+//! in `smo_ops_spec`, and the ways from version to version in `smo_ops_versions_spec`; the schema
+//! after an operator in `smo_ops_operators`. The checks and the effects of changes stand here, and
+//! all is exported again.
 #![tactic(auto)]
 
 mod check;

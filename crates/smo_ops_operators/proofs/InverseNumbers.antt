@@ -9,7 +9,8 @@ use Rattle.prima_base.specs.declared.refusal.Refusal.TheVariants.{InverseMisses,
 use Rattle.schema_catalog.specs.Tables.{Tables}
 use Rattle.smo_ops_types.specs.declared.op.Op.{Op}
 use Rattle.smo_ops_types.specs.declared.op.InverseFault.{InverseFault}
-use Rattle.smo_ops_types.specs.declared.op.InverseFault.TheVariants.{Op as Refused, Misses, NoMemory}
+use Rattle.smo_ops_types.specs.declared.op.InverseFault.TheVariants.{Op as Refused, Misses}
+use Rattle.smo_ops_types.specs.declared.op.InverseFault.TheVariants.{NoMemory}
 use Rattle.smo_ops_types.specs.Operators.{Operator, operator_of, operators_of}
 use Rattle.smo_ops_spec.specs.First.{first_refusal}
 use Rattle.smo_ops_spec.specs.After.{op_fault, schema_after}

@@ -5,7 +5,8 @@ use Rattle.std.specs.Prelude.{cond, not, ◌⊎◌, if◌then◌else◌, Option,
 use Rattle.std.specs.List.{filter}
 use Rattle.std.specs.FinMap.{get}
 use Rattle.relations_spec.specs.Sets.{In}
-use Rattle.relations_spec.proofs.SetLaws.{in_left, in_right, in_append, from_filter, in_map, from_map}
+use Rattle.relations_spec.proofs.SetLaws.{in_left, in_right, in_append, from_filter, in_map}
+use Rattle.relations_spec.proofs.SetLaws.{from_map}
 use Rattle.prima_base.specs.declared.value.ColType.{ColType}
 use Rattle.prima_base.specs.declared.refusal.OpRefusal.TheVariants.{ColumnExists, ColumnsDiffer}
 use Rattle.prima_base.specs.declared.refusal.OpRefusal.TheVariants.{WrongType}
@@ -16,7 +17,8 @@ use Rattle.schema_catalog.specs.Databases.{cell, Rows}
 use Rattle.cond_expr.specs.Trees.{Tree, Test}
 use Rattle.cond_expr.specs.Kinds.{kind_of}
 use Rattle.cond_expr.specs.Faults.{untyped, first_of}
-use Rattle.smo_ops_types.specs.Operators.{create_table, merge_table, partition_table, decompose_table}
+use Rattle.smo_ops_types.specs.Operators.{create_table, merge_table, partition_table}
+use Rattle.smo_ops_types.specs.Operators.{decompose_table}
 use Rattle.smo_ops_types.specs.Operators.{join_table, add_column, drop_column, rename_column}
 use Rattle.smo_ops_spec.specs.OneRow.{same, own_kinds, meets}
 use Rattle.smo_ops_spec.specs.Effects.{columns_of}

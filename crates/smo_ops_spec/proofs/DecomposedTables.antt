@@ -8,7 +8,8 @@ use Rattle.std.specs.Option.{unwrap_or}
 use Rattle.std.specs.FinMap.{get}
 use Rattle.std.specs.declared.cmp.Ordering.TheVariants.{Less, Equal}
 use Rattle.relations_spec.specs.Sets.{In, Ascends, BeforeAll, set_of}
-use Rattle.relations_spec.proofs.SetLaws.{in_left, in_right, in_append, in_map, in_filter, from_filter}
+use Rattle.relations_spec.proofs.SetLaws.{in_left, in_right, in_append, in_map, in_filter}
+use Rattle.relations_spec.proofs.SetLaws.{from_filter}
 use Rattle.relations_spec.proofs.SetLaws.{in_set, one_list_of, told_apart}
 use Rattle.prima_base.specs.declared.refusal.OpRefusal.TheVariants.{BadCover}
 use Rattle.prima_base.specs.Order.{bytes_cmp, row_cmp}

@@ -10,7 +10,8 @@ use Rattle.smo_ops_spec.specs.First.{first_refusal}
 use Rattle.smo_ops_spec.specs.Effects.{after_each, gained, lost}
 use Rattle.smo_ops_spec.specs.After.{schema_after, carried}
 use Rattle.smo_ops_spec.specs.Past.{Past, no_tables, no_database, tables_from, tables_of}
-use Rattle.smo_ops_spec.specs.Past.{newest_from, newest_tables, version_at, database_at, latest_from}
+use Rattle.smo_ops_spec.specs.Past.{newest_from, newest_tables, version_at, database_at}
+use Rattle.smo_ops_spec.specs.Past.{latest_from}
 use Rattle.smo_ops_spec.specs.Past.{newest_database, from_stamp, next_version, past_with}
 use Rattle.smo_ops_spec.specs.ValidPast.{last_or_nought, IsPast}
 use Rattle.smo_ops_spec.specs.Accepts.{body_tests}

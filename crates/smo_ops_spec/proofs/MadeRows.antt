@@ -7,7 +7,8 @@ use Rattle.std.specs.Option.{unwrap_or}
 use Rattle.std.specs.declared.cmp.Ordering.{Ordering}
 use Rattle.std.specs.declared.cmp.Ordering.TheVariants.{Less, Equal, Greater}
 use Rattle.relations_spec.specs.Sets.{In, put_in, placed, set_of}
-use Rattle.relations_spec.proofs.SetLaws.{from_filter, from_map, from_flat_map, in_append, set_ascends}
+use Rattle.relations_spec.proofs.SetLaws.{from_filter, from_map, from_flat_map, in_append}
+use Rattle.relations_spec.proofs.SetLaws.{set_ascends}
 use Rattle.relations_spec.proofs.SetLaws.{from_set}
 use Rattle.prima_base.specs.declared.value.Value.{Value}
 use Rattle.prima_base.specs.declared.value.ColType.{ColType}

@@ -4,7 +4,8 @@ use Rattle.std.specs.Prelude.{None}
 use Rattle.prima_base.specs.Columns.{Column, names_of}
 use Rattle.schema_catalog.specs.Tables.{Tables}
 use Rattle.cond_expr.specs.Trees.{Tree, Test}
-use Rattle.smo_ops_types.specs.Operators.{Operator, create_table, rename_table, copy_table, merge_table}
+use Rattle.smo_ops_types.specs.Operators.{Operator, create_table, rename_table, copy_table}
+use Rattle.smo_ops_types.specs.Operators.{merge_table}
 use Rattle.smo_ops_types.specs.Operators.{partition_table, decompose_table, join_table, add_column}
 use Rattle.smo_ops_types.specs.Operators.{drop_column, rename_column}
 use Rattle.smo_ops_spec.specs.Effects.{columns_of}

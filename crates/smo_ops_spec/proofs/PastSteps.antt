@@ -22,7 +22,8 @@ use Rattle.smo_ops_spec.specs.Past.{State, Past, no_tables, no_database, beginni
 use Rattle.smo_ops_spec.specs.Past.{version_at, newest_from, newest_tables, database_from}
 use Rattle.smo_ops_spec.specs.Past.{database_at, latest_from, newest_database, from_stamp}
 use Rattle.smo_ops_spec.specs.Past.{next_version, past_with, next_database}
-use Rattle.smo_ops_spec.specs.ValidPast.{AreStates, AllUpTo, AreDistinct, EachStarts, last_or_nought}
+use Rattle.smo_ops_spec.specs.ValidPast.{AreStates, AllUpTo, AreDistinct, EachStarts}
+use Rattle.smo_ops_spec.specs.ValidPast.{last_or_nought}
 use Rattle.smo_ops_spec.specs.ValidPast.{IsPast}
 use Rattle.smo_ops_spec.specs.Counts.{first_excess}
 use Rattle.smo_ops_spec.specs.Inverses.{inverse_tests, inverse_fault}

@@ -24,7 +24,8 @@ use Rattle.smo_ops_spec.proofs.Firsts.{met}
 use Rattle.smo_ops_spec.proofs.NameLaws.{same_itself, among_in, in_among}
 use Rattle.smo_ops_spec.proofs.StepLaws.{AllMet}
 use Rattle.smo_ops_spec.proofs.NextSchemas.{all_preconditions, is_table}
-use Rattle.smo_ops_spec.proofs.MetPreconditions.{rename_met, merge_met, partition_met, decompose_met}
+use Rattle.smo_ops_spec.proofs.MetPreconditions.{rename_met, merge_met, partition_met}
+use Rattle.smo_ops_spec.proofs.MetPreconditions.{decompose_met}
 use Rattle.smo_ops_spec.proofs.MetPreconditions.{join_met}
 
 pub neither : (a b : Bool) → (a || b) ≡ false → (a ≡ false) × (b ≡ false)

@@ -8,7 +8,8 @@ use Rattle.schema_catalog.specs.Tables.{Tables}
 use Rattle.smo_ops_types.specs.Operators.{Operator}
 use Rattle.smo_ops_spec.specs.First.{first_refusal}
 use Rattle.smo_ops_spec.specs.After.{op_fault, schema_after}
-use Rattle.smo_ops_spec.specs.Inverses.{first_difference, way_back, inverse_fault, schema_after_each}
+use Rattle.smo_ops_spec.specs.Inverses.{first_difference, way_back, inverse_fault}
+use Rattle.smo_ops_spec.specs.Inverses.{schema_after_each}
 use Rattle.smo_ops_spec.specs.Inverses.{AllOperatorsAccepted}
 use Rattle.smo_ops_spec.proofs.Firsts.{none_of_first, none_mapped}
 use Rattle.smo_ops_spec.proofs.InverseLaws.{differs_nowhere}

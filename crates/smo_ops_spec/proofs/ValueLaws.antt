@@ -45,7 +45,8 @@ use Rattle.smo_ops_spec.proofs.PastMoments.{before_or_not}
 use Rattle.smo_ops_spec.proofs.PastSteps.{stamp_accepted, counts_accepted, stays_valid, later_stamp}
 use Rattle.smo_ops_spec.proofs.PastSteps.{body_accepted, before_command, from_command}
 use Rattle.smo_ops_spec.specs.ValidValues.{BodyHolds, CommandsHold, EachHolds, VersionsHold}
-use Rattle.smo_ops_spec.specs.ValidValues.{PastHolds, AreValues, HoldValues, EntryHolds, HoldsValues}
+use Rattle.smo_ops_spec.specs.ValidValues.{PastHolds, AreValues, HoldValues, EntryHolds}
+use Rattle.smo_ops_spec.specs.ValidValues.{HoldsValues}
 use Rattle.smo_ops_spec.specs.ValidValues.{OperatorHolds, OperatorsHold, CellsHold, SetsHold}
 use Rattle.smo_ops_spec.specs.ValidValues.{ChangeHolds, ChangesHold}
 

@@ -9,7 +9,8 @@ use Rattle.std.specs.FinMap.{get, insert, remove, contains_key, get-remove, same
 use Rattle.std.specs.FinMap.{slice_cmp-IsAntisymmetric, nat_cmp-IsAntisymmetric}
 use Rattle.std.specs.Cmp.Lexicographic.{nat_list_cmp_total}
 use Rattle.relations_spec.specs.Sets.{In}
-use Rattle.relations_spec.proofs.SetLaws.{in_left, in_right, in_append, in_filter, from_filter, in_set}
+use Rattle.relations_spec.proofs.SetLaws.{in_left, in_right, in_append, in_filter, from_filter}
+use Rattle.relations_spec.proofs.SetLaws.{in_set}
 use Rattle.relations_spec.proofs.SetLaws.{from_set, set_ascends, set_same, one_list}
 use Rattle.prima_base.specs.declared.refusal.OpRefusal.TheVariants.{Exists, SameTable}
 use Rattle.prima_base.specs.declared.refusal.OpRefusal.TheVariants.{ColumnsDiffer}

@@ -11,7 +11,8 @@ use Rattle.smo_ops_types.specs.Operators.{copy_table, merge_table, partition_tab
 use Rattle.smo_ops_types.specs.Operators.{join_table, add_column, drop_column, rename_column}
 use Rattle.smo_ops_spec.specs.OneRow.{meets}
 use Rattle.smo_ops_spec.specs.Effects.{columns_of}
-use Rattle.smo_ops_spec.specs.Preconditions.{Precondition, is_there, is_free, differ, is_some_column}
+use Rattle.smo_ops_spec.specs.Preconditions.{Precondition, is_there, is_free, differ}
+use Rattle.smo_ops_spec.specs.Preconditions.{is_some_column}
 use Rattle.smo_ops_spec.specs.Preconditions.{each_once, each_known, is_new, few_columns, few_tables}
 use Rattle.smo_ops_spec.specs.Preconditions.{alike, joinable, cover, another_column, known_in}
 use Rattle.smo_ops_spec.specs.Preconditions.{typed_in, test_known_in, test_typed_in}

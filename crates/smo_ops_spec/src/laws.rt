@@ -27,7 +27,8 @@ ghost use Rattle.smo_ops_spec.specs.Past.{Past, beginning, newest_tables, tables
 ghost use Rattle.smo_ops_spec.specs.Past.{version_at, database_at, next_database};
 ghost use Rattle.smo_ops_spec.specs.InForce.{in_force};
 ghost use Rattle.smo_ops_spec.specs.ValidPast.{IsPast};
-ghost use Rattle.smo_ops_spec.specs.ValidValues.{HoldsValues, OperatorHolds, ChangesHold, BodyHolds};
+ghost use Rattle.smo_ops_spec.specs.ValidValues.{HoldsValues, OperatorHolds, ChangesHold};
+ghost use Rattle.smo_ops_spec.specs.ValidValues.{BodyHolds};
 ghost use Rattle.smo_ops_spec.specs.ValidValues.{CommandsHold, PastHolds};
 ghost use Rattle.smo_ops_spec.specs.Accepts.{command_fault};
 ghost use Rattle.smo_ops_spec.specs.History.{past_of, state_at, IsHistory, HasState};

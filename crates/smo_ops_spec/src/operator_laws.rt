@@ -8,7 +8,8 @@ ghost use Rattle.schema_catalog.specs.Databases.{cell, Database, IsDatabase, Row
 ghost use Rattle.cond_expr.specs.Trees.{Tree, Test, always};
 ghost use Rattle.cond_expr.specs.Values.{value};
 ghost use Rattle.cond_expr.specs.Kinds.{kind_of};
-ghost use Rattle.smo_ops_types.specs.Operators.{Operator, nop, create_table, rename_table, copy_table};
+ghost use Rattle.smo_ops_types.specs.Operators.{Operator, nop, create_table, rename_table};
+ghost use Rattle.smo_ops_types.specs.Operators.{copy_table};
 ghost use Rattle.smo_ops_types.specs.Operators.{merge_table, partition_table, decompose_table};
 ghost use Rattle.smo_ops_types.specs.Operators.{join_table, add_column, drop_column, rename_column};
 ghost use Rattle.smo_ops_spec.specs.OneRow.{Row, Relation, same, own_cells, own_kinds, meets};

@@ -1,9 +1,11 @@
 //! Copies of operators, changes and bodies of commands, and of what they are made of.
 
 ghost use Rattle.std.specs.Prelude.{◌≡◌, IfOk};
-ghost use Rattle.smo_ops_types.specs.Operators.{operator_of, operators_of, create_table, rename_table};
+ghost use Rattle.smo_ops_types.specs.Operators.{operator_of, operators_of, create_table};
+ghost use Rattle.smo_ops_types.specs.Operators.{rename_table};
 ghost use Rattle.smo_ops_types.specs.Operators.{copy_table, merge_table, partition_table};
-ghost use Rattle.smo_ops_types.specs.Operators.{decompose_table, join_table, add_column, drop_column};
+ghost use Rattle.smo_ops_types.specs.Operators.{decompose_table, join_table, add_column};
+ghost use Rattle.smo_ops_types.specs.Operators.{drop_column};
 ghost use Rattle.smo_ops_types.specs.Operators.{rename_column};
 ghost use Rattle.smo_ops_types.specs.Changes.{change_of, changes_of, set_of_expr, sets_of};
 ghost use Rattle.smo_ops_types.specs.Commands.{body_of};

@@ -15,9 +15,12 @@ use Rattle.smo_ops_types.specs.Commands.{PlainVersion}
 use Rattle.smo_ops_spec.specs.After.{op_fault, schema_after}
 use Rattle.smo_ops_spec.specs.Touching.{makes, consumes}
 use Rattle.smo_ops_spec.proofs.TouchedTables.{table_stays, table_gone, made_is_free}
-use Rattle.smo_ops_versions_spec.specs.Lifelines.{Lifeline, last_after, line_after, line_begun, made_tables}
-use Rattle.smo_ops_versions_spec.specs.Lifelines.{lifelines_after, IsUpTo, Covers, AreApart, HaveTables}
-use Rattle.smo_ops_versions_spec.proofs.NamedEntries.{found_under, entry_under, other_name, after_first}
+use Rattle.smo_ops_versions_spec.specs.Lifelines.{Lifeline, last_after, line_after, line_begun}
+use Rattle.smo_ops_versions_spec.specs.Lifelines.{made_tables}
+use Rattle.smo_ops_versions_spec.specs.Lifelines.{lifelines_after, IsUpTo, Covers, AreApart}
+use Rattle.smo_ops_versions_spec.specs.Lifelines.{HaveTables}
+use Rattle.smo_ops_versions_spec.proofs.NamedEntries.{found_under, entry_under, other_name}
+use Rattle.smo_ops_versions_spec.proofs.NamedEntries.{after_first}
 
 -- each has begun by version k, and those that have ended did so before it
 pub record HaveBegun (k : ℕ) (lines : List Lifeline) : Type 0 where

@@ -17,9 +17,11 @@ use Rattle.smo_ops_spec.specs.Touching.{made_of}
 use Rattle.smo_ops_spec.specs.Losses.{Loss, first_loss}
 use Rattle.smo_ops_spec.specs.After.{schema_after}
 use Rattle.smo_ops_spec.specs.Past.{no_tables, tables_from}
-use Rattle.smo_ops_versions_spec.specs.Ways.{over_each, back_over, over_version, back_over_version, to_next}
+use Rattle.smo_ops_versions_spec.specs.Ways.{over_each, back_over, over_version, back_over_version}
+use Rattle.smo_ops_versions_spec.specs.Ways.{to_next}
 use Rattle.smo_ops_versions_spec.specs.Ways.{from_next, forward, backward}
-use Rattle.smo_ops_versions_spec.specs.LostNames.{Losses, none_lost, all_lost, with_loss, losses_over}
+use Rattle.smo_ops_versions_spec.specs.LostNames.{Losses, none_lost, all_lost, with_loss}
+use Rattle.smo_ops_versions_spec.specs.LostNames.{losses_over}
 use Rattle.smo_ops_versions_spec.specs.LostNames.{losses_undone, of_losses, lost_names, IsUnnamed}
 
 either : (loss : List ℕ → Option Loss) (n : List ℕ) (names : List (List ℕ)) (l : Loss)

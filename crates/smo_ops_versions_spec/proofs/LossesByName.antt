@@ -18,7 +18,8 @@ use Rattle.smo_ops_spec.specs.Losses.{Loss, loss_of, loss_in, first_loss}
 use Rattle.smo_ops_spec.specs.After.{schema_after, carried, lose_all, make_all}
 use Rattle.smo_ops_spec.specs.Past.{no_tables, tables_from}
 use Rattle.smo_ops_spec.proofs.LossLaws.{AllLose, each_hands_on}
-use Rattle.smo_ops_versions_spec.specs.Ways.{Along, over_each, back_over, over_version, back_over_version}
+use Rattle.smo_ops_versions_spec.specs.Ways.{Along, over_each, back_over, over_version}
+use Rattle.smo_ops_versions_spec.specs.Ways.{back_over_version}
 use Rattle.smo_ops_versions_spec.specs.Ways.{to_next, from_next, forward, backward, taken}
 use Rattle.smo_ops_versions_spec.specs.Migration.{lost_by, undone, of_databases}
 use Rattle.smo_ops_versions_spec.specs.LostNames.{Losses, AreLosses, none_lost, all_lost, with_loss}

@@ -15,7 +15,8 @@ use Rattle.smo_ops_spec.specs.Touching.{makes, consumes}
 use Rattle.smo_ops_spec.specs.After.{lose_all}
 use Rattle.smo_ops_spec.specs.Past.{no_tables, tables_from}
 use Rattle.smo_ops_spec.proofs.TouchedTables.{lost_others}
-use Rattle.smo_ops_versions_spec.specs.Ways.{Along, over_each, back_over, over_version, back_over_version}
+use Rattle.smo_ops_versions_spec.specs.Ways.{Along, over_each, back_over, over_version}
+use Rattle.smo_ops_versions_spec.specs.Ways.{back_over_version}
 use Rattle.smo_ops_versions_spec.specs.Ways.{to_next, from_next}
 use Rattle.smo_ops_versions_spec.specs.Migration.{lost_by, undone}
 

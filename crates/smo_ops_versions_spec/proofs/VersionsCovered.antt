@@ -8,9 +8,11 @@ use Rattle.schema_catalog.specs.Tables.{Tables}
 use Rattle.smo_ops_types.specs.Commands.{PlainVersion}
 use Rattle.smo_ops_spec.specs.ValidPast.{AreVersions}
 use Rattle.smo_ops_spec.specs.Past.{no_tables, tables_from}
-use Rattle.smo_ops_versions_spec.specs.Lifelines.{Lifeline, lifelines_after, lifelines_from, lifelines_of}
+use Rattle.smo_ops_versions_spec.specs.Lifelines.{Lifeline, lifelines_after, lifelines_from}
+use Rattle.smo_ops_versions_spec.specs.Lifelines.{lifelines_of}
 use Rattle.smo_ops_versions_spec.specs.Lifelines.{HaveTables}
-use Rattle.smo_ops_versions_spec.proofs.LifelinesAfter.{HaveBegun, tables_still, tables_next, begun_next}
+use Rattle.smo_ops_versions_spec.proofs.LifelinesAfter.{HaveBegun, tables_still, tables_next}
+use Rattle.smo_ops_versions_spec.proofs.LifelinesAfter.{begun_next}
 
 -- later operators change nothing in it
 still_covered : (tables : Tables) (j : ℕ) (before : Tables) (k : ℕ) (lines : List Lifeline)

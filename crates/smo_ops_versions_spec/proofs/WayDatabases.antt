@@ -18,8 +18,10 @@ use Rattle.smo_ops_spec.specs.Inverses.{inverse_fault, schema_after_each, AllOpe
 use Rattle.smo_ops_spec.specs.Losses.{IsEntryOrLost, IsDatabaseWithLosses}
 use Rattle.smo_ops_spec.specs.Past.{no_tables, tables_from}
 use Rattle.smo_ops_spec.specs.ValidPast.{AreVersions}
-use Rattle.smo_ops_versions_spec.specs.Ways.{over_version, back_over, back_over_version, forward, backward}
-use Rattle.smo_ops_versions_spec.specs.Migration.{lost_by, undone, of_databases, carried_over, carried_along}
+use Rattle.smo_ops_versions_spec.specs.Ways.{over_version, back_over, back_over_version, forward}
+use Rattle.smo_ops_versions_spec.specs.Ways.{backward}
+use Rattle.smo_ops_versions_spec.specs.Migration.{lost_by, undone, of_databases, carried_over}
+use Rattle.smo_ops_versions_spec.specs.Migration.{carried_along}
 use Rattle.smo_ops_versions_spec.specs.Migration.{back, migrated_from}
 use Rattle.smo_ops_spec.proofs.NextSchemas.{next_is_valid}
 use Rattle.smo_ops_spec.proofs.CarriedDatabases.{carried_with_losses}

@@ -12,8 +12,10 @@ use Rattle.smo_ops_spec.specs.Preconditions.{among}
 use Rattle.smo_ops_spec.specs.OperatorTable.{line, made_names}
 use Rattle.smo_ops_spec.specs.After.{schema_after, lose_all, carried}
 use Rattle.smo_ops_spec.specs.Past.{no_tables, tables_from}
-use Rattle.smo_ops_versions_spec.specs.Ways.{over_version, back_over, back_over_version, forward, backward}
-use Rattle.smo_ops_versions_spec.specs.Migration.{lost_by, of_databases, carried_over, carried_along, back}
+use Rattle.smo_ops_versions_spec.specs.Ways.{over_version, back_over, back_over_version, forward}
+use Rattle.smo_ops_versions_spec.specs.Ways.{backward}
+use Rattle.smo_ops_versions_spec.specs.Migration.{lost_by, of_databases, carried_over}
+use Rattle.smo_ops_versions_spec.specs.Migration.{carried_along, back}
 use Rattle.smo_ops_versions_spec.specs.Migration.{migrated_from}
 use Rattle.smo_ops_spec.proofs.ValueLaws.{less_valid, carried_values}
 use Rattle.smo_ops_versions_spec.proofs.WayDatabases.{lost_by_at}

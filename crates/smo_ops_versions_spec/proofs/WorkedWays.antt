@@ -24,7 +24,8 @@ use Rattle.smo_ops_spec.specs.Counts.{first_excess}
 use Rattle.smo_ops_spec.specs.Past.{no_tables}
 use Rattle.smo_ops_versions_spec.specs.Migration.{migrated_from}
 use Rattle.smo_ops_versions_spec.specs.LostNames.{lost_names}
-use Rattle.smo_ops_versions_spec.proofs.WorkedWords.{a, r, s, t, u, int, text, at_atom, a_columns, t_there}
+use Rattle.smo_ops_versions_spec.proofs.WorkedWords.{a, r, s, t, u, int, text, at_atom, a_columns}
+use Rattle.smo_ops_versions_spec.proofs.WorkedWords.{t_there}
 use Rattle.smo_ops_versions_spec.proofs.WorkedWords.{s_there, u_there, r_there, r_under_s}
 
 abbrev row : ℕ → Row

@@ -3,7 +3,8 @@
 use Rattle.std.proofs.Common.{◌≤◌, false, List, ◌++◌, codes, map, inl, inr, refl, sym, ap, subst}
 use Rattle.std.proofs.Common.{arith}
 use Rattle.prima_base.specs.declared.refusal.What.{What}
-use Rattle.smo_ops_types.specs.Operators.{Operator, nop, merge_table, partition_table, decompose_table}
+use Rattle.smo_ops_types.specs.Operators.{Operator, nop, merge_table, partition_table}
+use Rattle.smo_ops_types.specs.Operators.{decompose_table}
 use Rattle.smo_ops_types.specs.Operators.{join_table, rename_column}
 use Rattle.lexer_spec.specs.Lexemes.{Lexeme}
 use Rattle.lexer_combinators.specs.Grammar.{Grammar}

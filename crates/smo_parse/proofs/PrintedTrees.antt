@@ -16,7 +16,8 @@ use Rattle.lexer_spec.specs.Lexemes.{Lexeme, word, number, text, sign, is_name}
 use Rattle.lexer_combinators.specs.Grammar.{Size, nothing_counted, both, one_node, one_open}
 use Rattle.lexer_combinators.specs.Grammar.{so_wide}
 use Rattle.lexer_trees_spec.specs.Grammar as g
-use Rattle.lexer_trees_spec.specs.Grammar.{spelled, leaf, IsExpr, AreParts, IsFact, AreFacts, IsConj}
+use Rattle.lexer_trees_spec.specs.Grammar.{spelled, leaf, IsExpr, AreParts, IsFact, AreFacts}
+use Rattle.lexer_trees_spec.specs.Grammar.{IsConj}
 use Rattle.lexer_trees_spec.specs.Grammar.{AreConjs, IsCond}
 use Rattle.smo_parse.specs.TreeTexts.{sign_text, tree_text, more_trees_text, test_text}
 use Rattle.smo_parse.specs.TreeTexts.{more_tests_text}

@@ -2,7 +2,8 @@
 
 ghost use Rattle.std.specs.Prelude.{◌≡◌, ◌++◌, map, OnOk, IfOk};
 ghost use Rattle.cond_expr.specs.Seen.{tree, test};
-ghost use Rattle.smo_ops_types.specs.Operators.{operator_of, create_table, rename_table, copy_table};
+ghost use Rattle.smo_ops_types.specs.Operators.{operator_of, create_table, rename_table};
+ghost use Rattle.smo_ops_types.specs.Operators.{copy_table};
 ghost use Rattle.smo_ops_types.specs.Operators.{merge_table, partition_table, decompose_table};
 ghost use Rattle.smo_ops_types.specs.Operators.{join_table, add_column, drop_column, rename_column};
 ghost use Rattle.smo_parse.specs.Texts.{type_text, column_text, listed, more_listed, part_text};

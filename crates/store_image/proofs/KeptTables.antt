@@ -13,7 +13,8 @@ use Rattle.history_store_spec.specs.Store.{Cell, Store, IsBefore, AllBefore, rel
 use Rattle.smo_ops_spec.specs.ValidPast.{IsLater}
 use Rattle.smo_ops_spec.specs.OneRow.{same}
 use Rattle.smo_ops_spec.specs.Sizes.{Written, Size}
-use Rattle.smo_ops_versions_spec.specs.Lifelines.{Lifeline, covers, is_up_to, Covers, IsUpTo as GoesTo}
+use Rattle.smo_ops_versions_spec.specs.Lifelines.{Lifeline, covers, is_up_to, Covers}
+use Rattle.smo_ops_versions_spec.specs.Lifelines.{IsUpTo as GoesTo}
 use Rattle.store_image_spec.specs.Images.{StoredLine, IsUpTo, EndsUpTo, store_of}
 use Rattle.store_image_spec.specs.ShownPast.{cells_written, line_size}
 use Rattle.version_groups_tables.specs.declared.made_table.MadeTable.{MadeTable}

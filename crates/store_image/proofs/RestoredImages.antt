@@ -18,7 +18,8 @@ use Rattle.smo_ops_spec.specs.ValidPast.{IsLater, IsPast}
 use Rattle.smo_ops_spec.specs.Past.{Past, version_at, database_at}
 use Rattle.smo_ops_spec.specs.Sizes.{Size, none_written}
 use Rattle.smo_ops_versions_spec.specs.Lifelines.{Lifeline, Covers, lifelines_of, lifeline_columns}
-use Rattle.store_image_spec.specs.Images.{StoredLine, Image, IsImage, IsStoredLine, IsUpTo, EndsUpTo}
+use Rattle.store_image_spec.specs.Images.{StoredLine, Image, IsImage, IsStoredLine, IsUpTo}
+use Rattle.store_image_spec.specs.Images.{EndsUpTo}
 use Rattle.store_image_spec.specs.Images.{lines_in, store_of}
 use Rattle.store_image_spec.specs.ShownPast.{cells_written, line_size, image_past}
 use Rattle.store_image_spec.proofs.ShownPasts.{is_past, past_holds, table_shown}

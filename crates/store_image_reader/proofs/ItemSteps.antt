@@ -1,7 +1,8 @@
 -- The steps of reading items.
 use Rattle.std.proofs.Common.{◌≡◌, ℕ, Bool, true, false, cond, List, [], ◌∷◌, ◌++◌, refl, ap, ◌∙◌}
 use Rattle.std.proofs.Common.{append-nil}
-use Rattle.command_codec_spec.specs.Reading.{Out, Parsed, Unexpected, Parser, and_then, pure, map_to}
+use Rattle.command_codec_spec.specs.Reading.{Out, Parsed, Unexpected, Parser, and_then, pure}
+use Rattle.command_codec_spec.specs.Reading.{map_to}
 use Rattle.command_codec_spec.specs.Reading.{prepend}
 use Rattle.command_codec.specs.declared.reader.ReadStop.{ReadStop}
 use Rattle.command_codec.specs.declared.reader.ReadStop.TheVariants as stop

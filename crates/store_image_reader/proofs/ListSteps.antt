@@ -12,7 +12,8 @@ use Rattle.history_store_spec.specs.Store.{Cell}
 use Rattle.smo_ops_types.specs.Commands.{PlainVersion, version_of}
 use Rattle.smo_ops_types.specs.declared.version.Version.{Version}
 use Rattle.smo_ops_spec.specs.Past.{no_tables, newest_from}
-use Rattle.command_codec_spec.specs.Reading.{Out, Parsed, Unexpected, Parser, and_then, map_to, items}
+use Rattle.command_codec_spec.specs.Reading.{Out, Parsed, Unexpected, Parser, and_then, map_to}
+use Rattle.command_codec_spec.specs.Reading.{items}
 use Rattle.command_codec_spec.specs.Reading.{prepend}
 use Rattle.command_codec.specs.declared.reader.ReadStop.{ReadStop}
 use Rattle.command_codec.specs.Reads.{Fails}

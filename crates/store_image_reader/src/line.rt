@@ -7,7 +7,8 @@ ghost use Rattle.store_image_spec.specs.Items.{item, judged};
 ghost use Rattle.store_image_spec.specs.Judged.{is_line};
 ghost use Rattle.store_image_spec.specs.Spelling.{last_number};
 ghost use Rattle.store_image_spec.specs.Reader as spec;
-ghost use Rattle.store_image_reader.specs.Seen.{line_seen, parts_seen, stored_seen, lines_seen, head_of};
+ghost use Rattle.store_image_reader.specs.Seen.{line_seen, parts_seen, stored_seen, lines_seen};
+ghost use Rattle.store_image_reader.specs.Seen.{head_of};
 ghost use Rattle.store_image_reader.specs.Ordered.{IsOrdered};
 
 use crate::count::count_32;

@@ -8,7 +8,8 @@ ghost use Rattle.command_codec_spec.specs.Reading.{pair};
 ghost use Rattle.command_codec_spec.specs.Reader as parts;
 ghost use Rattle.command_codec.specs.Reads.{Reads};
 ghost use Rattle.store_image_spec.specs.Reader as spec;
-ghost use Rattle.store_image_reader.specs.NextVersion.{newest_stamp, is_in_turn, IsOperatorAccepted};
+ghost use Rattle.store_image_reader.specs.NextVersion.{newest_stamp, is_in_turn};
+ghost use Rattle.store_image_reader.specs.NextVersion.{IsOperatorAccepted};
 ghost use Rattle.store_image_reader.specs.NextVersion.{IsAcceptedAfter};
 
 use crate::count::count_32;

@@ -22,7 +22,8 @@ use Rattle.store_image_spec.proofs.Filling.{covers_so, covers_both}
 use Rattle.store_image_spec.proofs.ReadParts.{Run}
 use Rattle.store_image_rows.specs.Stretches.{RowStretch}
 use Rattle.store_image_rows.proofs.FilledKeys.{Fill, by_end, of_keys, each_lasts, one_there}
-use Rattle.store_image_rows.proofs.ClashingRows.{entry_in, clash, clash_so, pairwise, from_all, to_map}
+use Rattle.store_image_rows.proofs.ClashingRows.{entry_in, clash, clash_so, pairwise, from_all}
+use Rattle.store_image_rows.proofs.ClashingRows.{to_map}
 
 abbrev pub last_moment : ℕ
 last_moment = forever - 1

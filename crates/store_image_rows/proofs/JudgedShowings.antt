@@ -44,11 +44,14 @@ use Rattle.store_image_rows.specs.Showing.{IsShowingJudged}
 use Rattle.store_image_rows.specs.Showing.{AreOrdered}
 use Rattle.store_image_rows.proofs.FilledKeys.{Fill}
 use Rattle.store_image_rows.proofs.ListPlaces.{dropped_here}
-use Rattle.store_image_rows.proofs.MergedColumns.{Sound, ShowEach, shows_each, run_filled, all_pieces}
+use Rattle.store_image_rows.proofs.MergedColumns.{Sound, ShowEach, shows_each, run_filled}
+use Rattle.store_image_rows.proofs.MergedColumns.{all_pieces}
 use Rattle.store_image_rows.proofs.MergedColumns.{all_filled}
-use Rattle.store_image_rows.proofs.ClashingRows.{entry_in, clash, none_clash, ApartAlways, all_distinct}
+use Rattle.store_image_rows.proofs.ClashingRows.{entry_in, clash, none_clash, ApartAlways}
+use Rattle.store_image_rows.proofs.ClashingRows.{all_distinct}
 use Rattle.store_image_rows.proofs.ClashingRows.{two_rows, one_row}
-use Rattle.store_image_rows.proofs.CurrentRows.{last_moment, on, ids_in, keys_end, still_on, same_ids}
+use Rattle.store_image_rows.proofs.CurrentRows.{last_moment, on, ids_in, keys_end, still_on}
+use Rattle.store_image_rows.proofs.CurrentRows.{same_ids}
 use Rattle.store_image_rows.proofs.CurrentRows.{rows_rise}
 
 -- what an order of ids tells

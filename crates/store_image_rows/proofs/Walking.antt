@@ -9,7 +9,8 @@ use Rattle.history_store_spec.specs.Store.{Cell}
 use Rattle.store_image_rows.specs.declared.stretch.Stretch.{Stretch}
 use Rattle.store_image_rows.specs.declared.order.Showing.{Showing}
 use Rattle.store_image_rows.specs.Showing.{clash, none_clash}
-use Rattle.store_image_rows.specs.Stretches.{stretch_of, row_stretches, longer, begun, ended_by, given}
+use Rattle.store_image_rows.specs.Stretches.{stretch_of, row_stretches, longer, begun, ended_by}
+use Rattle.store_image_rows.specs.Stretches.{given}
 use Rattle.store_image_rows.specs.Stretches.{left_by}
 use Rattle.store_image_rows.proofs.ListPlaces.{dropped_here, dropped_plain}
 use Rattle.store_image_rows.proofs.MergedColumns.{when_true, when_false, not_below, not_equal}

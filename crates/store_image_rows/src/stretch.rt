@@ -3,7 +3,8 @@
 ghost use Rattle.std.specs.Prelude.{◌≡◌, ◌++◌, ◌∷◌, [], ◌<◌, map, drop, IfOk, OnOk};
 ghost use Rattle.prima_base.specs.Order.{shown};
 ghost use Rattle.store_image_rows.specs.Cells.{cell_seen, cells_seen};
-ghost use Rattle.store_image_rows.specs.Stretches.{stretch_of, row_stretches, bare_from, longer, begun};
+ghost use Rattle.store_image_rows.specs.Stretches.{stretch_of, row_stretches, bare_from, longer};
+ghost use Rattle.store_image_rows.specs.Stretches.{begun};
 ghost use Rattle.store_image_rows.specs.Stretches.{ended_by, given, left_by, merged, all_merged};
 
 use history_store::Cell;

@@ -15,7 +15,8 @@ use Rattle.store_image_spec.proofs.Judging.{number_itself, period_lasts}
 use Rattle.store_image_spec.proofs.Filling.{covers_so, covers_both, not_covered, cell_before}
 use Rattle.store_image_spec.proofs.Filling.{shown_one, shown_past, in_shown, from_shown, fills_one}
 use Rattle.store_image_spec.proofs.Filling.{fills_none, fills_so, fills_after, in_key, FillsFrom}
-use Rattle.store_image_spec.proofs.Filling.{first_key, later_keys, all_keys, IsDue, is_due_so, IsWell}
+use Rattle.store_image_spec.proofs.Filling.{first_key, later_keys, all_keys, IsDue, is_due_so}
+use Rattle.store_image_spec.proofs.Filling.{IsWell}
 
 -- each key has a moment
 abbrev pub Last : List Span → Type 0

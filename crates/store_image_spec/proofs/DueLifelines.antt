@@ -25,7 +25,8 @@ use Rattle.smo_ops_spec.specs.Past.{no_tables}
 use Rattle.smo_ops_spec.proofs.NextSchemas.{Each, next_is_valid}
 use Rattle.smo_ops_spec.proofs.PastSteps.{beginning_is_past}
 use Rattle.command_codec_spec.specs.Valid.{OperatorNamed}
-use Rattle.smo_ops_versions_spec.specs.Lifelines.{Lifeline, last_after, line_after, line_begun, made_tables}
+use Rattle.smo_ops_versions_spec.specs.Lifelines.{Lifeline, last_after, line_after, line_begun}
+use Rattle.smo_ops_versions_spec.specs.Lifelines.{made_tables}
 use Rattle.smo_ops_versions_spec.specs.Lifelines.{lifelines_after, lifelines_from, lifelines_of}
 use Rattle.smo_ops_versions_spec.proofs.NamedEntries.{found_under}
 use Rattle.store_image_spec.specs.Images.{VersionsNamed}

@@ -28,7 +28,8 @@ use Rattle.store_image_spec.specs.Judged.{is_version, is_line, is_period, is_due
 use Rattle.store_image_spec.specs.Reader.{number_32, last_arm, last_stamp, version_after}
 use Rattle.store_image_spec.specs.Reader.{evolution, version, versions, all_versions, period, key}
 use Rattle.store_image_spec.specs.Reader.{keys, cell_of, entry, entries, column_entries, columns}
-use Rattle.store_image_spec.specs.Reader.{line_head, a_line, has_apart, stored_line, lines, all_lines}
+use Rattle.store_image_spec.specs.Reader.{line_head, a_line, has_apart, stored_line, lines}
+use Rattle.store_image_spec.specs.Reader.{all_lines}
 use Rattle.store_image_spec.specs.Reader.{nothing_after, an_image, image}
 use Rattle.store_image_spec.specs.Reader.{a_span}
 use Rattle.store_image_spec.proofs.ReadParts.{most_32, most_64}

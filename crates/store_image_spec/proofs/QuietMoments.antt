@@ -19,7 +19,8 @@ use Rattle.history_store_spec.specs.Store.{Cell, IsPeriod, relation_at}
 use Rattle.smo_ops_types.specs.Commands.{PlainVersion}
 use Rattle.smo_ops_spec.specs.ValidPast.{last_or_nought, AllInForce}
 use Rattle.smo_ops_spec.specs.Past.{begun_at}
-use Rattle.store_image_spec.specs.Images.{StoredLine, Image, IsImage, IsStoredLine, IsUpTo, EndsUpTo}
+use Rattle.store_image_spec.specs.Images.{StoredLine, Image, IsImage, IsStoredLine, IsUpTo}
+use Rattle.store_image_spec.specs.Images.{EndsUpTo}
 use Rattle.store_image_spec.specs.Images.{store_of}
 use Rattle.store_image_spec.specs.ShownPast.{is_of_version, table_at, image_database, stamps_of}
 use Rattle.store_image_spec.specs.ShownPast.{line_stamps, image_stamps}

@@ -17,7 +17,8 @@ use Rattle.store_image_spec.specs.Judged.{is_period}
 use Rattle.store_image_spec.specs.Spelling.{last_number}
 use Rattle.store_image_spec.proofs.Formats.{Each}
 use Rattle.store_image_spec.proofs.ReadParts.{IsLast, IsKey, Fits, CellFits, KeysRead, ColumnRead}
-use Rattle.store_image_spec.proofs.ReadParts.{ColumnsRead, LineRead, LinesRead, AllRead, AllLinesRead}
+use Rattle.store_image_spec.proofs.ReadParts.{ColumnsRead, LineRead, LinesRead, AllRead}
+use Rattle.store_image_spec.proofs.ReadParts.{AllLinesRead}
 use Rattle.store_image_spec.proofs.ReadParts.{ImageRead}
 use Rattle.store_image_spec.proofs.Judging.{period_lasts, period_up_to, is_period_so}
 use Rattle.store_image_spec.proofs.Filling.{from_first, to_first, IsWell, run_well, run_fills}

@@ -39,11 +39,13 @@ use Rattle.store_image_spec.specs.Spelling.{cell_bytes, line_bytes, stored_bytes
 use Rattle.store_image_spec.specs.Reader.{number_32, last_arm, last_stamp, version_after}
 use Rattle.store_image_spec.specs.Reader.{evolution, version, versions, all_versions, period, key}
 use Rattle.store_image_spec.specs.Reader.{keys, cell_of, entry, entries, column_entries, columns}
-use Rattle.store_image_spec.specs.Reader.{line_head, a_line, has_apart, stored_line, lines, all_lines}
+use Rattle.store_image_spec.specs.Reader.{line_head, a_line, has_apart, stored_line, lines}
+use Rattle.store_image_spec.specs.Reader.{all_lines}
 use Rattle.store_image_spec.specs.Reader.{nothing_after, an_image, image}
 use Rattle.store_image_spec.specs.Reader.{a_span}
 use Rattle.store_image_spec.proofs.Judging.{number_itself}
-use Rattle.store_image_spec.proofs.Formats.{Reads, reads_correct, reads_so, reads_item, reads_judged}
+use Rattle.store_image_spec.proofs.Formats.{Reads, reads_correct, reads_so, reads_item}
+use Rattle.store_image_spec.proofs.Formats.{reads_judged}
 use Rattle.store_image_spec.proofs.Formats.{reads_missing, reads_then, reads_map, reads_pair, Led}
 use Rattle.store_image_spec.proofs.Formats.{reads_led, reads_none, reads_if, reads_number}
 use Rattle.store_image_spec.proofs.Formats.{reads_counted, Each, reads_items}

@@ -21,7 +21,8 @@ use Rattle.smo_ops_spec.specs.OneRow.{same}
 use Rattle.smo_ops_spec.specs.Past.{no_tables, tables_from, begun_at}
 use Rattle.smo_ops_spec.proofs.NameLaws.{same_itself}
 use Rattle.smo_ops_spec.proofs.PastMoments.{few_begun}
-use Rattle.smo_ops_versions_spec.specs.Lifelines.{Lifeline, is_up_to, IsUpTo, Covers, AreApart, HaveTables}
+use Rattle.smo_ops_versions_spec.specs.Lifelines.{Lifeline, is_up_to, IsUpTo, Covers, AreApart}
+use Rattle.smo_ops_versions_spec.specs.Lifelines.{HaveTables}
 use Rattle.smo_ops_versions_spec.proofs.NamedEntries.{in_found}
 use Rattle.smo_ops_versions_spec.proofs.VersionsCovered.{each_covered}
 use Rattle.store_image_spec.specs.Images.{StoredLine, Image, IsImage, lines_in, store_of}

@@ -24,7 +24,8 @@ use Rattle.smo_ops_spec.proofs.VersionsInTurn.{valid_from}
 use Rattle.smo_ops_versions_spec.specs.Lifelines.{Covers}
 use Rattle.store_image_spec.specs.Images.{StoredLine, Image, IsImage, store_of}
 use Rattle.store_image_spec.specs.ShownPast.{image_database, image_stamps, states_along, image_past}
-use Rattle.store_image_spec.proofs.ShownDatabases.{image_tables, own_entry, is_database, holds_values}
+use Rattle.store_image_spec.proofs.ShownDatabases.{image_tables, own_entry, is_database}
+use Rattle.store_image_spec.proofs.ShownDatabases.{holds_values}
 use Rattle.store_image_spec.proofs.QuietMoments.{version_stamp, stamp_up_to}
 use Rattle.store_image_spec.proofs.ShownStates.{stamps_climb, begins_there, rise, all_up_to}
 use Rattle.store_image_spec.proofs.ShownStates.{each_differs, version_starts, shows}

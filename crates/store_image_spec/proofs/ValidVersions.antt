@@ -18,7 +18,8 @@ use Rattle.smo_ops_spec.specs.After.{op_fault, schema_after, IsValid}
 use Rattle.smo_ops_spec.specs.Counts.{first_excess}
 use Rattle.smo_ops_spec.specs.First.{unless}
 use Rattle.smo_ops_spec.specs.Inverses.{inverse_fault, inverse_tests}
-use Rattle.smo_ops_spec.specs.ValidPast.{last_or_nought, AllInForce, IsLater, IsVersion, AreVersions}
+use Rattle.smo_ops_spec.specs.ValidPast.{last_or_nought, AllInForce, IsLater, IsVersion}
+use Rattle.smo_ops_spec.specs.ValidPast.{AreVersions}
 use Rattle.smo_ops_spec.specs.Past.{Past, no_tables}
 use Rattle.smo_ops_spec.proofs.Firsts.{first_later}
 use Rattle.smo_ops_spec.proofs.NextSchemas.{next_is_valid}

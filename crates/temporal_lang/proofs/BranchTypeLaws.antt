@@ -14,7 +14,8 @@ use Rattle.plain_answers_spec.specs.Branches.{PlainBranch}
 use Rattle.temporal_lang_types.specs.Branches.{branch_of, branches_of}
 use Rattle.temporal_lang_spec.specs.Atoms.{atom_kinds}
 use Rattle.prima_base.specs.Faults.{IsTested}
-use Rattle.temporal_lang_spec.specs.Checking.{branch_types, branch_nodes, branch_references, types_from}
+use Rattle.temporal_lang_spec.specs.Checking.{branch_types, branch_nodes, branch_references}
+use Rattle.temporal_lang_spec.specs.Checking.{types_from}
 use Rattle.temporal_lang_spec.specs.Checking.{typing_tests, arities, output_kinds}
 use Rattle.temporal_lang_spec.specs.Resolved.{IsSmall, AllSmall, AllKnown, HaveFew}
 use Rattle.temporal_lang.specs.Typings.{BranchTyped, BranchesTyped}

@@ -14,13 +14,15 @@ use Rattle.cond_expr.specs.Kinds.{Kinds}
 use Rattle.cond_expr.specs.Faults.{references, untyped, test_untyped, first_of, first_unknown}
 use Rattle.cond_expr.proofs.FaultLaws.{unknown_append}
 use Rattle.smo_ops_spec.specs.First.{first_refusal}
-use Rattle.smo_ops_spec.proofs.Firsts.{first_after, first_before, first_at, first_later, first_alone}
+use Rattle.smo_ops_spec.proofs.Firsts.{first_after, first_before, first_at, first_later}
+use Rattle.smo_ops_spec.proofs.Firsts.{first_alone}
 use Rattle.smo_ops_spec.proofs.Firsts.{drop_at}
 use Rattle.prima_base.specs.declared.refusal.Refusal.{Refusal}
 use Rattle.prima_base.specs.declared.fault.CallFault.{CallFault}
 use Rattle.prima_base.specs.declared.fault.CallFault.TheVariants.{Refused, NoMemory}
 use Rattle.plain_answers_spec.specs.Branches.{PlainBranch}
-use Rattle.temporal_lang_spec.specs.Checking.{trees_types, outputs_nodes, branch_types, branch_nodes}
+use Rattle.temporal_lang_spec.specs.Checking.{trees_types, outputs_nodes, branch_types}
+use Rattle.temporal_lang_spec.specs.Checking.{branch_nodes}
 use Rattle.temporal_lang_spec.specs.Resolved.{AreSmall, IsSmall}
 use Rattle.temporal_lang.specs.Typings.{OutputsTyped, BranchTyped}
 use Rattle.temporal_lang_spec.proofs.FillLaws.{map_both}

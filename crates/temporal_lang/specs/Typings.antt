@@ -16,7 +16,8 @@ use Rattle.prima_base.specs.declared.fault.CallFault.{CallFault}
 use Rattle.prima_base.specs.Faults.{IsTestedAs}
 use Rattle.temporal_lang.specs.declared.type_check.Typed.{Typed}
 use Rattle.plain_answers_spec.specs.Branches.{PlainBranch}
-use Rattle.temporal_lang_spec.specs.Checking.{trees_types, outputs_nodes, branch_types, branch_nodes}
+use Rattle.temporal_lang_spec.specs.Checking.{trees_types, outputs_nodes, branch_types}
+use Rattle.temporal_lang_spec.specs.Checking.{branch_nodes}
 use Rattle.temporal_lang_spec.specs.Checking.{types_from, output_kinds}
 
 -- the type and the number of nodes, where no node is ill-typed; else the place of the first that

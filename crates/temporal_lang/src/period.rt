@@ -2,7 +2,8 @@
 
 ghost use Rattle.std.specs.Prelude.{◌≡◌, map};
 ghost use Rattle.smo_ops_spec.specs.First.{first_refusal};
-ghost use Rattle.temporal_lang_spec.specs.Checking.{bounds_fault, when_fault, keep_fault, period_tests};
+ghost use Rattle.temporal_lang_spec.specs.Checking.{bounds_fault, when_fault, keep_fault};
+ghost use Rattle.temporal_lang_spec.specs.Checking.{period_tests};
 ghost use Rattle.prima_base.specs.Faults.{IsTested};
 
 use crate::{Keep, QueryFault, When};

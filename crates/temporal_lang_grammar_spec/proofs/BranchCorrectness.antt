@@ -21,9 +21,11 @@ use Rattle.lexer_trees_spec.proofs.Correctness.{outermost_correct}
 use Rattle.lexer_trees_spec.specs.Where.{IsFreshWhere, fresh_where, follow_where}
 use Rattle.lexer_trees_spec.proofs.Where.{fresh_where_correct}
 use Rattle.plain_answers_spec.specs.Branches.{Item, PlainBranch, a_branch}
-use Rattle.temporal_lang_grammar_spec.specs.QueryGrammar.{IsOutput, AreOutputs, IsAlias, IsItem, AreItems}
+use Rattle.temporal_lang_grammar_spec.specs.QueryGrammar.{IsOutput, AreOutputs, IsAlias, IsItem}
+use Rattle.temporal_lang_grammar_spec.specs.QueryGrammar.{AreItems}
 use Rattle.temporal_lang_grammar_spec.specs.QueryGrammar.{IsBranch, AreBranches}
-use Rattle.temporal_lang_grammar_spec.specs.QueryReader.{output, outputs, alias, item, items, branch, branches}
+use Rattle.temporal_lang_grammar_spec.specs.QueryReader.{output, outputs, alias, item, items}
+use Rattle.temporal_lang_grammar_spec.specs.QueryReader.{branch, branches}
 use Rattle.temporal_lang_grammar_spec.specs.QueryReader.{follow_item, follow_items, follow_branch}
 use Rattle.temporal_lang_grammar_spec.specs.QueryReader.{follow_branches}
 use Rattle.temporal_lang_grammar_spec.proofs.CountedLists.{option_prefix, counted_correct}

@@ -32,25 +32,40 @@ use Rattle.lexer_combinators.proofs.AlongParts.{single_light, lead_light, map_li
 use Rattle.lexer_combinators.proofs.AlongParts.{light_along, light_follow, fresh_follow}
 use Rattle.plain_answers_spec.specs.Branches.{a_branch}
 use Rattle.temporal_lang_types.specs.Queries.{PlainQuery, a_query}
-use Rattle.temporal_lang_grammar_spec.specs.QueryGrammar.{as_moment_or, last_moment, bound_grammar, AreBounds}
-use Rattle.temporal_lang_grammar_spec.specs.QueryGrammar.{IsOutput, AreOutputs, IsAlias, IsItem, AreItems}
-use Rattle.temporal_lang_grammar_spec.specs.QueryGrammar.{IsBranch, AreBranches, IsAsOf, IsDuring, IsKeep}
-use Rattle.temporal_lang_grammar_spec.specs.QueryGrammar.{AreKeeps, IsKeeping, IsRange, IsWhen, IsAsk}
-use Rattle.temporal_lang_grammar_spec.specs.QueryReader.{output, outputs, item, items, branch, branches, as_of}
-use Rattle.temporal_lang_grammar_spec.specs.QueryReader.{as_of_rest, after_as_of, during, keep, keeps, keeping}
-use Rattle.temporal_lang_grammar_spec.specs.QueryReader.{range, when_part, ask, follow_item, follow_items}
-use Rattle.temporal_lang_grammar_spec.specs.QueryReader.{follow_branch, follow_branches, follow_keeps}
-use Rattle.temporal_lang_grammar_spec.specs.QueryReader.{follow_keeping, follow_range, follow_when, follow_ask}
-use Rattle.temporal_lang_grammar_spec.specs.QueryCrossings.{output_crossings, outputs_crossings, items_crossings}
+use Rattle.temporal_lang_grammar_spec.specs.QueryGrammar.{as_moment_or, last_moment, bound_grammar}
+use Rattle.temporal_lang_grammar_spec.specs.QueryGrammar.{AreBounds}
+use Rattle.temporal_lang_grammar_spec.specs.QueryGrammar.{IsOutput, AreOutputs, IsAlias, IsItem}
+use Rattle.temporal_lang_grammar_spec.specs.QueryGrammar.{AreItems}
+use Rattle.temporal_lang_grammar_spec.specs.QueryGrammar.{IsBranch, AreBranches, IsAsOf, IsDuring}
+use Rattle.temporal_lang_grammar_spec.specs.QueryGrammar.{IsKeep}
+use Rattle.temporal_lang_grammar_spec.specs.QueryGrammar.{AreKeeps, IsKeeping, IsRange, IsWhen}
+use Rattle.temporal_lang_grammar_spec.specs.QueryGrammar.{IsAsk}
+use Rattle.temporal_lang_grammar_spec.specs.QueryReader.{output, outputs, item, items, branch}
+use Rattle.temporal_lang_grammar_spec.specs.QueryReader.{branches, as_of}
+use Rattle.temporal_lang_grammar_spec.specs.QueryReader.{as_of_rest, after_as_of, during, keep}
+use Rattle.temporal_lang_grammar_spec.specs.QueryReader.{keeps, keeping}
+use Rattle.temporal_lang_grammar_spec.specs.QueryReader.{range, when_part, ask, follow_item}
+use Rattle.temporal_lang_grammar_spec.specs.QueryReader.{follow_items}
+use Rattle.temporal_lang_grammar_spec.specs.QueryReader.{follow_branch, follow_branches}
+use Rattle.temporal_lang_grammar_spec.specs.QueryReader.{follow_keeps}
+use Rattle.temporal_lang_grammar_spec.specs.QueryReader.{follow_keeping, follow_range, follow_when}
+use Rattle.temporal_lang_grammar_spec.specs.QueryReader.{follow_ask}
+use Rattle.temporal_lang_grammar_spec.specs.QueryCrossings.{output_crossings, outputs_crossings}
+use Rattle.temporal_lang_grammar_spec.specs.QueryCrossings.{items_crossings}
 use Rattle.temporal_lang_grammar_spec.specs.QueryCrossings.{branch_crossings, branches_crossings}
-use Rattle.temporal_lang_grammar_spec.specs.QueryCrossings.{keeps_crossings, keeping_crossings, range_crossings}
+use Rattle.temporal_lang_grammar_spec.specs.QueryCrossings.{keeps_crossings, keeping_crossings}
+use Rattle.temporal_lang_grammar_spec.specs.QueryCrossings.{range_crossings}
 use Rattle.temporal_lang_grammar_spec.specs.QueryCrossings.{when_crossings, ask_crossings}
 use Rattle.temporal_lang_grammar_spec.proofs.CountedLists.{counted_along}
-use Rattle.temporal_lang_grammar_spec.proofs.BranchCorrectness.{ends, output_correct, follow_outputs}
-use Rattle.temporal_lang_grammar_spec.proofs.BranchCorrectness.{item_correct, fewer_where, after_items}
+use Rattle.temporal_lang_grammar_spec.proofs.BranchCorrectness.{ends, output_correct}
+use Rattle.temporal_lang_grammar_spec.proofs.BranchCorrectness.{follow_outputs}
+use Rattle.temporal_lang_grammar_spec.proofs.BranchCorrectness.{item_correct, fewer_where}
+use Rattle.temporal_lang_grammar_spec.proofs.BranchCorrectness.{after_items}
 use Rattle.temporal_lang_grammar_spec.proofs.BranchCorrectness.{branch_correct, union_ends}
-use Rattle.temporal_lang_grammar_spec.proofs.WhenCorrectness.{keep_correct, fewer_keeps, during_correct}
-use Rattle.temporal_lang_grammar_spec.proofs.WhenCorrectness.{fewer_keeping, after_during, fewer_range}
+use Rattle.temporal_lang_grammar_spec.proofs.WhenCorrectness.{keep_correct, fewer_keeps}
+use Rattle.temporal_lang_grammar_spec.proofs.WhenCorrectness.{during_correct}
+use Rattle.temporal_lang_grammar_spec.proofs.WhenCorrectness.{fewer_keeping, after_during}
+use Rattle.temporal_lang_grammar_spec.proofs.WhenCorrectness.{fewer_range}
 use Rattle.temporal_lang_grammar_spec.proofs.WhenCorrectness.{range_prefix, when_correct, fewer_as}
 use Rattle.temporal_lang_grammar_spec.proofs.QueryCorrectness.{fewer_when, after_branches}
 

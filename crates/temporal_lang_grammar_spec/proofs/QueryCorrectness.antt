@@ -13,7 +13,8 @@ use Rattle.lexer_trees_spec.proofs.Singles.{small_correct}
 use Rattle.plain_answers_spec.specs.Branches.{PlainBranch}
 use Rattle.temporal_lang_types.specs.Queries.{PlainQuery, a_query}
 use Rattle.temporal_lang_grammar_spec.specs.QueryGrammar.{AreBranches, IsWhen, IsAsk}
-use Rattle.temporal_lang_grammar_spec.specs.QueryReader.{branches, when_part, ask, follow_branches, follow_when}
+use Rattle.temporal_lang_grammar_spec.specs.QueryReader.{branches, when_part, ask, follow_branches}
+use Rattle.temporal_lang_grammar_spec.specs.QueryReader.{follow_when}
 use Rattle.temporal_lang_grammar_spec.specs.QueryReader.{follow_ask}
 use Rattle.temporal_lang_grammar_spec.proofs.BranchCorrectness.{ends, branches_correct}
 use Rattle.temporal_lang_grammar_spec.proofs.WhenCorrectness.{when_correct, when_prefix}

@@ -27,32 +27,51 @@ use Rattle.lexer_trees_spec.proofs.Where.{fresh_where_correct}
 use Rattle.temporal_lang_types.specs.declared.when.When.TheVariants.{Always, AsOf, During}
 use Rattle.plain_answers_spec.specs.Branches.{a_branch}
 use Rattle.temporal_lang_types.specs.Queries.{PlainQuery, a_query}
-use Rattle.temporal_lang_grammar_spec.specs.QueryGrammar.{as_moment_or, last_moment, bound_grammar, AreBounds}
-use Rattle.temporal_lang_grammar_spec.specs.QueryGrammar.{IsOutput, AreOutputs, IsAlias, IsItem, AreItems}
-use Rattle.temporal_lang_grammar_spec.specs.QueryGrammar.{IsBranch, AreBranches, IsDuring, IsKeep, AreKeeps}
+use Rattle.temporal_lang_grammar_spec.specs.QueryGrammar.{as_moment_or, last_moment, bound_grammar}
+use Rattle.temporal_lang_grammar_spec.specs.QueryGrammar.{AreBounds}
+use Rattle.temporal_lang_grammar_spec.specs.QueryGrammar.{IsOutput, AreOutputs, IsAlias, IsItem}
+use Rattle.temporal_lang_grammar_spec.specs.QueryGrammar.{AreItems}
+use Rattle.temporal_lang_grammar_spec.specs.QueryGrammar.{IsBranch, AreBranches, IsDuring, IsKeep}
+use Rattle.temporal_lang_grammar_spec.specs.QueryGrammar.{AreKeeps}
 use Rattle.temporal_lang_grammar_spec.specs.QueryGrammar.{IsKeeping, IsRange, IsWhen, IsAsk}
-use Rattle.temporal_lang_grammar_spec.specs.QueryReader.{output, outputs, alias, item, items, branch, branches}
-use Rattle.temporal_lang_grammar_spec.specs.QueryReader.{moment_or, bounds, as_of, as_of_rest, after_as_of}
-use Rattle.temporal_lang_grammar_spec.specs.QueryReader.{during, between, covering, keep, keeps, keeping, range}
+use Rattle.temporal_lang_grammar_spec.specs.QueryReader.{output, outputs, alias, item, items}
+use Rattle.temporal_lang_grammar_spec.specs.QueryReader.{branch, branches}
+use Rattle.temporal_lang_grammar_spec.specs.QueryReader.{moment_or, bounds, as_of, as_of_rest}
+use Rattle.temporal_lang_grammar_spec.specs.QueryReader.{after_as_of}
+use Rattle.temporal_lang_grammar_spec.specs.QueryReader.{during, between, covering, keep, keeps}
+use Rattle.temporal_lang_grammar_spec.specs.QueryReader.{keeping, range}
 use Rattle.temporal_lang_grammar_spec.specs.QueryReader.{when_part, ask, follow_item, follow_items}
-use Rattle.temporal_lang_grammar_spec.specs.QueryReader.{follow_branch, follow_branches, follow_range}
+use Rattle.temporal_lang_grammar_spec.specs.QueryReader.{follow_branch, follow_branches}
+use Rattle.temporal_lang_grammar_spec.specs.QueryReader.{follow_range}
 use Rattle.temporal_lang_grammar_spec.specs.QueryReader.{follow_when, follow_ask}
-use Rattle.temporal_lang_grammar_spec.proofs.WholePrefixes.{StuckNowhere, pure_nowhere, single_nowhere}
-use Rattle.temporal_lang_grammar_spec.proofs.WholePrefixes.{maybe_nowhere, after_nowhere, lead_nowhere}
-use Rattle.temporal_lang_grammar_spec.proofs.WholePrefixes.{map_nowhere, bind_nowhere, option_nowhere}
+use Rattle.temporal_lang_grammar_spec.proofs.WholePrefixes.{StuckNowhere, pure_nowhere}
+use Rattle.temporal_lang_grammar_spec.proofs.WholePrefixes.{single_nowhere}
+use Rattle.temporal_lang_grammar_spec.proofs.WholePrefixes.{maybe_nowhere, after_nowhere}
+use Rattle.temporal_lang_grammar_spec.proofs.WholePrefixes.{lead_nowhere}
+use Rattle.temporal_lang_grammar_spec.proofs.WholePrefixes.{map_nowhere, bind_nowhere}
+use Rattle.temporal_lang_grammar_spec.proofs.WholePrefixes.{option_nowhere}
 use Rattle.temporal_lang_grammar_spec.proofs.WholePrefixes.{fresh_nowhere, longest_read}
 use Rattle.temporal_lang_grammar_spec.proofs.CountedLists.{counted_nowhere}
-use Rattle.temporal_lang_grammar_spec.proofs.BranchCorrectness.{ends, output_correct, follow_outputs}
-use Rattle.temporal_lang_grammar_spec.proofs.BranchCorrectness.{outputs_correct, named_correct, item_correct}
-use Rattle.temporal_lang_grammar_spec.proofs.BranchCorrectness.{items_correct, where_then_correct, after_items}
-use Rattle.temporal_lang_grammar_spec.proofs.BranchCorrectness.{from_correct, branch_correct, union_ends}
+use Rattle.temporal_lang_grammar_spec.proofs.BranchCorrectness.{ends, output_correct}
+use Rattle.temporal_lang_grammar_spec.proofs.BranchCorrectness.{follow_outputs}
+use Rattle.temporal_lang_grammar_spec.proofs.BranchCorrectness.{outputs_correct, named_correct}
+use Rattle.temporal_lang_grammar_spec.proofs.BranchCorrectness.{item_correct}
+use Rattle.temporal_lang_grammar_spec.proofs.BranchCorrectness.{items_correct, where_then_correct}
+use Rattle.temporal_lang_grammar_spec.proofs.BranchCorrectness.{after_items}
+use Rattle.temporal_lang_grammar_spec.proofs.BranchCorrectness.{from_correct, branch_correct}
+use Rattle.temporal_lang_grammar_spec.proofs.BranchCorrectness.{union_ends}
 use Rattle.temporal_lang_grammar_spec.proofs.BranchCorrectness.{branches_correct}
 use Rattle.temporal_lang_grammar_spec.proofs.WhenCorrectness.{to_correct, BetweenRest, CoveringRest}
-use Rattle.temporal_lang_grammar_spec.proofs.WhenCorrectness.{keep_correct, keeps_correct, keeping_correct}
-use Rattle.temporal_lang_grammar_spec.proofs.WhenCorrectness.{DuringRest, during_rest_correct, during_correct}
-use Rattle.temporal_lang_grammar_spec.proofs.WhenCorrectness.{keeping_then_correct, after_during, IsMaybeAsOf}
-use Rattle.temporal_lang_grammar_spec.proofs.WhenCorrectness.{AsOfRest, AfterAsOf, as_of_rest_correct}
-use Rattle.temporal_lang_grammar_spec.proofs.WhenCorrectness.{as_of_correct, after_correct, after_as}
+use Rattle.temporal_lang_grammar_spec.proofs.WhenCorrectness.{keep_correct, keeps_correct}
+use Rattle.temporal_lang_grammar_spec.proofs.WhenCorrectness.{keeping_correct}
+use Rattle.temporal_lang_grammar_spec.proofs.WhenCorrectness.{DuringRest, during_rest_correct}
+use Rattle.temporal_lang_grammar_spec.proofs.WhenCorrectness.{during_correct}
+use Rattle.temporal_lang_grammar_spec.proofs.WhenCorrectness.{keeping_then_correct, after_during}
+use Rattle.temporal_lang_grammar_spec.proofs.WhenCorrectness.{IsMaybeAsOf}
+use Rattle.temporal_lang_grammar_spec.proofs.WhenCorrectness.{AsOfRest, AfterAsOf}
+use Rattle.temporal_lang_grammar_spec.proofs.WhenCorrectness.{as_of_rest_correct}
+use Rattle.temporal_lang_grammar_spec.proofs.WhenCorrectness.{as_of_correct, after_correct}
+use Rattle.temporal_lang_grammar_spec.proofs.WhenCorrectness.{after_as}
 use Rattle.temporal_lang_grammar_spec.proofs.WhenCorrectness.{as_by_as_of}
 use Rattle.temporal_lang_grammar_spec.proofs.QueryCorrectness.{when_then_correct, after_branches}
 use Rattle.temporal_lang_grammar_spec.proofs.QueryCorrectness.{branches_then_correct, ask_correct}

@@ -21,10 +21,13 @@ use Rattle.lexer_trees_spec.specs.Constants.{as_natural, as_moment}
 use Rattle.temporal_lang_types.specs.declared.when.When.{When}
 use Rattle.plain_answers_spec.specs.Branches.{PlainBranch}
 use Rattle.temporal_lang_types.specs.Branches.{has_parts, have_parts, is_when, is_keep, are_keeps}
-use Rattle.temporal_lang_grammar_spec.specs.QueryGrammar.{as_moment_or, last_moment, counted_grammar, AreBounds}
-use Rattle.temporal_lang_grammar_spec.specs.QueryGrammar.{IsOutput, IsItem, IsBranch, AreBranches, IsDuring}
+use Rattle.temporal_lang_grammar_spec.specs.QueryGrammar.{as_moment_or, last_moment}
+use Rattle.temporal_lang_grammar_spec.specs.QueryGrammar.{counted_grammar, AreBounds}
+use Rattle.temporal_lang_grammar_spec.specs.QueryGrammar.{IsOutput, IsItem, IsBranch, AreBranches}
+use Rattle.temporal_lang_grammar_spec.specs.QueryGrammar.{IsDuring}
 use Rattle.temporal_lang_grammar_spec.specs.QueryGrammar.{IsCovering, IsKeep, IsKeeping, IsWhen}
-use Rattle.temporal_lang_grammar_spec.specs.QueryReader.{branches, when_part, follow_branches, follow_when}
+use Rattle.temporal_lang_grammar_spec.specs.QueryReader.{branches, when_part, follow_branches}
+use Rattle.temporal_lang_grammar_spec.specs.QueryReader.{follow_when}
 use Rattle.temporal_lang_grammar_spec.proofs.BranchCorrectness.{branches_correct}
 use Rattle.temporal_lang_grammar_spec.proofs.WhenCorrectness.{when_correct}
 

@@ -26,12 +26,17 @@ use Rattle.lexer_combinators.proofs.Alternatives.{first_arm}
 use Rattle.lexer_trees_spec.proofs.Singles.{single_correct, moment_correct}
 use Rattle.temporal_lang_types.specs.declared.when.When.{When}
 use Rattle.temporal_lang_types.specs.declared.when.When.TheVariants.{Always, AsOf, During}
-use Rattle.temporal_lang_grammar_spec.specs.QueryGrammar.{as_moment_or, last_moment, bound_grammar, AreBounds}
-use Rattle.temporal_lang_grammar_spec.specs.QueryGrammar.{IsDuring, IsBetween, IsCovering, IsKeep, AreKeeps}
+use Rattle.temporal_lang_grammar_spec.specs.QueryGrammar.{as_moment_or, last_moment, bound_grammar}
+use Rattle.temporal_lang_grammar_spec.specs.QueryGrammar.{AreBounds}
+use Rattle.temporal_lang_grammar_spec.specs.QueryGrammar.{IsDuring, IsBetween, IsCovering, IsKeep}
+use Rattle.temporal_lang_grammar_spec.specs.QueryGrammar.{AreKeeps}
 use Rattle.temporal_lang_grammar_spec.specs.QueryGrammar.{IsKeeping, IsRange, IsWhen}
-use Rattle.temporal_lang_grammar_spec.specs.QueryReader.{moment_or, bounds, as_of_rest, as_of, during, between}
-use Rattle.temporal_lang_grammar_spec.specs.QueryReader.{covering, keep_arm, keep, keeps, keeping, range}
-use Rattle.temporal_lang_grammar_spec.specs.QueryReader.{after_as_of, when_part, follow_keeps, follow_keeping}
+use Rattle.temporal_lang_grammar_spec.specs.QueryReader.{moment_or, bounds, as_of_rest, as_of}
+use Rattle.temporal_lang_grammar_spec.specs.QueryReader.{during, between}
+use Rattle.temporal_lang_grammar_spec.specs.QueryReader.{covering, keep_arm, keep, keeps, keeping}
+use Rattle.temporal_lang_grammar_spec.specs.QueryReader.{range}
+use Rattle.temporal_lang_grammar_spec.specs.QueryReader.{after_as_of, when_part, follow_keeps}
+use Rattle.temporal_lang_grammar_spec.specs.QueryReader.{follow_keeping}
 use Rattle.temporal_lang_grammar_spec.specs.QueryReader.{follow_range, follow_when}
 use Rattle.temporal_lang_grammar_spec.proofs.CountedLists.{option_prefix, counted_correct}
 use Rattle.temporal_lang_grammar_spec.proofs.BranchCorrectness.{ends}

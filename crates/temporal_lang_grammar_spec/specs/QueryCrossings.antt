@@ -17,9 +17,12 @@ use Rattle.lexer_combinators.specs.ListCrossings.{option_crossing, either_crossi
 use Rattle.lexer_combinators.specs.ListCrossings.{counted_crossing}
 use Rattle.plain_answers_spec.specs.Branches.{a_branch}
 use Rattle.temporal_lang_types.specs.Queries.{a_query}
-use Rattle.temporal_lang_grammar_spec.specs.QueryGrammar.{counted_grammar, IsOutput, AreOutputs, IsItem}
-use Rattle.temporal_lang_grammar_spec.specs.QueryGrammar.{AreItems, IsBranch, AreBranches, IsAsOf, IsDuring}
-use Rattle.temporal_lang_grammar_spec.specs.QueryGrammar.{IsKeep, AreKeeps, IsKeeping, IsRange, IsWhen, IsAsk}
+use Rattle.temporal_lang_grammar_spec.specs.QueryGrammar.{counted_grammar, IsOutput, AreOutputs}
+use Rattle.temporal_lang_grammar_spec.specs.QueryGrammar.{IsItem}
+use Rattle.temporal_lang_grammar_spec.specs.QueryGrammar.{AreItems, IsBranch, AreBranches, IsAsOf}
+use Rattle.temporal_lang_grammar_spec.specs.QueryGrammar.{IsDuring}
+use Rattle.temporal_lang_grammar_spec.specs.QueryGrammar.{IsKeep, AreKeeps, IsKeeping, IsRange}
+use Rattle.temporal_lang_grammar_spec.specs.QueryGrammar.{IsWhen, IsAsk}
 
 -- the first is before the first separator
 abbrev pub list_crossings : {A : Type 0} (separator : Lexeme) (w : What) (G : Grammar A)

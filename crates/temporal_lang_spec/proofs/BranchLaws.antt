@@ -27,7 +27,8 @@ use Rattle.prima_base.specs.Columns.{Column}
 use Rattle.smo_ops_spec.specs.Effects.{columns_of}
 use Rattle.temporal_lang_spec.specs.Atoms.{Source, sources_of, to_atoms, filled_branch}
 use Rattle.temporal_lang_spec.specs.Atoms.{branches_with_atoms}
-use Rattle.temporal_lang_spec.specs.Checking.{output_counts, branch_counts, branches_counts, excess_of}
+use Rattle.temporal_lang_spec.specs.Checking.{output_counts, branch_counts, branches_counts}
+use Rattle.temporal_lang_spec.specs.Checking.{excess_of}
 use Rattle.temporal_lang_spec.specs.Checking.{item_tests, reference_test, branch_references}
 use Rattle.temporal_lang_spec.specs.Checking.{branch_names, names_tests}
 use Rattle.temporal_lang_spec.specs.Resolved.{HaveFew, AreSmall, IsSmall, AllSmall, AllKnown}

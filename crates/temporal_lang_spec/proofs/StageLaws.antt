@@ -6,7 +6,8 @@ use Rattle.std.proofs.Common.{refl, sym, ap, subst, ◌∙◌, inl, inr, arith}
 use Rattle.std.specs.List.{filter}
 use Rattle.std.proofs.lemmas.Bool.Decides.{nat_tests}
 use Rattle.relations_spec.specs.Spans.{Span, forever}
-use Rattle.relations_spec.specs.Timeline.{Stage, relation_from, relation_at, StagesFollow, IsTimeline}
+use Rattle.relations_spec.specs.Timeline.{Stage, relation_from, relation_at, StagesFollow}
+use Rattle.relations_spec.specs.Timeline.{IsTimeline}
 use Rattle.relations_spec.specs.Timeline.{listing_of}
 use Rattle.relations_spec.proofs.Runs.{relation_before, relation_after, timeline_listing}
 use Rattle.relations_spec.proofs.ListingLaws.{at_or_below}

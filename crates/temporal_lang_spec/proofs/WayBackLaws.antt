@@ -42,8 +42,10 @@ use Rattle.temporal_lang_spec.specs.Atoms.{branches_with_atoms}
 use Rattle.temporal_lang_types.specs.Queries.{PlainQuery, slice_of}
 use Rattle.temporal_lang_spec.specs.Checking.{items_after, holders, column_fault, whose_fault}
 use Rattle.temporal_lang_spec.specs.Checking.{reference_test, branch_references, branch_names}
-use Rattle.temporal_lang_spec.specs.Checking.{trees_types, outputs_nodes, branch_types, branch_nodes}
-use Rattle.temporal_lang_spec.specs.Checking.{types_from, output_kinds, alike, arities_from, arities}
+use Rattle.temporal_lang_spec.specs.Checking.{trees_types, outputs_nodes, branch_types}
+use Rattle.temporal_lang_spec.specs.Checking.{branch_nodes}
+use Rattle.temporal_lang_spec.specs.Checking.{types_from, output_kinds, alike, arities_from}
+use Rattle.temporal_lang_spec.specs.Checking.{arities}
 use Rattle.temporal_lang_spec.specs.Checking.{when_fault, keep_fault, query_tests}
 use Rattle.temporal_lang_spec.specs.Checking.{excess_fault, excess_of}
 use Rattle.temporal_lang_spec.specs.Losing.{query_tables, loss_at, first_from, first_lost}

@@ -23,7 +23,8 @@ use Rattle.cond_expr.specs.AtomColumns.{kinds_of_atoms}
 use Rattle.temporal_lang_spec.specs.Atoms.{Source, to_atoms}
 use Rattle.temporal_lang_spec.specs.Checking.{whose_fault, branch_types, branch_nodes, arities}
 use Rattle.temporal_lang_spec.specs.Checking.{period_tests}
-use Rattle.smo_ops_versions_spec.proofs.WorkedWords.{a, b, k, x, y, r, s, t, int, text, at_atom, a_columns}
+use Rattle.smo_ops_versions_spec.proofs.WorkedWords.{a, b, k, x, y, r, s, t, int, text, at_atom}
+use Rattle.smo_ops_versions_spec.proofs.WorkedWords.{a_columns}
 use Rattle.smo_ops_versions_spec.proofs.WorkedWords.{ab_columns, kx_columns, ky_columns}
 
 -- r has (1, 'a') and (2, 'b'), s has (1, 5)

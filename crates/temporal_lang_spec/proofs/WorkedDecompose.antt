@@ -48,7 +48,8 @@ use Rattle.smo_ops_spec.proofs.InverseLaws.{accepted_so}
 use Rattle.smo_ops_versions_spec.proofs.RoundTrips.{merged_back}
 use Rattle.smo_ops_versions_spec.specs.Migration.{migrated}
 use Rattle.smo_ops_versions_spec.proofs.WorkedWords.{int, text, at_atom}
-use Rattle.smo_ops_versions_spec.proofs.WorkedWays.{id, name, city, emp, who, home, emp_columns, with_emp}
+use Rattle.smo_ops_versions_spec.proofs.WorkedWays.{id, name, city, emp, who, home, emp_columns}
+use Rattle.smo_ops_versions_spec.proofs.WorkedWays.{with_emp}
 use Rattle.smo_ops_versions_spec.proofs.WorkedWays.{in_two, projected, all_columns, emp_back_of}
 use Rattle.plain_answers_spec.specs.Branches.{plain}
 use Rattle.temporal_lang_types.specs.declared.when.When.TheVariants.{Always}

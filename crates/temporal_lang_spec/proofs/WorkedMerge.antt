@@ -45,9 +45,11 @@ use Rattle.smo_ops_spec.specs.Inverses.{inverse_tests, inverse_fault}
 use Rattle.smo_ops_spec.proofs.InverseLaws.{accepted_so}
 use Rattle.smo_ops_spec.proofs.CountingLaws.{gained_step, lost_with}
 use Rattle.smo_ops_versions_spec.specs.Migration.{migrated}
-use Rattle.smo_ops_versions_spec.proofs.WorkedWords.{a, r, s, t, int, a_columns, t_there, s_there, r_there}
+use Rattle.smo_ops_versions_spec.proofs.WorkedWords.{a, r, s, t, int, a_columns, t_there, s_there}
+use Rattle.smo_ops_versions_spec.proofs.WorkedWords.{r_there}
 use Rattle.smo_ops_versions_spec.proofs.WorkedWords.{r_under_s}
-use Rattle.smo_ops_versions_spec.proofs.WorkedWays.{low, with_r, with_s, merged, versions, r_back_of}
+use Rattle.smo_ops_versions_spec.proofs.WorkedWays.{low, with_r, with_s, merged, versions}
+use Rattle.smo_ops_versions_spec.proofs.WorkedWays.{r_back_of}
 use Rattle.plain_answers_spec.specs.Branches.{plain}
 use Rattle.temporal_lang_types.specs.declared.when.When.TheVariants.{Always}
 use Rattle.temporal_lang_spec.specs.Atoms.{branches_with_atoms}

@@ -54,8 +54,10 @@ use Rattle.plain_answers_spec.specs.Branches.{plain}
 use Rattle.plain_answers_spec.specs.Choosing.{answers_over}
 use Rattle.temporal_lang_spec.specs.Answers.{asked_at, stages, answer}
 use Rattle.temporal_lang_spec.specs.Accepted.{fault_of_query}
-use Rattle.temporal_lang_spec.proofs.WorkedSelects.{gained_is, lost_is, change_by, creates, one_more}
-use Rattle.smo_ops_versions_spec.proofs.WorkedWords.{a, b, x, y, s, t, u, int, text, at_atom, ab_columns}
+use Rattle.temporal_lang_spec.proofs.WorkedSelects.{gained_is, lost_is, change_by, creates}
+use Rattle.temporal_lang_spec.proofs.WorkedSelects.{one_more}
+use Rattle.smo_ops_versions_spec.proofs.WorkedWords.{a, b, x, y, s, t, u, int, text, at_atom}
+use Rattle.smo_ops_versions_spec.proofs.WorkedWords.{ab_columns}
 use Rattle.smo_ops_versions_spec.proofs.WorkedWords.{t_there, u_there}
 
 -- AT 1 EVOLVE CREATE TABLE t (a INT, b TEXT); AT 5 INSERT INTO t (a, b) VALUES (1, 'x'); AT 7

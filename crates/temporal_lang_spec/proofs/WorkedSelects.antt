@@ -38,7 +38,8 @@ use Rattle.cond_expr.specs.AtomColumns.{kinds_of_atoms}
 use Rattle.temporal_lang_types.specs.declared.when.When.{When}
 use Rattle.temporal_lang_types.specs.Queries.{a_query}
 use Rattle.temporal_lang_spec.specs.Atoms.{Source, to_atoms, filled_branch, branches_with_atoms}
-use Rattle.temporal_lang_spec.specs.Checking.{reference_test, branch_types, period_tests, query_tests}
+use Rattle.temporal_lang_spec.specs.Checking.{reference_test, branch_types, period_tests}
+use Rattle.temporal_lang_spec.specs.Checking.{query_tests}
 
 abbrev pub command : ℕ → PlainBody → PlainCommand
 command stamp body = record { stamp = stamp; body = body }

@@ -25,7 +25,8 @@ use Rattle.smo_ops_spec.proofs.PastSteps.{stamp_accepted}
 use Rattle.version_groups_tables.specs.declared.made_table.MadeTable.{MadeTable}
 use Rattle.version_groups_tables.specs.Stored.{stored_as, stored_names}
 use Rattle.version_groups_tables.specs.Becoming.{Leads}
-use Rattle.version_groups_tables.specs.Changing.{rows_now, rows_after, AreChangeable, AreReady, all_gained}
+use Rattle.version_groups_tables.specs.Changing.{rows_now, rows_after, AreChangeable, AreReady}
+use Rattle.version_groups_tables.specs.Changing.{all_gained}
 use Rattle.version_groups_tables.specs.Changing.{all_lost}
 use Rattle.version_groups_tables.specs.NewestTables.{IsStoredEntry, AreStored}
 use Rattle.version_groups_tables.proofs.TablesChanged.{accepted_of, changed_each, stored_there}

@@ -22,7 +22,8 @@ use Rattle.version_groups_tables.specs.Evolving.{ComeNext}
 use Rattle.version_groups_tables.specs.Stored.{HasEntry, stored_as}
 use Rattle.version_groups_tables.specs.Ending.{table_after, AreLiving}
 use Rattle.version_groups_tables.specs.Places.{at_places}
-use Rattle.version_groups_tables.specs.Restoring.{stores_of, BeginsOver, HasColumns, IsStored, OthersAre}
+use Rattle.version_groups_tables.specs.Restoring.{stores_of, BeginsOver, HasColumns, IsStored}
+use Rattle.version_groups_tables.specs.Restoring.{OthersAre}
 use Rattle.version_groups_tables.specs.Beginning.{ArePlaced}
 use Rattle.version_groups_tables.proofs.LifelinesAfter.{entry_some, entry_none, living_after}
 use Rattle.version_groups_tables.proofs.RestoredTables.{Listed}

@@ -33,7 +33,8 @@ use Rattle.smo_ops_spec.specs.Sizes.{sizes_evolved}
 use Rattle.smo_ops_spec.specs.Touching.{makes, consumes}
 use Rattle.smo_ops_spec.proofs.CarriedDatabases.{carried_database}
 use Rattle.smo_ops_spec.proofs.Firsts.{none_of_first, none_mapped}
-use Rattle.smo_ops_spec.proofs.PastMoments.{newest_tables_from, is_later, still_later, before_or_not}
+use Rattle.smo_ops_spec.proofs.PastMoments.{newest_tables_from, is_later, still_later}
+use Rattle.smo_ops_spec.proofs.PastMoments.{before_or_not}
 use Rattle.smo_ops_spec.proofs.PastSteps.{body_accepted, stamp_accepted}
 use Rattle.version_groups_tables.specs.declared.made_table.MadeTable.{MadeTable}
 use Rattle.version_groups_tables.specs.Becoming.{Begins}

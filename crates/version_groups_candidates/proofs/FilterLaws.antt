@@ -13,7 +13,8 @@ use Rattle.cond_expr.specs.Trees.{Test}
 use Rattle.cond_expr.specs.Values.{Cells, truth}
 use Rattle.cond_expr.specs.PinnedParts.{pinned}
 use Rattle.smo_ops_spec.specs.OneRow.{Row, own_cells, meets}
-use Rattle.version_groups_candidates.specs.Filters.{ColumnTest, is_passed_by, lets, passes, IsFilter}
+use Rattle.version_groups_candidates.specs.Filters.{ColumnTest, is_passed_by, lets, passes}
+use Rattle.version_groups_candidates.specs.Filters.{IsFilter}
 use Rattle.version_groups_candidates.proofs.RangeLaws.{Shows, compares, its_values}
 
 -- the row's value in a column compares as a part says

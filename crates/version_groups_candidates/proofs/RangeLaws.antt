@@ -28,7 +28,8 @@ use Rattle.history_store_columns.proofs.Puts.{exact_values}
 use Rattle.smo_ops_spec.specs.OneRow.{own_cells, meets}
 use Rattle.version_groups_candidates.specs.declared.end.Side.{Side}
 use Rattle.version_groups_candidates.specs.declared.end.Side.TheVariants.{Low, High}
-use Rattle.version_groups_candidates.specs.Ranges.{End, cut_at, with_lead, led_by, is_low, tightest, bounded}
+use Rattle.version_groups_candidates.specs.Ranges.{End, cut_at, with_lead, led_by, is_low, tightest}
+use Rattle.version_groups_candidates.specs.Ranges.{bounded}
 use Rattle.version_groups_candidates.specs.Ranges.{low_cut, high_cut}
 use Rattle.version_groups_candidates.proofs.RangeEnds.{hit_within, no_end}
 

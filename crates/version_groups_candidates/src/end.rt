@@ -3,8 +3,10 @@
 ghost use Rattle.std.specs.Prelude.{◌≡◌, ◌++◌, not, map, None, [], ◌∷◌, IfOk};
 ghost use Rattle.cond_expr.specs.Seen.{test, tests_of};
 ghost use Rattle.cond_expr.specs.Parts.{parts, all_parts};
-ghost use Rattle.version_groups_candidates.specs.Ranges.{cut_at, with_lead, is_low, end_of, leaves_fewer};
-ghost use Rattle.version_groups_candidates.specs.Ranges.{tighter, tightest, bounded, without_it, with_it};
+ghost use Rattle.version_groups_candidates.specs.Ranges.{cut_at, with_lead, is_low, end_of};
+ghost use Rattle.version_groups_candidates.specs.Ranges.{leaves_fewer};
+ghost use Rattle.version_groups_candidates.specs.Ranges.{tighter, tightest, bounded, without_it};
+ghost use Rattle.version_groups_candidates.specs.Ranges.{with_it};
 
 use cond_expr::{CmpOp, Column, Cond, pinned};
 use history_store::Cut;

@@ -11,7 +11,8 @@ ghost use Rattle.cond_expr.specs.AtomColumns.{columns_at};
 ghost use Rattle.cond_expr.specs.Seen.{test};
 ghost use Rattle.cond_expr.specs.Trees.{Test};
 ghost use Rattle.smo_ops_spec.specs.OneRow.{meets};
-ghost use Rattle.version_groups_candidates.specs.Filters.{ColumnTest as PlainTest, lets, passes, IsFilter};
+ghost use Rattle.version_groups_candidates.specs.Filters.{ColumnTest as PlainTest, lets, passes};
+ghost use Rattle.version_groups_candidates.specs.Filters.{IsFilter};
 
 use cond_expr::{CmpOp, Column, Cond, decide, pinned};
 use history_store::BorrowedRows;

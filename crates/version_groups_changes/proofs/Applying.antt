@@ -5,8 +5,10 @@ use Rattle.std.specs.Prelude.{not, Some, None, ◌⊎◌, Option, if◌then◌el
 use Rattle.std.specs.Borrow.{Bor}
 use Rattle.relations_spec.specs.Sets.{In, Ascends, has, set_of}
 use Rattle.relations_spec.specs.Spans.{Span, forever}
-use Rattle.relations_spec.proofs.SetLaws.{in_filter, from_filter, in_append, in_left, in_right, in_set}
-use Rattle.relations_spec.proofs.SetLaws.{from_set, set_same, set_ascends, set_itself, one_list, in_has}
+use Rattle.relations_spec.proofs.SetLaws.{in_filter, from_filter, in_append, in_left, in_right}
+use Rattle.relations_spec.proofs.SetLaws.{in_set}
+use Rattle.relations_spec.proofs.SetLaws.{from_set, set_same, set_ascends, set_itself, one_list}
+use Rattle.relations_spec.proofs.SetLaws.{in_has}
 use Rattle.relations_spec.proofs.SetLaws.{has_in, has_not}
 use Rattle.prima_base.specs.Order.{row_cmp}
 use Rattle.prima_base.specs.OrderLaws.{row_exact}

@@ -2,7 +2,8 @@
 use Rattle.std.proofs.Common.{◌≡◌, false, List, ◌++◌, ap, ◌∙◌, inl, inr}
 use Rattle.std.specs.Prelude.{not}
 use Rattle.relations_spec.specs.Sets.{In, has, set_of}
-use Rattle.relations_spec.proofs.SetLaws.{in_filter, from_filter, in_append, in_left, in_right, in_set}
+use Rattle.relations_spec.proofs.SetLaws.{in_filter, from_filter, in_append, in_left, in_right}
+use Rattle.relations_spec.proofs.SetLaws.{in_set}
 use Rattle.relations_spec.proofs.SetLaws.{from_set, set_ascends, one_list, in_has, has_in}
 use Rattle.prima_base.specs.Order.{row_cmp}
 use Rattle.prima_base.specs.OrderLaws.{row_exact}

@@ -18,9 +18,11 @@ use Rattle.history_store.specs.Cuts.{Cut, is_before}
 use Rattle.history_store.specs.Handing.{is_value, at_column}
 use Rattle.smo_ops_spec.specs.OneRow.{Row, Relation}
 use Rattle.version_groups_candidates.specs.Ranges.{cut_at}
-use Rattle.version_groups_changes.specs.Overlay.{Known, known_hits, HaveKnownHits, AreLed, led_by, led_of}
+use Rattle.version_groups_changes.specs.Overlay.{Known, known_hits, HaveKnownHits, AreLed, led_by}
+use Rattle.version_groups_changes.specs.Overlay.{led_of}
 use Rattle.version_groups_changes.specs.Overlay.{IsToldLed, Led, IsToldToo}
-use Rattle.version_groups_changes.proofs.OverlayLaws.{found_in, in_found, picked_is, is_picked, and_true}
+use Rattle.version_groups_changes.proofs.OverlayLaws.{found_in, in_found, picked_is, is_picked}
+use Rattle.version_groups_changes.proofs.OverlayLaws.{and_true}
 use Rattle.version_groups_changes.proofs.OverlayLaws.{from_cut, both, never}
 
 -- ---- the rows between the cuts

@@ -22,7 +22,8 @@ use Rattle.history_store_row_order.proofs.Cutting.{before_less}
 use Rattle.smo_ops_spec.specs.OneRow.{Row, Relation}
 use Rattle.smo_ops_spec.specs.Effects.{gained_rows}
 use Rattle.smo_ops_spec.proofs.RelationLaws.{put_is_set, filter_ascends}
-use Rattle.version_groups_changes.specs.Overlay.{Known, told, is_kept, LeadsTo, lost_by_now, gained_by_now}
+use Rattle.version_groups_changes.specs.Overlay.{Known, told, is_kept, LeadsTo, lost_by_now}
+use Rattle.version_groups_changes.specs.Overlay.{gained_by_now}
 use Rattle.version_groups_candidates.specs.Candidates.{HaveHits}
 use Rattle.version_groups_changes.specs.Overlay.{HaveKnownHits, AreHits}
 use Rattle.version_groups_changes.proofs.Applying.{not_true, not_of}

@@ -12,7 +12,8 @@ ghost use Rattle.prima_base.specs.Order.{row_cmp};
 ghost use Rattle.prima_base.specs.declared.value.Value.{Value as OneValue};
 ghost use Rattle.cond_expr.specs.Seen.{test};
 ghost use Rattle.smo_ops_spec.specs.OneRow.{meets};
-ghost use Rattle.version_groups_changes.specs.Overlay.{known_hits, range_hits, led_of, Led, IsToldLed};
+ghost use Rattle.version_groups_changes.specs.Overlay.{known_hits, range_hits, led_of, Led};
+ghost use Rattle.version_groups_changes.specs.Overlay.{IsToldLed};
 ghost use Rattle.version_groups_changes.specs.Overlay.{IsToldToo, IsPinnedRange};
 
 use crate::row_value::{copy_values, lend_values, put_values};

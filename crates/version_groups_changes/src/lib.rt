@@ -3,7 +3,8 @@
 //! INSERTs alone are rows that the table gets too. Else the changes are carried out one after the
 //! other over what is stored, and what they come to is kept as the rows by which the table differs
 //! from that (`overlay`). An UPDATE or DELETE looks at rows among which are all that can meet its
-//! condition, and passes over those that fail a test of one of its columns (version_groups_candidates).
+//! condition, and passes over those that fail a test of one of its columns
+//! (version_groups_candidates).
 #![tactic(auto)]
 
 mod change;

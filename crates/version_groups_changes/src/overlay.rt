@@ -26,7 +26,8 @@ ghost use Rattle.smo_ops_spec.specs.OneRow.{Row as OneRow, Relation, meets, row_
 ghost use Rattle.smo_ops_spec.specs.Effects.{relation_after, gained_rows};
 ghost use Rattle.smo_ops_spec.specs.Inserting.{relation_after_each};
 ghost use Rattle.version_groups_changes.specs.Changing.{AreAccepted, borrowed_changes};
-ghost use Rattle.version_groups_changes.specs.Overlay.{told, is_kept, LeadsTo, AreHits, lost_by_now};
+ghost use Rattle.version_groups_changes.specs.Overlay.{told, is_kept, LeadsTo, AreHits};
+ghost use Rattle.version_groups_changes.specs.Overlay.{lost_by_now};
 ghost use Rattle.version_groups_changes.specs.Overlay.{gained_by_now};
 
 use crate::known_row::KnownRows;

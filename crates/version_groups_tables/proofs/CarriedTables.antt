@@ -24,14 +24,17 @@ use Rattle.smo_maps.specs.Carrying.{Has}
 use Rattle.version_groups_tables.specs.declared.made_table.MadeTable.{MadeTable}
 use Rattle.version_groups_tables.specs.Stored.{stored_as}
 use Rattle.version_groups_tables.specs.Becoming.{Begins}
-use Rattle.version_groups_tables.specs.NewestTables.{IsStoredEntry, AreStored, rows_stored, MadeRows}
-use Rattle.version_groups_tables.specs.NewestTables.{is_name, is_made, next_rows, FitNext, IsStoredBefore}
+use Rattle.version_groups_tables.specs.NewestTables.{IsStoredEntry, AreStored, rows_stored}
+use Rattle.version_groups_tables.specs.NewestTables.{MadeRows}
+use Rattle.version_groups_tables.specs.NewestTables.{is_name, is_made, next_rows, FitNext}
+use Rattle.version_groups_tables.specs.NewestTables.{IsStoredBefore}
 use Rattle.version_groups_tables.specs.NewestTables.{OthersStay}
 use Rattle.version_groups_tables.specs.Evolving.{AreNext, BeginsEntry}
 use Rattle.version_groups_tables.specs.Places.{at_places}
 use Rattle.version_groups_tables.specs.Beginning.{BeginsWith, BeginInOrder}
 use Rattle.version_groups_tables.proofs.LifelinesEnded.{among_these}
-use Rattle.version_groups_tables.proofs.PlacedTables.{filter_alike, listed_in, begin_alike, placed_alike}
+use Rattle.version_groups_tables.proofs.PlacedTables.{filter_alike, listed_in, begin_alike}
+use Rattle.version_groups_tables.proofs.PlacedTables.{placed_alike}
 
 not_named : (name a : List ℕ) (names : List (List ℕ)) → same a name ≡ false
     → among name names ≡ false → among name (a ∷ names) ≡ false

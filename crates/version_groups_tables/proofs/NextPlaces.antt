@@ -16,7 +16,8 @@ use Rattle.version_groups_tables.specs.Places.{with_table, at_places, AreWithin,
 use Rattle.version_groups_tables.specs.NewestTables.{MadeRows, is_name, next_rows, rows_stored}
 use Rattle.version_groups_tables.specs.NewestTables.{IsStoredBefore}
 use Rattle.version_groups_tables.specs.Stored.{stored_as}
-use Rattle.version_groups_tables.proofs.Places.{at_more, at_last, got_more, places_within, more_within}
+use Rattle.version_groups_tables.proofs.Places.{at_more, at_last, got_more, places_within}
+use Rattle.version_groups_tables.proofs.Places.{more_within}
 use Rattle.version_groups_tables.proofs.StillStored.{goes_on}
 
 -- the last of a list

@@ -25,7 +25,8 @@ ghost use Rattle.version_groups_tables.specs.Beginning.{BeginsWith};
 ghost use Rattle.version_groups_tables.specs.NewestTables.{AreStored, is_name, is_made, next_rows};
 ghost use Rattle.version_groups_tables.specs.NewestTables.{FitNext, IsStoredBefore, OthersStay};
 ghost use Rattle.version_groups_tables.specs.MadeRows.{made_rows};
-ghost use Rattle.version_groups_tables.specs.Evolving.{AreEarlier, rows_named, AreNext, IsNextTable};
+ghost use Rattle.version_groups_tables.specs.Evolving.{AreEarlier, rows_named, AreNext};
+ghost use Rattle.version_groups_tables.specs.Evolving.{IsNextTable};
 ghost use Rattle.version_groups_tables.specs.Evolving.{IsBegun, Comes, IsEvolved};
 
 use crate::made_table::{MadeTable, find_stored, kept_table};

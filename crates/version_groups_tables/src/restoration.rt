@@ -13,7 +13,8 @@ ghost use Rattle.smo_ops_operators.specs.Names.{is_one_of};
 ghost use Rattle.version_groups_tables.specs.Stored.{stored_as, stored_names};
 ghost use Rattle.version_groups_tables.specs.Places.{at_places, AreWithin};
 ghost use Rattle.version_groups_tables.specs.Evolving.{ComeNext, IsNextTable, IsBegun, Comes};
-ghost use Rattle.version_groups_tables.specs.Restoring.{stores_of, HaveColumns, with_made, BeginsOver};
+ghost use Rattle.version_groups_tables.specs.Restoring.{stores_of, HaveColumns, with_made};
+ghost use Rattle.version_groups_tables.specs.Restoring.{BeginsOver};
 ghost use Rattle.version_groups_tables.specs.Restoring.{HasColumns, IsStored, OthersAre};
 
 use crate::evolution::{NextTables, put_begun};

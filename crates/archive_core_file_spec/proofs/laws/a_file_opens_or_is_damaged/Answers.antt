@@ -1,4 +1,5 @@
-use Rattle.archive_core_file_spec.proofs.Files.{opens_or_damaged, opens_once, damaged_once, never_both}
+use Rattle.archive_core_file_spec.proofs.Files.{opens_or_damaged, opens_once, damaged_once}
+use Rattle.archive_core_file_spec.proofs.Files.{never_both}
 use Rattle.archive_core_file_spec.proofs.laws.a_file_opens_or_is_damaged.Goals as goal
 
 pub returns-clause-some : goal.returns-clause-some

@@ -1,5 +1,7 @@
-use Rattle.archive_core_file_spec.proofs.Records.{after_append, after_commands, after_image, accepted_append}
-use Rattle.archive_core_file_spec.proofs.Records.{accepted_commands, accepted_image, counted, replayed_after}
+use Rattle.archive_core_file_spec.proofs.Records.{after_append, after_commands, after_image}
+use Rattle.archive_core_file_spec.proofs.Records.{accepted_append}
+use Rattle.archive_core_file_spec.proofs.Records.{accepted_commands, accepted_image, counted}
+use Rattle.archive_core_file_spec.proofs.Records.{replayed_after}
 use Rattle.archive_core_file_spec.proofs.Records.{from_image}
 use Rattle.archive_core_file_spec.proofs.laws.records_go_on.Goals as goal
 

@@ -1,5 +1,6 @@
 use Rattle.smo_ops_spec.specs.Past.{beginning}
-use Rattle.archive_core_file_spec.proofs.Records.{sound_history, sound_past, sound_accepted, sound_prefix}
+use Rattle.archive_core_file_spec.proofs.Records.{sound_history, sound_past, sound_accepted}
+use Rattle.archive_core_file_spec.proofs.Records.{sound_prefix}
 use Rattle.archive_core_file_spec.proofs.Records.{sound_append}
 use Rattle.archive_core_file_spec.proofs.laws.sound_records_are_a_history.Goals as goal
 

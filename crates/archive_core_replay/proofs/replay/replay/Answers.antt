@@ -12,7 +12,8 @@ use Rattle.smo_ops_types.specs.Commands.{command_of}
 use Rattle.smo_ops_spec.specs.History.{past_after}
 use Rattle.archive_core_replay.specs.declared.fault.RestoreFault.TheVariants.{Damaged}
 use Rattle.archive_core_replay.specs.Replaying.{IsReplayed}
-use Rattle.archive_core_replay.proofs.Replayed.{one_more_replayed, stopped, told_damage, all_replayed}
+use Rattle.archive_core_replay.proofs.Replayed.{one_more_replayed, stopped, told_damage}
+use Rattle.archive_core_replay.proofs.Replayed.{all_replayed}
 use Rattle.archive_core_replay.proofs.Replayed.{pair_at, pairs}
 use Rattle.archive_core_replay.proofs.replay.replay.Goals as goal
 

@@ -1,6 +1,7 @@
 use Rattle.std.proofs.lemmas.Result.{err_from_is_err_and}
 use Rattle.command_codec_spec.specs.Reader.{set, sets}
-use Rattle.command_codec_checker.proofs.ListSteps.{none_passed, one_passed, one_listed_halts, all_listed}
+use Rattle.command_codec_checker.proofs.ListSteps.{none_passed, one_passed, one_listed_halts}
+use Rattle.command_codec_checker.proofs.ListSteps.{all_listed}
 use Rattle.command_codec_checker.proofs.command.check_sets.Goals as goal
 
 pub loop-init : goal.loop-init

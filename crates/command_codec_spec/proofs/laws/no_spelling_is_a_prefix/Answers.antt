@@ -1,6 +1,7 @@
 use Rattle.prima_base.specs.Bytes.{IsName}
 use Rattle.prima_base.specs.Columns.{IsValid}
-use Rattle.command_codec_spec.specs.Spelling.{name_bytes, value_bytes, operator_bytes, command_bytes}
+use Rattle.command_codec_spec.specs.Spelling.{name_bytes, value_bytes, operator_bytes}
+use Rattle.command_codec_spec.specs.Spelling.{command_bytes}
 use Rattle.command_codec_spec.specs.Valid.{IsOperator, IsCommand}
 use Rattle.command_codec_spec.specs.Reader.{name, value, operator, command}
 use Rattle.command_codec_spec.proofs.PartFormats.{name_correct, value_correct}

@@ -1,7 +1,8 @@
 use Rattle.std.proofs.Common.{◌≡◌, ◌++◌, map}
 use Rattle.std.specs.Vec.Iter.{into_iter_items}
 use Rattle.history_store.specs.Restoring.{cell_of}
-use Rattle.history_store_change_spec.specs.Restoring.{write_of, AreInTurn, ids_known, AreCellsOf, AreValidCells}
+use Rattle.history_store_change_spec.specs.Restoring.{write_of, AreInTurn, ids_known, AreCellsOf}
+use Rattle.history_store_change_spec.specs.Restoring.{AreValidCells}
 use Rattle.history_store.proofs.restoration.column_of.Given as goal
 
 abbrev pub invariant-loop-cell : goal.invariant-loop-cell

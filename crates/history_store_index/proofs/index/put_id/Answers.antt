@@ -2,7 +2,8 @@ use Rattle.std.proofs.Common.{◌≤◌, ◌-◌, ◌+◌, ◌*◌, length, sym,
 use Rattle.std.proofs.Common.{vec_capacity}
 use Rattle.history_store_index.proofs.Blocking.{was_is, put_plain, put_split, few_more, count_set}
 use Rattle.history_store_index.proofs.Blocking.{count_split, last_empty, prefix_empty, filled_one}
-use Rattle.history_store_index.proofs.Blocking.{filled_split, one_more_put, one_more_split, same_blocks}
+use Rattle.history_store_index.proofs.Blocking.{filled_split, one_more_put, one_more_split}
+use Rattle.history_store_index.proofs.Blocking.{same_blocks}
 use Rattle.history_store_index.proofs.Blocking.{one_block_less}
 use Rattle.history_store_index.specs.Blocks.{half_size}
 use Rattle.std.proofs.lemmas.Grind.{common_steps}

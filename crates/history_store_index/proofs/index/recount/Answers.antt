@@ -1,7 +1,8 @@
 use Rattle.std.proofs.Common.{arith, ◌≡◌, ◌+◌, ◌-◌, ◌<◌, ◌≤◌, [], ap, ◌∙◌, get_or, length}
 use Rattle.std.specs.List.{concat}
 use Rattle.history_store_index.specs.Blocks.{before}
-use Rattle.history_store_index.proofs.Blocking.{before_some, counted_next, counted_more, any_block, any_id}
+use Rattle.history_store_index.proofs.Blocking.{before_some, counted_next, counted_more, any_block}
+use Rattle.history_store_index.proofs.Blocking.{any_id}
 use Rattle.history_store_index.proofs.index.recount.Goals as goal
 
 pub overflow_add-index : goal.overflow_add-index

@@ -5,7 +5,8 @@ use Rattle.std.proofs.lemmas.List.{nil_from_length}
 use Rattle.history_store_row_order.specs.Logs.{cells_of}
 use Rattle.history_store_value_order.proofs.Places.{in_get}
 use Rattle.history_store_row_order.proofs.Splicing.{no_place, has_place}
-use Rattle.history_store_row_order.proofs.Coming.{fresh_first, fresh_passed, fresh_more, fresh_joined}
+use Rattle.history_store_row_order.proofs.Coming.{fresh_first, fresh_passed, fresh_more}
+use Rattle.history_store_row_order.proofs.Coming.{fresh_joined}
 use Rattle.history_store_row_order.proofs.index_splice.fresh_places.Goals as goal
 
 pub loop-row-init : goal.loop-row-init

@@ -7,7 +7,8 @@ use Rattle.history_store_row_order.specs.Rows.{AllWidth}
 use Rattle.relations_spec.specs.Sets.{In}
 use Rattle.history_store_value_order.proofs.Places.{in_get}
 use Rattle.history_store_row_order.proofs.SideBySide.{taken}
-use Rattle.history_store_row_order.proofs.Places.{ArePlaces, places_first, not_below, places_next, places_all}
+use Rattle.history_store_row_order.proofs.Places.{ArePlaces, places_first, not_below, places_next}
+use Rattle.history_store_row_order.proofs.Places.{places_all}
 use Rattle.history_store_row_order.proofs.index_splice.lost_places.Goals as goal
 
 pub found_in-at-requires-clause-there : goal.found_in-at-requires-clause-there

@@ -7,7 +7,8 @@ use Rattle.history_store_row_order.specs.Logs.{cells_of}
 use Rattle.history_store_row_order.specs.Rows.{AllWidth}
 use Rattle.history_store_row_order.specs.Handing.{handed, id_by, lost_by, next_by}
 use Rattle.history_store_row_order.proofs.SideBySide.{taken}
-use Rattle.history_store_row_order.proofs.Splicing.{IsPut, put_first, put_next, put_all, all_low, all_high}
+use Rattle.history_store_row_order.proofs.Splicing.{IsPut, put_first, put_next, put_all, all_low}
+use Rattle.history_store_row_order.proofs.Splicing.{all_high}
 use Rattle.history_store_row_order.proofs.Splicing.{handed_next}
 use Rattle.history_store_row_order.proofs.index_splice.put_in.Goals as goal
 

@@ -6,7 +6,8 @@ use Rattle.relations_spec.proofs.SetLaws.{in_right}
 use Rattle.history_store_row_order.specs.Logs.{cells_of}
 use Rattle.history_store_row_order.specs.Rows.{AllWidth}
 use Rattle.history_store_row_order.proofs.SideBySide.{taken}
-use Rattle.history_store_row_order.proofs.Splicing.{IsTaken, rise_back, parted, taken_next, taken_all}
+use Rattle.history_store_row_order.proofs.Splicing.{IsTaken, rise_back, parted, taken_next}
+use Rattle.history_store_row_order.proofs.Splicing.{taken_all}
 use Rattle.history_store_row_order.proofs.index_splice.take_out.Goals as goal
 
 pub found_place-at-requires-clause-known : goal.found_place-at-requires-clause-known

@@ -7,9 +7,12 @@ use Rattle.std.specs.Prelude.{Some, None}
 use Rattle.std.specs.declared.cmp.Ordering.TheVariants.{Less, Equal, Greater}
 use Rattle.history_store_row_order.specs.Logs.{cells_of}
 use Rattle.history_store_row_order.specs.Rows.{row_now}
-use Rattle.history_store_row_order.specs.Handing.{lost_ids, first_order, owners, no_owners, gained_rows}
-use Rattle.history_store_row_order.proofs.SideBySide.{live_rises, rows_rises, step_less, step_equal, step_greater}
-use Rattle.history_store_row_order.proofs.SideBySide.{less_steps, equal_steps, new_steps, wide_rest, not_at_end}
+use Rattle.history_store_row_order.specs.Handing.{lost_ids, first_order, owners, no_owners}
+use Rattle.history_store_row_order.specs.Handing.{gained_rows}
+use Rattle.history_store_row_order.proofs.SideBySide.{live_rises, rows_rises, step_less, step_equal}
+use Rattle.history_store_row_order.proofs.SideBySide.{step_greater}
+use Rattle.history_store_row_order.proofs.SideBySide.{less_steps, equal_steps, new_steps, wide_rest}
+use Rattle.history_store_row_order.proofs.SideBySide.{not_at_end}
 use Rattle.history_store_row_order.proofs.SideBySide.{appended, taken, none_left}
 use Rattle.history_store_row_order.proofs.walk.find_difference.Goals as goal
 

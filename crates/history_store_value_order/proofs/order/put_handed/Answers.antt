@@ -3,7 +3,8 @@ use Rattle.std.proofs.Common.{inl, inr}
 use Rattle.std.proofs.lemmas.Grind.{common_steps}
 use Rattle.relations_spec.specs.Sets.{In}
 use Rattle.history_store_value_order.specs.ByValue.{ids_handed, IsWith}
-use Rattle.history_store_value_order.proofs.Marks.{more_with, taken_more, taken_in, all_taken, at_place, not_yet}
+use Rattle.history_store_value_order.proofs.Marks.{more_with, taken_more, taken_in, all_taken}
+use Rattle.history_store_value_order.proofs.Marks.{at_place, not_yet}
 use Rattle.history_store_value_order.proofs.Marks.{length-handed}
 use Rattle.history_store_value_order.proofs.order.put_handed.Goals as goal
 

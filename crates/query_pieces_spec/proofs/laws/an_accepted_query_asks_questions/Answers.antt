@@ -1,4 +1,5 @@
-use Rattle.query_pieces_spec.proofs.ReadByPieces.{is_lasting, enough_asked, pushed_enough, items_kept}
+use Rattle.query_pieces_spec.proofs.ReadByPieces.{is_lasting, enough_asked, pushed_enough}
+use Rattle.query_pieces_spec.proofs.ReadByPieces.{items_kept}
 use Rattle.query_pieces_spec.proofs.laws.an_accepted_query_asks_questions.Goals as goal
 
 pub returns-clause-lasting : goal.returns-clause-lasting

@@ -9,8 +9,10 @@ use Rattle.script_cli_statement.specs.Halts.{HaltCounted}
 use Rattle.script_cli_statement.specs.Responses.{Responds}
 use Rattle.script_cli_statement.proofs.OnePut.{put_one}
 use Rattle.script_cli_statement.proofs.Responding.{stored_responds, refused_responds}
-use Rattle.script_cli_statement.proofs.Responding.{checkpoint_fault_here, stands_stored, stands_still}
-use Rattle.script_cli_statement.proofs.Responding.{untouched_between, puts_itself, still_takes, on_ok}
+use Rattle.script_cli_statement.proofs.Responding.{checkpoint_fault_here, stands_stored}
+use Rattle.script_cli_statement.proofs.Responding.{stands_still}
+use Rattle.script_cli_statement.proofs.Responding.{untouched_between, puts_itself, still_takes}
+use Rattle.script_cli_statement.proofs.Responding.{on_ok}
 use Rattle.script_cli_statement.proofs.Responding.{halt_counted}
 use Rattle.script_cli_statement.proofs.checkpoint.respond_checkpoint.Goals as goal
 

@@ -6,7 +6,8 @@ use Rattle.temporal_lang_types.specs.Queries.{query_of}
 use Rattle.temporal_lang_spec.specs.Accepted.{version_fault, fault_of_query}
 use Rattle.script_parse.specs.Statements.{statement_of}
 use Rattle.script_cli_statement.specs.Replies.{Recorded, query_reply, explain_reply, versions_reply}
-use Rattle.script_cli_statement.specs.Replies.{schema_reply, sizes_reply, statement_reply, refused_or}
+use Rattle.script_cli_statement.specs.Replies.{schema_reply, sizes_reply, statement_reply}
+use Rattle.script_cli_statement.specs.Replies.{refused_or}
 use Rattle.script_cli_statement.specs.Replies.{answered}
 use Rattle.script_cli_statement.specs.Responses.{Says, Responds}
 use Rattle.script_cli_statement.proofs.Responding.{says_responds, halt_said, on_ok}

@@ -1,4 +1,5 @@
-use Rattle.smo_ops_versions_spec.proofs.WholeDatabases.{kept_at, emptied_at, whole_database, whole_commutes}
+use Rattle.smo_ops_versions_spec.proofs.WholeDatabases.{kept_at, emptied_at, whole_database}
+use Rattle.smo_ops_versions_spec.proofs.WholeDatabases.{whole_commutes}
 use Rattle.smo_ops_versions_spec.proofs.way_laws.a_lost_table_may_be_taken_for_an_empty_one.Goals as goal
 
 pub returns-clause-kept : goal.returns-clause-kept

@@ -3,7 +3,8 @@ use Rattle.std.specs.FinMap.{get}
 use Rattle.smo_ops_spec.specs.Past.{no_tables, tables_from}
 use Rattle.smo_ops_versions_spec.specs.Migration.{of_databases}
 use Rattle.smo_ops_versions_spec.specs.LostNames.{of_losses}
-use Rattle.smo_ops_versions_spec.proofs.OneSteps.{over_is, named_is, unnamed_is, consumed_lost, made_gone}
+use Rattle.smo_ops_versions_spec.proofs.OneSteps.{over_is, named_is, unnamed_is, consumed_lost}
+use Rattle.smo_ops_versions_spec.proofs.OneSteps.{made_gone}
 use Rattle.smo_ops_versions_spec.proofs.OneSteps.{others_stay}
 use Rattle.smo_ops_versions_spec.proofs.way_laws.a_step_is_over_its_version.Goals as goal
 

@@ -1,4 +1,5 @@
-use Rattle.smo_ops_versions_spec.proofs.WayDatabases.{migrated_database, carry_database, back_over_database}
+use Rattle.smo_ops_versions_spec.proofs.WayDatabases.{migrated_database, carry_database}
+use Rattle.smo_ops_versions_spec.proofs.WayDatabases.{back_over_database}
 use Rattle.smo_ops_versions_spec.proofs.way_laws.the_way_keeps_a_database.Goals as goal
 
 pub returns-clause-way : goal.returns-clause-way

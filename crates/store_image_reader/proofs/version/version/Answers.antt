@@ -6,7 +6,8 @@ use Rattle.command_codec_spec.specs.Reader.{number_64, operator, operators}
 use Rattle.store_image_spec.specs.Judged.{is_version}
 use Rattle.store_image_spec.specs.Reader.{version, evolution, version_after}
 use Rattle.store_image_reader.specs.NextVersion.{newest_stamp, version_read}
-use Rattle.store_image_reader.proofs.ItemSteps.{judged_got, judged_wrong, judged_fails, counted_fails}
+use Rattle.store_image_reader.proofs.ItemSteps.{judged_got, judged_wrong, judged_fails}
+use Rattle.store_image_reader.proofs.ItemSteps.{counted_fails}
 use Rattle.store_image_reader.proofs.version.version.Goals as goal
 
 pub returns-in-Some : goal.returns-in-Some

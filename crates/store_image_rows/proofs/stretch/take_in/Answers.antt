@@ -3,7 +3,8 @@ use Rattle.std.proofs.Common.{arith}
 use Rattle.prima_base.specs.Order.{shown}
 use Rattle.store_image_rows.specs.declared.stretch.Stretch.{Stretch}
 use Rattle.store_image_rows.specs.Cells.{cell_seen}
-use Rattle.store_image_rows.specs.Stretches.{stretch_of, row_stretches, longer, begun, ended_by, given}
+use Rattle.store_image_rows.specs.Stretches.{stretch_of, row_stretches, longer, begun, ended_by}
+use Rattle.store_image_rows.specs.Stretches.{given}
 use Rattle.store_image_rows.specs.Stretches.{left_by}
 use Rattle.store_image_rows.proofs.ListPlaces.{same_got, dropped_set, dropped_after}
 use Rattle.store_image_rows.proofs.Walking.{splits_given, splits_left, meets_given, meets_left}

@@ -1,4 +1,5 @@
-use Rattle.version_groups_candidates.proofs.RangeLaws.{hit_not_below, hit_not_above, low_narrow, high_narrow}
+use Rattle.version_groups_candidates.proofs.RangeLaws.{hit_not_below, hit_not_above, low_narrow}
+use Rattle.version_groups_candidates.proofs.RangeLaws.{high_narrow}
 use Rattle.version_groups_candidates.proofs.range.hits_are_between_the_cuts.Goals as goal
 
 pub returns : goal.returns

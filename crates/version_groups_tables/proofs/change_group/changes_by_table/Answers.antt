@@ -1,6 +1,7 @@
 use Rattle.smo_ops_types.specs.Changes.{changes_of}
 use Rattle.std.proofs.Common.{take}
-use Rattle.version_groups_tables.proofs.ChangeGroups.{stands_here, place_within_groups, next_grouped}
+use Rattle.version_groups_tables.proofs.ChangeGroups.{stands_here, place_within_groups}
+use Rattle.version_groups_tables.proofs.ChangeGroups.{next_grouped}
 use Rattle.version_groups_tables.proofs.change_group.changes_by_table.Goals as goal
 
 pub bounds-places-i : goal.bounds-places-i

@@ -13,7 +13,8 @@ use Rattle.version_groups_tables.specs.Places.{at_places}
 use Rattle.version_groups_tables.proofs.MadeBy.{none_by, one_by, among_at}
 use Rattle.version_groups_tables.proofs.Places.{at_count, at_get, at_set, place_in, place_within}
 use Rattle.version_groups_tables.proofs.Places.{places_within, apart_by_names}
-use Rattle.version_groups_tables.proofs.TablesInTurn.{MadeTo, none_made, one_made, next_left, no_more}
+use Rattle.version_groups_tables.proofs.TablesInTurn.{MadeTo, none_made, one_made, next_left}
+use Rattle.version_groups_tables.proofs.TablesInTurn.{no_more}
 use Rattle.version_groups_tables.proofs.TablesInTurn.{room_before}
 use Rattle.version_groups_tables.proofs.changed_table.install_tables.Goals as goal
 

@@ -11,10 +11,12 @@ use Rattle.version_groups_tables.specs.Changing.{IsChangeable, rows_now, rows_af
 use Rattle.version_groups_tables.specs.Grouping.{of_table, by_table}
 use Rattle.version_groups_tables.specs.Places.{at_places}
 use Rattle.version_groups_tables.proofs.ChangeGroups.{as_many_tables, own_changes}
-use Rattle.version_groups_tables.proofs.Places.{at_count, at_get, at_set, place_within, places_within}
+use Rattle.version_groups_tables.proofs.Places.{at_count, at_get, at_set, place_within}
+use Rattle.version_groups_tables.proofs.Places.{places_within}
 use Rattle.version_groups_tables.proofs.Places.{apart_by_names, none_same, set_again}
 use Rattle.version_groups_tables.proofs.SchemaTables.{same_names, as_many_as, columns_at}
-use Rattle.version_groups_tables.proofs.TablesInTurn.{ReadyTo, none_ready, one_ready, was, gained_is}
+use Rattle.version_groups_tables.proofs.TablesInTurn.{ReadyTo, none_ready, one_ready, was}
+use Rattle.version_groups_tables.proofs.TablesInTurn.{gained_is}
 use Rattle.version_groups_tables.proofs.TablesInTurn.{lost_is, are_ready}
 use Rattle.version_groups_tables.proofs.changed_table.prepare_tables.Goals as goal
 

@@ -11,7 +11,8 @@ use Rattle.version_groups_tables.specs.Ending.{AreEnding, table_after}
 use Rattle.version_groups_tables.specs.Places.{at_places}
 use Rattle.version_groups_tables.specs.NewestTables.{is_name}
 use Rattle.version_groups_tables.specs.Stored.{stored_names}
-use Rattle.version_groups_tables.proofs.LifelinesEnded.{names_still, are_ending, still_ending, among_these}
+use Rattle.version_groups_tables.proofs.LifelinesEnded.{names_still, are_ending, still_ending}
+use Rattle.version_groups_tables.proofs.LifelinesEnded.{among_these}
 use Rattle.version_groups_tables.proofs.LifelinesEnded.{both_end}
 use Rattle.version_groups_tables.proofs.ended_lifeline.end_consumed.Goals as goal
 

@@ -8,10 +8,12 @@ use Rattle.version_groups_tables.specs.MadeRows.{made_rows}
 use Rattle.version_groups_tables.specs.Places.{at_places}
 use Rattle.version_groups_tables.specs.Beginning.{BeginsWith}
 use Rattle.version_groups_tables.specs.NewestTables.{is_made, next_rows}
-use Rattle.version_groups_tables.proofs.BegunTables.{listed_there, next_begun, all_begun, begun_ordered}
+use Rattle.version_groups_tables.proofs.BegunTables.{listed_there, next_begun, all_begun}
+use Rattle.version_groups_tables.proofs.BegunTables.{begun_ordered}
 use Rattle.version_groups_tables.proofs.BegunTables.{begun_each}
 use Rattle.version_groups_tables.proofs.NextPlaces.{placed_more, within_more}
-use Rattle.version_groups_tables.proofs.PlacedTables.{comes_under, next_coming, all_coming, all_placed}
+use Rattle.version_groups_tables.proofs.PlacedTables.{comes_under, next_coming, all_coming}
+use Rattle.version_groups_tables.proofs.PlacedTables.{all_placed}
 use Rattle.version_groups_tables.proofs.evolution.next_tables.Goals as goal
 
 pub next_place-requires-clause-relation : goal.next_place-requires-clause-relation

@@ -1,7 +1,8 @@
 use Rattle.std.proofs.Common.{◌+◌, ◌∙◌, arith, drop, get_or, length, refl, sym}
 use Rattle.std.proofs.lemmas.Bool.Decides.{nat_tests}
 use Rattle.std.proofs.lemmas.Option.{slice_get_read, slice_get_past}
-use Rattle.version_groups_tables.proofs.NextPlaces.{found_here, found_after, none_here, next_in_turn}
+use Rattle.version_groups_tables.proofs.NextPlaces.{found_here, found_after, none_here}
+use Rattle.version_groups_tables.proofs.NextPlaces.{next_in_turn}
 use Rattle.version_groups_tables.proofs.Places.{place_in}
 use Rattle.version_groups_tables.proofs.made_table.find_table.Goals as goal
 use Rattle.version_groups_tables.proofs.made_table.find_table.Goals.{in-Some+else-eq, in_default}

@@ -7,7 +7,8 @@ use Rattle.prima_base.specs.Columns.{Column}
 use Rattle.version_groups_tables.specs.Places.{at_places}
 use Rattle.smo_ops_operators.specs.Names.{is_one_of}
 use Rattle.version_groups_tables.specs.Restoring.{BeginsOver, HasColumns}
-use Rattle.version_groups_tables.proofs.BegunTables.{listed_there, next_begun, all_begun, begun_ordered}
+use Rattle.version_groups_tables.proofs.BegunTables.{listed_there, next_begun, all_begun}
+use Rattle.version_groups_tables.proofs.BegunTables.{begun_ordered}
 use Rattle.version_groups_tables.proofs.BegunTables.{begun_each}
 use Rattle.version_groups_tables.proofs.NextPlaces.{placed_more, within_more}
 use Rattle.version_groups_tables.proofs.PlacedTables.{next_coming, all_coming, all_placed}

@@ -6,7 +6,8 @@ use Rattle.journal.specs.Reading.{record_of}
 use Rattle.archive_core_state.specs.ArchiveContents.{RepresentsPast}
 use Rattle.archive_core_replay.specs.declared.record_reader.ReadRecords.{ReadRecords}
 use Rattle.archive_core_replay.specs.Reading.{AreJudged, AreKept}
-use Rattle.archive_core_replay.proofs.ReadRecords.{command_judged, kept_judged, command_kept, image_kept}
+use Rattle.archive_core_replay.proofs.ReadRecords.{command_judged, kept_judged, command_kept}
+use Rattle.archive_core_replay.proofs.ReadRecords.{image_kept}
 use Rattle.archive_core_replay.proofs.ReadRecords.{other_kind}
 use Rattle.archive_core_replay.proofs.record_reader.ReadRecords.read.Goals as goal
 

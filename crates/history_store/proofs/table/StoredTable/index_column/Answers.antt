@@ -1,6 +1,7 @@
 use Rattle.std.proofs.Common.{◌≡◌, false, ◌<◌, ◌≤◌, ◌-◌, length, sym, ap, ◌∙◌, subst, vec_len}
 use Rattle.std.proofs.Common.{vec_capacity, [], ◌∷◌, ◌++◌}
-use Rattle.history_store_writes.specs.ValueIndexes.{indexed_columns, is_indexed, least_room, IsIndexed}
+use Rattle.history_store_writes.specs.ValueIndexes.{indexed_columns, is_indexed, least_room}
+use Rattle.history_store_writes.specs.ValueIndexes.{IsIndexed}
 use Rattle.history_store_row_order.specs.Logs.{cells_of, few_of}
 use Rattle.history_store_writes.specs.Logs.{with_index}
 use Rattle.history_store_value_order.specs.ByValue.{Distinct}

@@ -22,11 +22,14 @@ use Rattle.history_store_change_spec.proofs.Showing.{key_before}
 use Rattle.history_store_change_spec.proofs.Valid.{is_store}
 use Rattle.history_store_change_spec.proofs.Installing.{placed_then, relation_from, prepared_kept}
 use Rattle.history_store_change_spec.proofs.Installing.{prepared_cells}
-use Rattle.history_store_change_spec.proofs.Installing.{prepared_before, prepared_from, prepared_later}
+use Rattle.history_store_change_spec.proofs.Installing.{prepared_before, prepared_from}
+use Rattle.history_store_change_spec.proofs.Installing.{prepared_later}
 use Rattle.history_store_change_spec.proofs.CellCounts.{still_counted}
 use Rattle.history_store_change_spec.proofs.ValueTypes.{gained_typed}
-use Rattle.history_store_writes.proofs.Others.{same_columns, least_room_below, least_room_each, ready_each}
-use Rattle.history_store_change_spec.proofs.Keeping.{ids_are_handed, all_lost, all_ready, all_new, all_fresh}
+use Rattle.history_store_writes.proofs.Others.{same_columns, least_room_below, least_room_each}
+use Rattle.history_store_writes.proofs.Others.{ready_each}
+use Rattle.history_store_change_spec.proofs.Keeping.{ids_are_handed, all_lost, all_ready, all_new}
+use Rattle.history_store_change_spec.proofs.Keeping.{all_fresh}
 use Rattle.history_store_change_spec.proofs.Keeping.{all_apart, all_indexed}
 use Rattle.history_store_change_spec.proofs.Rule.{key_count}
 use Rattle.history_store_change_spec.proofs.Totals.{prepared_written}

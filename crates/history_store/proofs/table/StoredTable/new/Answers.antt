@@ -5,15 +5,18 @@ use Rattle.history_store.specs.Store.{Store, AreColumns, weight, relation_at}
 use Rattle.history_store_change_spec.specs.Kept.{store_of}
 use Rattle.history_store_row_order.specs.Handing.{only_in, handed}
 use Rattle.history_store_change_spec.specs.Handing.{written}
-use Rattle.history_store_change_spec.specs.Change.{IsPrepared, keys_after, cells_after, rows_along, write_rows}
+use Rattle.history_store_change_spec.specs.Change.{IsPrepared, keys_after, cells_after, rows_along}
+use Rattle.history_store_change_spec.specs.Change.{write_rows}
 use Rattle.history_store_change_spec.specs.Change.{no_cells}
 use Rattle.history_store_writes.specs.ValueIndexes.{indexed_after}
 use Rattle.history_store_writes.proofs.Others.{none_after}
 use Rattle.history_store_row_order.proofs.Cells.{length-cells_of}
 use Rattle.history_store_change_spec.proofs.CellCounts.{none_counted}
 use Rattle.history_store_change_spec.proofs.CarriedOut.{length-new_keys}
-use Rattle.history_store_change_spec.proofs.Beginning.{none_kept, none_before, none_now, all_gained, no_lost}
-use Rattle.history_store_change_spec.proofs.Beginning.{first_keys, first_cells, none_weight, first_written}
+use Rattle.history_store_change_spec.proofs.Beginning.{none_kept, none_before, none_now, all_gained}
+use Rattle.history_store_change_spec.proofs.Beginning.{no_lost}
+use Rattle.history_store_change_spec.proofs.Beginning.{first_keys, first_cells, none_weight}
+use Rattle.history_store_change_spec.proofs.Beginning.{first_written}
 use Rattle.history_store_change_spec.proofs.Beginning.{prepared_is}
 use Rattle.history_store.proofs.table.StoredTable.new.Goals as goal
 

@@ -6,7 +6,8 @@ use Rattle.history_store_writes.specs.ValueIndexes.{indexed_columns}
 use Rattle.history_store_change_spec.specs.Kept.{store_of}
 use Rattle.history_store_row_order.proofs.Cells.{length-cells_of}
 use Rattle.history_store_writes.proofs.Room.{least_rows_room}
-use Rattle.history_store_change_spec.proofs.Making.{all_wide, made_leads, made_fits, made_gained, made_lost}
+use Rattle.history_store_change_spec.proofs.Making.{all_wide, made_leads, made_fits, made_gained}
+use Rattle.history_store_change_spec.proofs.Making.{made_lost}
 use Rattle.history_store_change_spec.proofs.Preparing.{all_known}
 use Rattle.history_store.proofs.table.StoredTable.prepare.Goals as goal
 

@@ -8,7 +8,8 @@ use Rattle.history_store_columns.specs.ScanFields.{IsAt}
 use Rattle.history_store_columns.specs.StoredValues.{values_in}
 use Rattle.history_store_columns.specs.StoredWrites.{writes_in, nexts_of}
 use Rattle.history_store_columns.proofs.ColumnWrites.{write_of, length-writes_in, next_at, write_at}
-use Rattle.history_store_columns.proofs.Following.{cell_goes, scan_goes, at_goes, cell_ends, scan_ends}
+use Rattle.history_store_columns.proofs.Following.{cell_goes, scan_goes, at_goes, cell_ends}
+use Rattle.history_store_columns.proofs.Following.{scan_ends}
 use Rattle.history_store_columns.proofs.scan.CellScan.next_cell.Goals as goal
 
 abbrev none : StoredWrite

@@ -3,7 +3,8 @@ use Rattle.std.proofs.Common.{subst}
 use Rattle.relations_spec.specs.Sets.{In}
 use Rattle.prima_base.specs.declared.timed_row.TimedRow.{TimedRow}
 use Rattle.join_exec_levels.specs.Grouping.{IsNear}
-use Rattle.join_exec_levels.proofs.NearRows.{first_ended, rest_later, all_left, near_live, near_both}
+use Rattle.join_exec_levels.proofs.NearRows.{first_ended, rest_later, all_left, near_live}
+use Rattle.join_exec_levels.proofs.NearRows.{near_both}
 use Rattle.join_exec_levels.proofs.group.Run.near.Goals as goal
 use Rattle.join_exec_levels.proofs.group.Run.near.Goals.{After-deref-2, After-count_earlier-earlier}
 

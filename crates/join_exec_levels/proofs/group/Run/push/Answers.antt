@@ -5,7 +5,8 @@ use Rattle.prima_base.specs.declared.timed_row.TimedRow.{TimedRow}
 use Rattle.join_exec_levels.specs.Grouping.{EndBy, AreInTurn}
 use Rattle.join_exec_levels.proofs.NearRows.{more_ends, more_turn}
 use Rattle.join_exec_levels.proofs.group.Run.push.Goals as goal
-use Rattle.join_exec_levels.proofs.group.Run.push.Goals.{After-push_reserved-2, then-self, else-self}
+use Rattle.join_exec_levels.proofs.group.Run.push.Goals.{After-push_reserved-2, then-self}
+use Rattle.join_exec_levels.proofs.group.Run.push.Goals.{else-self}
 
 module _ (c : After-push_reserved-2) where
   rows_new : c.push_reserved-2.new.self.items ≡ c.self.inside.rows.items ++ c.args.row ∷ []

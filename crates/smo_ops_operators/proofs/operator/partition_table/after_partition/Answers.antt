@@ -7,7 +7,8 @@ use Rattle.cond_expr.specs.Seen.{test}
 use Rattle.smo_ops_types.specs.Operators.{partition_table}
 use Rattle.smo_ops_spec.specs.First.{first_refusal}
 use Rattle.smo_ops_spec.specs.Effects.{columns_of}
-use Rattle.smo_ops_spec.specs.Preconditions.{is_there, is_free, differ, test_known_in, test_typed_in}
+use Rattle.smo_ops_spec.specs.Preconditions.{is_there, is_free, differ, test_known_in}
+use Rattle.smo_ops_spec.specs.Preconditions.{test_typed_in}
 use Rattle.smo_ops_spec.specs.Preconditions.{few_tables}
 use Rattle.prima_base.specs.Faults.{IsTested}
 use Rattle.smo_ops_spec.proofs.StepLaws.{all_met}
