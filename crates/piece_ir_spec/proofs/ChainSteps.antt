@@ -16,26 +16,27 @@ use Rattle.smo_ops_spec.specs.OperatorTable.{Made, line, made_names}
 use Rattle.smo_ops_spec.specs.Touching.{makes, consumes, made_of}
 use Rattle.smo_ops_spec.specs.Losses.{IsDatabaseWithLosses, Loss, loss_of, loss_in, first_loss}
 use Rattle.smo_ops_spec.specs.After.{op_fault, schema_after, carried, IsValid}
-use Rattle.smo_ops_spec.specs.Inverses.{schema_after_each, AllOperatorsAccepted}
-use Rattle.smo_ops_spec.specs.ValidValues.{OperatorHolds, OperatorsHold, HoldsValues}
+use Rattle.smo_ops_spec.specs.ValidValues.{OperatorHolds, HoldsValues}
 use Rattle.smo_ops_spec.proofs.NameLaws.{among_in}
 use Rattle.smo_ops_spec.proofs.LossLaws.{losses_handed_on}
 use Rattle.smo_ops_spec.proofs.TouchedTables.{entry_stays, table_stays, table_gone}
-use Rattle.smo_ops_spec.proofs.NextSchemas.{next_is_valid}
 use Rattle.smo_ops_spec.proofs.CarriedDatabases.{carried_with_losses}
 use Rattle.smo_ops_spec.proofs.ValueLaws.{carried_values}
 use Rattle.smo_ops_versions_spec.specs.Whole.{whole_entry, whole}
-use Rattle.smo_ops_versions_spec.specs.Migration.{undone, carried_over}
+use Rattle.smo_ops_versions_spec.specs.Steps.{Step, carrying, undoing, tables_before, tables_behind}
+use Rattle.smo_ops_versions_spec.specs.Steps.{taken}
+use Rattle.smo_ops_versions_spec.specs.Steps.{taken_back, IsLawful, Lead, AllSteps, StepHolds}
+use Rattle.smo_ops_versions_spec.specs.Migration.{undone, stepped}
 use Rattle.smo_ops_versions_spec.proofs.WayDatabases.{unnamed_at, unmade, unnamed_database}
 use Rattle.smo_ops_versions_spec.proofs.WholeDatabases.{whole_at, same_when_whole}
 use Rattle.piece_ir_spec.specs.Pieces.{PlainPiece, all_mean}
 use Rattle.piece_ir_spec.specs.Typed.{AllTyped, output_types}
-use Rattle.piece_ir_spec.specs.Constants.{ValidInOperator, ValidInOperators, ValidInPieces}
+use Rattle.piece_ir_spec.specs.Constants.{ValidInOperator, ValidInPieces}
 use Rattle.piece_ir_spec.specs.Rules.{Book, IsValidBook, sources_of}
-use Rattle.piece_ir_spec.specs.Chains.{through, through_each, NoneLost}
+use Rattle.piece_ir_spec.specs.Chains.{through, brought, NoneLost}
 use Rattle.piece_ir_spec.proofs.PieceLaws.{AgreeAt, same_meaning, same_types, same_outputs}
 use Rattle.piece_ir_spec.proofs.PieceLaws.{each_so}
-use Rattle.piece_ir_spec.proofs.HeldValues.{whole_valid, undone_holds}
+use Rattle.piece_ir_spec.proofs.HeldValues.{whole_valid, undone_holds, StepIsValid}
 
 -- the outputs' names and types that pieces have
 abbrev pub Outputs : Type 0
@@ -219,70 +220,58 @@ module _ (book : Book) (valid : IsValidBook book) (tables : Tables) (op : Operat
     constants = λ k db ps h y n c. constants_before ps y (kept k) c;
   }
 
--- ---- over operators one after the other
-
-pub operators_step : (book : Book) → IsValidBook book → (tables : Tables) (ops : List Operator)
-    → IsValid tables → AllOperatorsAccepted tables ops → (H K : Type 0) → (H → OperatorsHold ops)
-    → (K → ValidInOperators ops)
-    → IsStep H K tables (schema_after_each tables ops) (carried_over tables ops)
-    (through_each book tables ops)
-operators_step book valid tables [] good a H K holds kept = no_step H K tables
-operators_step book valid tables (op ∷ ops) good a H K holds kept =
-    both_steps H K tables (schema_after tables op) (schema_after_each (schema_after tables op) ops)
-    (carried tables op) (through book op tables)
-    (carried_over (schema_after tables op) ops) (through_each book (schema_after tables op) ops)
-    (operator_step book valid tables op good a.0 H K (λ x. (holds x).0) (λ k. (kept k).0))
-    (operators_step book valid (schema_after tables op) ops (next_is_valid tables op good a.0) a.1 H
-    K (λ x. (holds x).1) (λ k. (kept k).1))
-
 -- ---- back over an operator with no inverse: the pieces stay
 
-module _ (k : ℕ) (before : Tables) (op : Operator) (accepted : op_fault before op ≡ None) where
-  abbrev taken : Database → Database
-  taken db = undone k before op db
+module _ (loss : Loss) (before : Tables) (op : Operator)
+    (accepted : op_fault before op ≡ None) where
+  abbrev gone_back : Database → Database
+  gone_back db = undone loss before op db
 
   -- a table that is not lost was not consumed
-  not_consumed : (db : Database) (n : List ℕ) → loss_in (taken db) n ≡ None
+  not_consumed : (db : Database) (n : List ℕ) → loss_in (gone_back db) n ≡ None
       → consumes before op n ≡ false
   not_consumed db n e = step (consumes before op n) refl
-      (sym (ap loss_of (unnamed_at k before op accepted db n)) ∙ e)
+      (sym (ap loss_of (unnamed_at loss before op accepted db n)) ∙ e)
     where
       step : (b : Bool) → consumes before op n ≡ b
-          → loss_of (cond b (Some (Lost k 1)) (cond (makes before op n) None (get db n))) ≡ None
+          → loss_of (cond b (Some (Lost loss.0 loss.1)) (cond (makes before op n) None (get db n)))
+          ≡ None
           → consumes before op n ≡ false
       step true q h = absurd (cc)
       step false q h = q
 
   -- nor is it made; so it is as before
   as_before : (db : Database) (n : List ℕ) → contains_key before n ≡ true
-      → loss_in (taken db) n ≡ None → get (taken db) n ≡ get db n
+      → loss_in (gone_back db) n ≡ None → get (gone_back db) n ≡ get db n
   as_before db n there e =
       let c = not_consumed db n e in
-      let m = unmade k before op accepted n there c in
-      unnamed_at k before op accepted db n
-      ∙ ap (λ b. cond b (Some (Lost k 1)) (cond (makes before op n) None (get db n))) c
+      let m = unmade loss before op accepted n there c in
+      unnamed_at loss before op accepted db n
+      ∙ ap (λ b. cond b (Some (Lost loss.0 loss.1)) (cond (makes before op n) None (get db n))) c
       ∙ ap (λ (b : Bool). cond b None (get db n)) m
 
   same_table : (db : Database) (n : List ℕ) → contains_key before n ≡ true
-      → loss_in (taken db) n ≡ None → get before n ≡ get (schema_after before op) n
+      → loss_in (gone_back db) n ≡ None → get before n ≡ get (schema_after before op) n
   same_table db n there e =
       let c = not_consumed db n e in
-      sym (table_stays before op n (unmade k before op accepted n there c) c)
+      sym (table_stays before op n (unmade loss before op accepted n there c) c)
 
   -- it is as it is after the operator
   alike_before : (db : Database) (n : List ℕ) → contains_key before n ≡ true
-      → loss_in (taken db) n ≡ None → AgreeAt (schema_after before op) before db (taken db) n
+      → loss_in (gone_back db) n ≡ None → AgreeAt (schema_after before op) before db (gone_back db)
+      n
   alike_before db n there e = record {
     columns = sym (same_table db n there e);
     rows =
         sym (ap rows_under (as_before db n there e));
   }
 
-  pub undone_step : (H K : Type 0) → IsStep H K (schema_after before op) before (undone k before op)
+  pub undone_step : (H K : Type 0) → IsStep H K (schema_after before op) before
+      (undone loss before op)
       (λ ps. ps)
   undone_step H K = record {
-    keeps = λ db h. unnamed_database k before op accepted db h;
-    values = λ x db h. undone_holds k before op db accepted h;
+    keeps = λ db h. unnamed_database loss before op accepted db h;
+    values = λ x db h. undone_holds loss before op db accepted h;
     typed = λ db ps h y none p m. same_types before (schema_after before op) p
         (λ n i. same_table db n ((y p m).there n i) (none p m n i)) (y p m);
     none = λ db ps h y none p m n i. sym (ap loss_of
@@ -291,7 +280,29 @@ module _ (k : ℕ) (before : Tables) (op : Operator) (accepted : op_fault before
         (same_outputs before (schema_after before op) p
         (λ n i. same_table db n ((y p m).there n i) (none p m n i))) ∙ o p m;
     law = λ x db ps h w y none. same_meaning (schema_after before op) before db
-        (undone k before op db) ps (λ p m n i.
+        (undone loss before op db) ps (λ p m n i.
         alike_before db n ((y p m).there n i) (none p m n i));
     constants = λ k db ps h y none c. c;
   }
+
+-- ---- over steps
+
+module _ (book : Book) (valid : IsValidBook book) (H K : Type 0) where
+  one_step : (s : Step) → IsLawful s → (H → StepHolds s) → (K → StepIsValid s)
+      → IsStep H K (tables_before s) (tables_behind s) (stepped s) (brought book s)
+  one_step (carrying tables op) l holds kept =
+      operator_step book valid tables op l.valid l.accepted H K holds kept
+  one_step (undoing loss tables op) l holds kept = undone_step loss tables op l.accepted H K
+
+  pub steps_step : (before after : Tables) (steps : List Step) → Lead before steps after
+      → (H → AllSteps StepHolds steps) → (K → AllSteps StepIsValid steps)
+      → IsStep H K before after (taken stepped steps) (taken_back (brought book) steps)
+  steps_step before after [] l holds kept =
+      subst (λ t. IsStep H K before t (λ db. db) (λ ps. ps)) l (no_step H K before)
+  steps_step before after (s ∷ steps) l holds kept =
+      subst (λ t. IsStep H K t after (taken stepped (s ∷ steps))
+      (taken_back (brought book) (s ∷ steps))) (sym l.1)
+      (both_steps H K (tables_before s) (tables_behind s) after (stepped s) (brought book s)
+      (taken stepped steps) (taken_back (brought book) steps)
+      (one_step s l.0 (λ x. (holds x).0) (λ k. (kept k).0))
+      (steps_step (tables_behind s) after steps l.2 (λ x. (holds x).1) (λ k. (kept k).1)))

@@ -1,6 +1,7 @@
 -- Valid values along the versions, and the databases with losses that hold them.
-use Rattle.std.proofs.Common.{◌≡◌, ℕ, zero, suc, Bool, true, false, List, [], ◌∷◌, ◌++◌, sym, subst}
-use Rattle.std.specs.Prelude.{cond, Option, Some, None, slice_get}
+use Rattle.std.proofs.Common.{◌≡◌, ◌+◌, ℕ, zero, suc, Bool, true, false, List, [], ◌∷◌, ◌++◌, sym}
+use Rattle.std.proofs.Common.{subst}
+use Rattle.std.specs.Prelude.{cond, Option, Some, None, slice_get, ⊤}
 use Rattle.std.specs.Option.{option_map}
 use Rattle.std.specs.FinMap.{get}
 use Rattle.schema_catalog.specs.Tables.{Tables}
@@ -8,13 +9,17 @@ use Rattle.schema_catalog.specs.Databases.{DatabaseEntry, Rows, Lost, Database}
 use Rattle.smo_ops_types.specs.Operators.{Operator}
 use Rattle.smo_ops_types.specs.Commands.{PlainVersion, PlainBody, changing, evolving, PlainCommand}
 use Rattle.smo_ops_spec.specs.Touching.{makes, consumes}
-use Rattle.smo_ops_spec.specs.Losses.{IsDatabaseWithLosses}
-use Rattle.smo_ops_spec.specs.After.{op_fault}
-use Rattle.smo_ops_spec.specs.Past.{Past, past_with, next_past, next_version}
+use Rattle.smo_ops_spec.specs.Losses.{IsDatabaseWithLosses, Loss}
+use Rattle.smo_ops_spec.specs.After.{op_fault, schema_after}
+use Rattle.smo_ops_spec.specs.Past.{Past, no_tables, tables_from, past_with, next_past}
+use Rattle.smo_ops_spec.specs.Past.{next_version}
 use Rattle.smo_ops_spec.specs.History.{past_after}
 use Rattle.smo_ops_spec.specs.ValidValues.{EntryHolds, HoldsValues, BodyHolds, CommandsHold}
 use Rattle.smo_ops_versions_spec.specs.Whole.{whole_entry, whole}
+use Rattle.smo_ops_versions_spec.specs.Steps.{Step, carrying, undoing, carrying_each, AllSteps}
+use Rattle.smo_ops_versions_spec.specs.Ways.{back_over, over_version, back_over_version, way}
 use Rattle.smo_ops_versions_spec.specs.Migration.{undone}
+use Rattle.smo_ops_versions_spec.proofs.WaySteps.{way_all}
 use Rattle.smo_ops_versions_spec.proofs.WayDatabases.{unnamed_at}
 use Rattle.smo_ops_versions_spec.proofs.WholeDatabases.{whole_at, whole_database}
 use Rattle.piece_ir_spec.specs.Constants.{ValidInOperator, ValidInOperators, ValidInVersions}
@@ -34,34 +39,63 @@ whole_valid tables db h w = record {
   values = λ n. subst EntryHolds (sym (whole_at db n)) (whole_holds (get db n) (w n));
 }
 
-pub undone_holds : (k : ℕ) (before : Tables) (op : Operator) (db : Database)
-    → op_fault before op ≡ None → HoldsValues db → HoldsValues (undone k before op db)
-undone_holds k before op db accepted h = λ n.
-    subst EntryHolds (sym (unnamed_at k before op accepted db n))
+pub undone_holds : (loss : Loss) (before : Tables) (op : Operator) (db : Database)
+    → op_fault before op ≡ None → HoldsValues db → HoldsValues (undone loss before op db)
+undone_holds loss before op db accepted h = λ n.
+    subst EntryHolds (sym (unnamed_at loss before op accepted db n))
     (step (consumes before op n) (makes before op n) (get db n) (h n))
   where
     step : (a b : Bool) (x : Option DatabaseEntry) → EntryHolds x
-        → EntryHolds (cond a (Some (Lost k 1)) (cond b None x))
+        → EntryHolds (cond a (Some (Lost loss.0 loss.1)) (cond b None x))
     step true b x h = tt
     step false true x h = tt
     step false false x h = h
 
 -- ---- versions
 
-pub version_holds : (versions : List PlainVersion) (k : ℕ) (v : PlainVersion)
-    → VersionsHold versions → slice_get versions k ≡ Some v → BodyHolds (evolving v.op v.inverse)
-version_holds [] k v h e = absurd (cc)
-version_holds (w ∷ versions) zero v h e = (let same : w ≡ v = cc in
-    subst (λ (x : PlainVersion). BodyHolds (evolving x.op x.inverse)) same h.0)
-version_holds (w ∷ versions) (suc k) v h e = version_holds versions k v h.1 e
+-- the constants of what is carried over are valid, all of them
+abbrev pub StepIsValid : Step → Type 0
+StepIsValid (carrying tables op) = ValidInOperator op
+StepIsValid (undoing loss tables op) = ⊤
 
-pub version_valid : (versions : List PlainVersion) (k : ℕ) (v : PlainVersion)
-    → ValidInVersions versions → slice_get versions k ≡ Some v
-    → ValidInOperator v.op × ValidInOperators v.inverse
-version_valid [] k v h e = absurd (cc)
-version_valid (w ∷ versions) zero v h e = (let same : w ≡ v = cc in
-    subst (λ (x : PlainVersion). ValidInOperator x.op × ValidInOperators x.inverse) same h.0)
-version_valid (w ∷ versions) (suc k) v h e = version_valid versions k v h.1 e
+each_valid : (tables : Tables) (ops : List Operator) → ValidInOperators ops
+    → AllSteps StepIsValid (carrying_each tables ops)
+each_valid tables [] h = tt
+each_valid tables (op ∷ ops) h = (h.0, each_valid (schema_after tables op) ops h.1)
+
+back_valid : (k : ℕ) (before : Tables) (op : Operator) (after : Tables) (inverse : List Operator)
+    → ValidInOperators inverse → AllSteps StepIsValid (back_over k before op after inverse)
+back_valid k before op after [] h = (tt, tt)
+back_valid k before op after (i ∷ inverse) h = each_valid after (i ∷ inverse) h
+
+-- of a version, where there is one
+abbrev VersionIsValid : Option PlainVersion → Type 0
+VersionIsValid None = ⊤
+VersionIsValid (Some v) = ValidInOperator v.op × ValidInOperators v.inverse
+
+version_valid : (versions : List PlainVersion) (k : ℕ) → ValidInVersions versions
+    → VersionIsValid (slice_get versions k)
+version_valid [] k h = tt
+version_valid (w ∷ versions) zero h = h.0
+version_valid (w ∷ versions) (suc k) h = version_valid versions k h.1
+
+over_valid : (tables : Tables) (o : Option PlainVersion) → VersionIsValid o
+    → AllSteps StepIsValid (over_version tables o)
+over_valid tables None h = tt
+over_valid tables (Some v) h = (h.0, tt)
+
+back_over_valid : (k : ℕ) (tables : Tables) (o : Option PlainVersion) → VersionIsValid o
+    → AllSteps StepIsValid (back_over_version k tables o)
+back_over_valid k tables None h = tt
+back_over_valid k tables (Some v) h = back_valid k tables v.op v.tables v.inverse h.1
+
+pub way_valid : (versions : List PlainVersion) → ValidInVersions versions → (v q : ℕ)
+    → AllSteps StepIsValid (way versions v q)
+way_valid versions h v q = way_all versions StepIsValid v q
+    (λ k. over_valid (tables_from no_tables versions k) (slice_get versions k)
+    (version_valid versions k h))
+    (λ k low high. back_over_valid (k + 1) (tables_from no_tables versions k) (slice_get versions k)
+    (version_valid versions k h))
 
 one_more : (versions : List PlainVersion) (v : PlainVersion) → VersionsHold versions
     → BodyHolds (evolving v.op v.inverse) → VersionsHold (versions ++ v ∷ [])

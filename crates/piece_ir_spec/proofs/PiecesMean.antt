@@ -7,6 +7,7 @@ use Rattle.schema_catalog.specs.Databases.{Database}
 use Rattle.smo_ops_types.specs.Commands.{PlainVersion}
 use Rattle.smo_ops_spec.specs.Past.{no_tables, tables_from}
 use Rattle.smo_ops_spec.specs.ValidPast.{AreVersions}
+use Rattle.smo_ops_versions_spec.specs.Ways.{way}
 use Rattle.smo_ops_versions_spec.specs.Migration.{migrated_from}
 use Rattle.smo_ops_versions_spec.specs.LostNames.{lost_names}
 use Rattle.smo_ops_versions_spec.proofs.WayDatabases.{none_is_lost}
@@ -25,7 +26,7 @@ module _ (versions : List PlainVersion) (are : AreVersions None no_tables versio
   none_lost : (ps : List PlainPiece) → NoneNamed (lost_names versions v q) ps → (db : Database)
       → IsValidDatabase (tables_from no_tables versions v) db
       → NoneLost (migrated_from versions v q db) ps
-  none_lost ps n db h = λ p m name i. losses_are versions v q empty db
+  none_lost ps n db h = λ p m name i. losses_are (way versions v q) empty db
       (no_losses (tables_from no_tables versions v) db h.database) name ∙ n p m name i
 
   module _ (book : Book) (valid : IsValidBook book) (ps : List PlainPiece)

@@ -18,7 +18,7 @@ use Rattle.smo_ops_spec.specs.Past.{database_at}
 use Rattle.smo_ops_spec.specs.ValidPast.{AreVersions, IsPast}
 use Rattle.smo_ops_versions_spec.specs.Migration.{migrated_from, migrated}
 use Rattle.smo_ops_versions_spec.specs.LostNames.{lost_names}
-use Rattle.smo_ops_versions_spec.proofs.WayDatabases.{valid_at}
+use Rattle.smo_ops_versions_spec.proofs.WayLeads.{valid_at}
 use Rattle.plain_answers_spec.specs.Choosing.{answers_over}
 use Rattle.plain_answers_spec.specs.Branches.{Item, PlainBranch, item_columns, item_rows, plain}
 use Rattle.plain_answers_spec.specs.Reading.{Read, read_of, read_columns, read_rows, answers_read}

@@ -1,8 +1,8 @@
 -- What is lost on the way from a version is lost on the way from each later one; and forward
 -- nothing is lost.
-use Rattle.std.proofs.Common.{◌≡◌, ◌+◌, ◌-◌, ◌≤◌, ℕ, zero, suc, Bool, true, false, List, [], ◌∷◌}
-use Rattle.std.proofs.Common.{refl, sym, ap, subst, ◌∙◌}
-use Rattle.std.specs.Prelude.{cond, Option, Some, None, slice_get}
+use Rattle.std.proofs.Common.{◌≡◌, ◌≤◌, ℕ, Bool, true, false, List, [], ◌∷◌}
+use Rattle.std.proofs.Common.{refl, sym, ap, subst, ◌∙◌, arith}
+use Rattle.std.specs.Prelude.{cond, Option, Some, None, slice_get, ⊤}
 use Rattle.std.specs.Option.{option_or}
 use Rattle.std.specs.FinMap.{get, insert, remove, empty, get-insert, get-remove, get-empty}
 use Rattle.std.specs.Cmp.Lexicographic.{nat_list_cmp_total}
@@ -15,12 +15,13 @@ use Rattle.smo_ops_spec.specs.Touching.{made_of}
 use Rattle.smo_ops_spec.specs.OperatorTable.{line, made_names}
 use Rattle.smo_ops_spec.specs.Losses.{Loss, first_loss}
 use Rattle.smo_ops_spec.specs.Past.{no_tables, tables_from}
-use Rattle.smo_ops_versions_spec.specs.Ways.{taken, over_version, to_next, from_next, forward}
+use Rattle.smo_ops_versions_spec.specs.Steps.{Step, carrying, undoing, AllSteps}
+use Rattle.smo_ops_versions_spec.specs.Ways.{over_version, way}
 use Rattle.smo_ops_versions_spec.specs.LostNames.{Losses, none_lost, all_lost, with_loss}
 use Rattle.smo_ops_versions_spec.specs.LostNames.{losses_over}
-use Rattle.smo_ops_versions_spec.specs.LostNames.{losses_undone, of_losses, lost_names}
-use Rattle.smo_ops_versions_spec.proofs.WaySteps.{goes_forward, back_by}
-use Rattle.smo_ops_versions_spec.proofs.LossesByName.{taken_so}
+use Rattle.smo_ops_versions_spec.specs.LostNames.{losses_undone, losses_stepped, lost_names}
+use Rattle.smo_ops_versions_spec.proofs.StepLaws.{taken_so, taken_kept}
+use Rattle.smo_ops_versions_spec.proofs.WaySteps.{taken_back_by, way_all}
 
 -- each that is lost among the first is lost among the second
 abbrev pub LostToo : Losses → Losses → Type 0
@@ -88,20 +89,24 @@ over_kept tables op a b h =
     (made_names (line tables op).made) (first_kept a b h (made_of op))
     (none_kept a b (line tables op).consumed h)
 
-undone_kept : (k : ℕ) (before : Tables) (op : Operator) (a b : Losses) → LostToo a b
-    → LostToo (losses_undone k before op a) (losses_undone k before op b)
-undone_kept k before op a b h =
+undone_kept : (loss : Loss) (before : Tables) (op : Operator) (a b : Losses) → LostToo a b
+    → LostToo (losses_undone loss before op a) (losses_undone loss before op b)
+undone_kept loss before op a b h =
     all_kept (none_lost (made_names (line before op).made) a)
-    (none_lost (made_names (line before op).made) b) (k, 1) (k, 1) (line before op).consumed
+    (none_lost (made_names (line before op).made) b) loss loss (line before op).consumed
     (none_kept a b (made_names (line before op).made) h)
+
+step_kept : (s : Step) (a b : Losses) → LostToo a b
+    → LostToo (losses_stepped s a) (losses_stepped s b)
+step_kept (carrying tables op) a b h = over_kept tables op a b h
+step_kept (undoing loss tables op) a b h = undone_kept loss tables op a b h
 
 pub stays_lost : (versions : List PlainVersion) (w v q : ℕ) (n : List ℕ) → q ≤ v → v ≤ w
     → get (lost_names versions w q) n ≡ None → get (lost_names versions v q) n ≡ None
 stays_lost versions w v q n l r e =
-    taken_so LostToo of_losses of_losses over_kept undone_kept versions v q empty
-    (taken of_losses versions w v empty) (λ m f. get-empty bytes_cmp m) n
-    (ap (λ (x : Losses). get x n) (sym (back_by (to_next of_losses versions)
-    (from_next of_losses versions) w v q empty l r)) ∙ e)
+    taken_so LostToo losses_stepped losses_stepped step_kept (way versions v q) empty
+    (lost_names versions w v) (λ m f. get-empty bytes_cmp m) n
+    (ap (λ (x : Losses). get x n) (sym (taken_back_by versions losses_stepped w v q empty l r)) ∙ e)
 
 -- ---- forward
 
@@ -131,20 +136,23 @@ over_clear tables op a h =
     (none_clear (none_lost (line tables op).consumed a) (made_names (line tables op).made)
     (none_clear a (line tables op).consumed h))
 
-version_clear : (before : Tables) (v : Option PlainVersion) (a : Losses) → IsClear a
-    → IsClear (over_version of_losses before v a)
-version_clear before None a h = h
-version_clear before (Some v) a h = over_clear before v.op a h
+abbrev Carries : Step → Type 0
+Carries (carrying tables op) = ⊤
+Carries (undoing loss tables op) = ⊥
 
-forward_clear : (versions : List PlainVersion) (v n : ℕ)
-    → IsClear (forward (to_next of_losses versions) v n empty)
-forward_clear versions v zero = λ n. get-empty bytes_cmp n
-forward_clear versions v (suc n) = version_clear (tables_from no_tables versions (v + n))
-    (slice_get versions (v + n)) (forward (to_next of_losses versions) v n empty)
-    (forward_clear versions v n)
+step_clear : (s : Step) (a : Losses) → Carries s → IsClear a → IsClear (losses_stepped s a)
+step_clear (carrying tables op) a c h = over_clear tables op a h
+step_clear (undoing loss tables op) a c h = absurd c
+
+version_carries : (before : Tables) (v : Option PlainVersion)
+    → AllSteps Carries (over_version before v)
+version_carries before None = tt
+version_carries before (Some v) = (tt, tt)
 
 pub none_forward : (versions : List PlainVersion) (v q : ℕ) (n : List ℕ) → v ≤ q
     → get (lost_names versions v q) n ≡ None
-none_forward versions v q n l = ap (λ (x : Losses). get x n)
-    (goes_forward (to_next of_losses versions) (from_next of_losses versions) v q empty l)
-    ∙ forward_clear versions v (q - v) n
+none_forward versions v q n l =
+    taken_kept IsClear Carries losses_stepped step_clear (way versions v q) empty
+    (way_all versions Carries v q
+    (λ k. version_carries (tables_from no_tables versions k) (slice_get versions k))
+    (λ k a b. absurd (let f : ⊥ = omega (arith, l, a, b) in f))) (λ m. get-empty bytes_cmp m) n

@@ -6,12 +6,12 @@ use Rattle.std.specs.FinMap.{get}
 use Rattle.smo_ops_types.specs.Commands.{PlainVersion}
 use Rattle.smo_ops_spec.specs.Past.{no_tables, tables_from}
 use Rattle.smo_ops_versions_spec.specs.LostNames.{lost_names}
-use Rattle.smo_ops_versions_spec.proofs.WaySteps.{stays, one_forward, one_back}
+use Rattle.smo_ops_versions_spec.proofs.WaySteps.{brought_stays, brought_forward, brought_back}
 use Rattle.plain_answers_spec.specs.Reading.{Read}
 use Rattle.piece_ir_spec.specs.Pieces.{PlainPiece}
 use Rattle.piece_ir_spec.specs.Typed.{AllTyped}
 use Rattle.piece_ir_spec.specs.Rules.{Book, IsValidBook}
-use Rattle.piece_ir_spec.specs.Chains.{to_previous, to_next, unfolded_to}
+use Rattle.piece_ir_spec.specs.Chains.{brought, to_previous, to_next, unfolded_to}
 use Rattle.piece_ir_spec.specs.Beginnings.{first_piece}
 use Rattle.piece_ir_spec.specs.UnfoldedPieces.{MayBeAsked, StandFor}
 use Rattle.piece_ir_spec.proofs.StaysLost.{none_forward}
@@ -32,8 +32,7 @@ module _ (book : Book) (versions : List PlainVersion) (v q : ℕ) (table : List 
       let low : v ≤ q = omega arith in
       record {
         kept = none_forward versions v q table low;
-        unfolded = is ∙ sym (stays (to_next book versions) (to_previous book versions) q
-            (first_piece table r ∷ []))
+        unfolded = is ∙ sym (brought_stays versions (brought book) q (first_piece table r ∷ []))
             ∙ ap (λ (k : ℕ). unfolded_to book versions k q (first_piece table r ∷ [])) (sym e);
       }
 
@@ -43,8 +42,7 @@ module _ (book : Book) (versions : List PlainVersion) (v q : ℕ) (table : List 
   stand_next ps news l kept h is = record {
     kept = kept;
     unfolded = is ∙ ap (to_next book versions v) h.unfolded
-        ∙ sym (one_forward (to_next book versions) (to_previous book versions) q v
-        (first_piece table r ∷ []) l);
+        ∙ sym (brought_back versions (brought book) v q (first_piece table r ∷ []) l);
   }
 
 -- to version v from the next one
@@ -57,6 +55,5 @@ stand_previous book versions v q table r ps news l h is =
     record {
       kept = none_forward versions v q table low;
       unfolded = is ∙ ap (to_previous book versions v) h.unfolded
-          ∙ sym (one_back (to_next book versions) (to_previous book versions) q v
-          (first_piece table r ∷ []) l);
+          ∙ sym (brought_forward versions (brought book) v q (first_piece table r ∷ []) l);
     }

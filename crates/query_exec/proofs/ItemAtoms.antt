@@ -21,7 +21,7 @@ use Rattle.smo_ops_spec.proofs.NextSchemas.{ordered_columns}
 use Rattle.schema_catalog.specs.Tables.{Tables}
 use Rattle.smo_ops_spec.specs.Past.{Past, no_tables, tables_from, tables_of}
 use Rattle.smo_ops_versions_spec.specs.Migration.{migrated}
-use Rattle.smo_ops_versions_spec.proofs.WayDatabases.{valid_at}
+use Rattle.smo_ops_versions_spec.proofs.WayLeads.{valid_at}
 use Rattle.version_groups.specs.Groups.{Kept, versions_in}
 use Rattle.version_groups.specs.Representation.{Represents}
 use Rattle.plain_answers_spec.specs.Choosing.{answers_over}

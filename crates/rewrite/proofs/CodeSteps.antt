@@ -18,13 +18,15 @@ use Rattle.smo_ops_spec.proofs.CountedOperators.{counted_inverse}
 use Rattle.smo_ops_spec.proofs.ValidInverses.{accepted_leads_back}
 use Rattle.smo_ops_spec.proofs.NextSchemas.{next_is_valid}
 use Rattle.smo_ops_versions_spec.proofs.VersionSteps.{Leads, leads}
-use Rattle.smo_ops_versions_spec.proofs.WayDatabases.{valid_at}
+use Rattle.smo_ops_versions_spec.proofs.WayLeads.{valid_at}
+use Rattle.smo_ops_versions_spec.specs.Steps.{taken_back}
+use Rattle.smo_ops_versions_spec.specs.Ways.{back_over, over_version, back_over_version}
 use Rattle.piece_ir_spec.specs.Pieces.{PlainPiece}
 use Rattle.piece_ir_spec.specs.Typed.{IsTyped, AllTyped}
 use Rattle.piece_ir_spec.specs.Rules.{Book, IsValidBook}
 use Rattle.piece_ir.specs.Shown.{piece_of, shown_pieces}
 use Rattle.piece_ir.specs.declared.piece.Piece.{Piece}
-use Rattle.piece_ir_spec.specs.Chains.{through, through_each, through_operator, through_inverse}
+use Rattle.piece_ir_spec.specs.Chains.{through, brought, through_each}
 use Rattle.piece_ir_spec.specs.Chains.{to_previous, to_next}
 use Rattle.piece_ir_spec.proofs.ChainSteps.{all_typed}
 use Rattle.rewrite.proofs.Places.{version_at_place, in_at}
@@ -209,7 +211,7 @@ module _ (vs : List Version) (are : AreVersions None no_tables (map version_of v
       → news ≡ to_previous book (map version_of vs) k ps
   step_is book before ps news b is =
       is ∙ ap (λ (t : Tables). through book (operator_of v.op) t ps) b
-      ∙ ap (λ o. through_operator book (at k) o ps) (sym here)
+      ∙ ap (λ o. taken_back (brought book) (over_version (at k) o) ps) (sym here)
 
   -- to the next version
 
@@ -242,10 +244,18 @@ module _ (vs : List Version) (are : AreVersions None no_tables (map version_of v
           ∙ (accepted_leads_back (at k) (operator_of v.op) (operator_of x) (operators_of inverse)
           i).1)) y
 
+  through_back : (book : Book) (ps : List PlainPiece) (ops : List Operator)
+      → through_each book v.schema ops ps
+      ≡ taken_back (brought book) (back_over (k + 1) (at k) (operator_of v.op) v.schema ops) ps
+  through_back book ps [] = refl
+  through_back book ps (x ∷ ops) = refl
+
   pub back_is : (book : Book) (ps news : List PlainPiece)
       → news ≡ through_each book v.schema (operators_of v.inverse.items) ps
       → news ≡ to_next book (map version_of vs) k ps
-  back_is book ps news is = is ∙ ap (λ o. through_inverse book o ps) (sym here)
+  back_is book ps news is =
+      is ∙ through_back book ps (operators_of v.inverse.items)
+      ∙ ap (λ o. taken_back (brought book) (back_over_version (k + 1) (at k) o) ps) (sym here)
 
   pub back_stays : (book : Book) (ps : List PlainPiece) → length v.inverse.items ≡ 0
       → ps ≡ to_next book (map version_of vs) k ps

@@ -19,8 +19,9 @@ use Rattle.smo_ops_types.specs.Operators.{Operator, operator_of, operators_of}
 use Rattle.smo_ops_types.specs.Commands.{version_of}
 use Rattle.smo_ops_spec.specs.Past.{no_tables, tables_from}
 use Rattle.smo_ops_spec.specs.Losses.{Loss, first_loss}
-use Rattle.smo_ops_versions_spec.specs.Ways.{over_each, back_over, back_over_version, from_next}
-use Rattle.smo_ops_versions_spec.specs.LostNames.{Losses, of_losses}
+use Rattle.smo_ops_versions_spec.specs.Steps.{carrying_each, taken}
+use Rattle.smo_ops_versions_spec.specs.Ways.{back_over, back_over_version, from_next}
+use Rattle.smo_ops_versions_spec.specs.LostNames.{Losses, losses_stepped}
 use Rattle.temporal_lang_types.specs.declared.branch.Branch.{Branch}
 use Rattle.temporal_lang_types.specs.Branches.{branch_of, branches_of}
 use Rattle.temporal_lang_spec.specs.Losing.{branch_tables, query_tables}
@@ -63,17 +64,18 @@ module _ {X : Type 0} where
 
 pub back_named : (k : ℕ) (before : Tables) (op : Operator) (after : Tables) (ops : List Op)
     (l : Losses) → (length ops ≡ 0 → ⊥)
-    → over_each of_losses after (operators_of ops) l
-    ≡ back_over of_losses k before op after (operators_of ops) l
+    → taken losses_stepped (carrying_each after (operators_of ops)) l
+    ≡ taken losses_stepped (back_over k before op after (operators_of ops)) l
 back_named k before op after [] l h = absurd (h refl)
 back_named k before op after (x ∷ ops) l h = refl
 
 pub back_step : (vs : List Version) (k : ℕ) (v : Version) (l : Losses) → k < length vs
     → v ≡ get_or vs k v
-    → back_over of_losses (k + 1) (tables_from no_tables (map version_of vs) k) (operator_of v.op)
-    v.schema (operators_of v.inverse.items) l ≡ from_next of_losses (map version_of vs) k l
-back_step vs k v l below is = sym (ap (λ o. back_over_version of_losses (k + 1)
-    (tables_from no_tables (map version_of vs) k) o l) (version_at_place vs k v below is))
+    → taken losses_stepped (back_over (k + 1) (tables_from no_tables (map version_of vs) k)
+    (operator_of v.op) v.schema (operators_of v.inverse.items)) l
+    ≡ taken losses_stepped (from_next (map version_of vs) k) l
+back_step vs k v l below is = sym (ap (λ o. taken losses_stepped (back_over_version (k + 1)
+    (tables_from no_tables (map version_of vs) k) o) l) (version_at_place vs k v below is))
 
 pub none_of_these : (loss : List ℕ → Option Loss) (names : List (List ℕ))
     → ((n : List ℕ) → loss n ≡ None) → first_loss loss names ≡ None

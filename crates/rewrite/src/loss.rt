@@ -5,9 +5,10 @@ ghost use Rattle.schema_catalog.specs.Tables.{Tables};
 ghost use Rattle.smo_ops_types.specs.Operators.{operator_of, operators_of};
 ghost use Rattle.smo_ops_spec.specs.Touching.{these_names};
 ghost use Rattle.smo_ops_spec.specs.Losses.{first_loss};
-ghost use Rattle.smo_ops_versions_spec.specs.Ways.{over_each, back_over};
+ghost use Rattle.smo_ops_versions_spec.specs.Steps.{carrying_each, taken};
+ghost use Rattle.smo_ops_versions_spec.specs.Ways.{back_over};
 ghost use Rattle.smo_ops_versions_spec.specs.LostNames.{none_lost, all_lost, losses_over};
-ghost use Rattle.smo_ops_versions_spec.specs.LostNames.{of_losses};
+ghost use Rattle.smo_ops_versions_spec.specs.LostNames.{losses_stepped};
 
 use prima_base::{Name, NoMemory};
 use smo_ops_operators::{Made, consumed, made, made_of};
@@ -128,7 +129,7 @@ fn lose_over(op: &Op, losses: &mut Losses) -> Result<(), NoMemory>
 // Over operators one after the other.
 fn lose_over_each(ops: &[Op], losses: &mut Losses) -> Result<(), NoMemory>
     ensures { (tables : Tables) → OnOk result
-        (losses.new ≡ over_each of_losses tables (operators_of ops.now) losses.old) }
+        (losses.new ≡ taken losses_stepped (carrying_each tables (operators_of ops.now)) losses.old) }
 {
     match ops {
         [] => Ok(()),
@@ -147,8 +148,9 @@ pub(crate) fn lose_back(
     losses: &mut Losses,
 ) -> Result<(), NoMemory>
     ensures { (before : Tables) → (after : Tables)
-        → OnOk result (losses.new ≡ back_over of_losses k before (operator_of op.now) after
-        (operators_of inverse.now) losses.old) }
+        → OnOk result (losses.new ≡ taken losses_stepped
+        (back_over k before (operator_of op.now) after
+        (operators_of inverse.now)) losses.old) }
 {
     match inverse {
         [] => {

@@ -1,5 +1,8 @@
+pub mod StepLaws
 pub mod WaySteps
 pub mod VersionSteps
+pub mod SomeColumns
+pub mod WayLeads
 pub mod OneSteps
 pub mod WayDatabases
 pub mod WayValues

@@ -1,9 +1,8 @@
 -- What is lost on a way is lost by a version that is gone back over and names no inverse.
-use Rattle.std.proofs.Common.{◌≡◌, ◌+◌, ◌-◌, ◌<◌, ◌≤◌, ℕ, zero, suc, Bool, true, false, List, []}
-use Rattle.std.proofs.Common.{◌∷◌, refl, sym, subst, ◌∙◌, arith}
+use Rattle.std.proofs.Common.{◌≡◌, ◌+◌, ◌<◌, ◌≤◌, ℕ, Bool, true, false, List, []}
+use Rattle.std.proofs.Common.{◌∷◌, refl, sym, subst, ◌∙◌}
 use Rattle.std.proofs.lemmas.Option.{same_Some}
-use Rattle.std.proofs.lemmas.Bool.Decides.{nat_tests}
-use Rattle.std.specs.Prelude.{cond, nat_le, Option, Some, None, slice_get}
+use Rattle.std.specs.Prelude.{cond, Option, Some, None, slice_get, ⊤}
 use Rattle.std.specs.Option.{option_or}
 use Rattle.std.specs.Ordering.{eq_by_cmp}
 use Rattle.std.specs.FinMap.{get, insert, remove, empty, get-insert, get-remove, get-empty}
@@ -17,12 +16,15 @@ use Rattle.smo_ops_spec.specs.Touching.{made_of}
 use Rattle.smo_ops_spec.specs.Losses.{Loss, first_loss}
 use Rattle.smo_ops_spec.specs.After.{schema_after}
 use Rattle.smo_ops_spec.specs.Past.{no_tables, tables_from}
-use Rattle.smo_ops_versions_spec.specs.Ways.{over_each, back_over, over_version, back_over_version}
-use Rattle.smo_ops_versions_spec.specs.Ways.{to_next}
-use Rattle.smo_ops_versions_spec.specs.Ways.{from_next, forward, backward}
+use Rattle.smo_ops_versions_spec.specs.Steps.{Step, carrying, undoing, carrying_each, taken}
+use Rattle.smo_ops_versions_spec.specs.Steps.{AllSteps}
+use Rattle.smo_ops_versions_spec.specs.Ways.{back_over, over_version, back_over_version, way}
 use Rattle.smo_ops_versions_spec.specs.LostNames.{Losses, none_lost, all_lost, with_loss}
 use Rattle.smo_ops_versions_spec.specs.LostNames.{losses_over}
-use Rattle.smo_ops_versions_spec.specs.LostNames.{losses_undone, of_losses, lost_names, IsUnnamed}
+use Rattle.smo_ops_versions_spec.specs.LostNames.{losses_undone, losses_stepped, lost_names}
+use Rattle.smo_ops_versions_spec.specs.LostNames.{IsUnnamed}
+use Rattle.smo_ops_versions_spec.proofs.StepLaws.{taken_kept}
+use Rattle.smo_ops_versions_spec.proofs.WaySteps.{way_all}
 
 either : (loss : List ℕ → Option Loss) (n : List ℕ) (names : List (List ℕ)) (l : Loss)
     → (first_loss loss names ≡ Some l → (m : List ℕ) × (loss m ≡ Some l))
@@ -94,17 +96,29 @@ module _ (P : Loss → Type 0) where
       (λ x e. let o = one_is_first (get losses) (made_of op) x e in h o.0 x o.1)
       (all_removed (line tables op).consumed losses h)
 
-  over_all : (tables : Tables) (ops : List Operator) (losses : Losses) → Each losses
-      → Each (over_each of_losses tables ops losses)
-  over_all tables [] losses h = h
-  over_all tables (op ∷ ops) losses h = over_all (schema_after tables op) ops
-      (losses_over tables op losses) (over_one tables op losses h)
-
-  undone_one : (k : ℕ) (before : Tables) (op : Operator) (losses : Losses) → P (k, 1) → Each losses
-      → Each (losses_undone k before op losses)
-  undone_one k before op losses p h = all_put (k, 1) (line before op).consumed
+  undone_one : (loss : Loss) (before : Tables) (op : Operator) (losses : Losses) → P loss
+      → Each losses → Each (losses_undone loss before op losses)
+  undone_one loss before op losses p h = all_put loss (line before op).consumed
       (none_lost (made_names (line before op).made) losses) p
       (all_removed (made_names (line before op).made) losses h)
+
+  -- the loss that a step brings
+  abbrev Brings : Step → Type 0
+  Brings (carrying tables op) = ⊤
+  Brings (undoing loss tables op) = P loss
+
+  step_one : (s : Step) (losses : Losses) → Brings s → Each losses → Each (losses_stepped s losses)
+  step_one (carrying tables op) losses b h = over_one tables op losses h
+  step_one (undoing loss tables op) losses b h = undone_one loss tables op losses b h
+
+  steps_all : (steps : List Step) → AllSteps Brings steps
+      → Each (taken losses_stepped steps empty)
+  steps_all steps b = taken_kept Each Brings losses_stepped step_one steps empty b of_none
+
+  carrying_brings : (tables : Tables) (ops : List Operator)
+      → AllSteps Brings (carrying_each tables ops)
+  carrying_brings tables [] = tt
+  carrying_brings tables (op ∷ ops) = (tt, carrying_brings (schema_after tables op) ops)
 
 -- ---- along the versions
 
@@ -112,45 +126,27 @@ module _ (versions : List PlainVersion) (v q : ℕ) where
   abbrev Cause : Loss → Type 0
   Cause loss = IsUnnamed versions v q loss
 
-  over_next : (before : Tables) (o : Option PlainVersion) (losses : Losses) → Each Cause losses
-      → Each Cause (over_version of_losses before o losses)
-  over_next before None losses h = h
-  over_next before (Some w) losses h = over_one Cause before w.op losses h
+  over_next : (before : Tables) (o : Option PlainVersion)
+      → AllSteps (Brings Cause) (over_version before o)
+  over_next before None = tt
+  over_next before (Some w) = (tt, tt)
 
-  forward_each : (n : ℕ) → Each Cause (forward (to_next of_losses versions) v n empty)
-  forward_each zero = of_none Cause
-  forward_each (suc n) = over_next (tables_from no_tables versions (v + n))
-      (slice_get versions (v + n)) _ (forward_each n)
+  back_one : (k : ℕ) (w : PlainVersion) (ops : List Operator) → q ≤ k → k < v
+      → slice_get versions k ≡ Some w → w.inverse ≡ ops
+      → AllSteps (Brings Cause) (back_over (k + 1) (tables_from no_tables versions k) w.op w.tables
+      ops)
+  back_one k w [] a b is e =
+      (record { before = k; by = w; is = is; unnamed = e; from = a; to = b; lost = refl }, tt)
+  back_one k w (i ∷ ops) a b is e = carrying_brings Cause w.tables (i ∷ ops)
 
-  back_one : (k : ℕ) (w : PlainVersion) (ops : List Operator) (losses : Losses) → q ≤ k → k < v
-      → slice_get versions k ≡ Some w → w.inverse ≡ ops → Each Cause losses
-      → Each Cause (back_over of_losses (k + 1) (tables_from no_tables versions k) w.op w.tables ops
-      losses)
-  back_one k w [] losses a b is e h =
-      undone_one Cause (k + 1) (tables_from no_tables versions k) w.op losses
-      (record { before = k; by = w; is = is; unnamed = e; from = a; to = b; lost = refl }) h
-  back_one k w (i ∷ ops) losses a b is e h = over_all Cause w.tables (i ∷ ops) losses h
-
-  back_next : (k : ℕ) (o : Option PlainVersion) (losses : Losses) → q ≤ k → k < v
-      → slice_get versions k ≡ o → Each Cause losses
-      → Each Cause (back_over_version of_losses (k + 1) (tables_from no_tables versions k) o losses)
-  back_next k None losses a b is h = h
-  back_next k (Some w) losses a b is h = back_one k w w.inverse losses a b is refl h
-
-  backward_each : (k n : ℕ) → q ≤ k → k + n ≤ v
-      → Each Cause (backward (from_next of_losses versions) k n empty)
-  backward_each k zero a b = of_none Cause
-  backward_each k (suc n) a b =
-      back_next k (slice_get versions k) (backward (from_next of_losses versions) (k + 1) n empty) a
-      (omega (arith, b)) refl (backward_each (k + 1) n (omega (arith, a)) (omega (arith, b)))
-
-  by_order : (b : Bool) → nat_le v q ≡ b → Each Cause
-      (cond b (forward (to_next of_losses versions) v (q - v) empty)
-      (backward (from_next of_losses versions) q (v - q) empty))
-  by_order true e = forward_each (q - v)
-  by_order false e = backward_each q (v - q) (omega arith)
-      (let l : q ≤ v = grind (arith, nat_tests, e) in omega (arith, l))
+  back_next : (k : ℕ) (o : Option PlainVersion) → q ≤ k → k < v → slice_get versions k ≡ o
+      → AllSteps (Brings Cause) (back_over_version (k + 1) (tables_from no_tables versions k) o)
+  back_next k None a b is = tt
+  back_next k (Some w) a b is = back_one k w w.inverse a b is refl
 
   pub loss_cause : (n : List ℕ) (loss : Loss) → get (lost_names versions v q) n ≡ Some loss
       → IsUnnamed versions v q loss
-  loss_cause n loss e = by_order (nat_le v q) refl n loss e
+  loss_cause n loss e = steps_all Cause (way versions v q)
+      (way_all versions (Brings Cause) v q
+      (λ k. over_next (tables_from no_tables versions k) (slice_get versions k))
+      (λ k a b. back_next k (slice_get versions k) a b refl)) n loss e

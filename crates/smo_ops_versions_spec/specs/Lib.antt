@@ -1,3 +1,5 @@
+pub mod TableColumns
+pub mod Steps
 pub mod Ways
 pub mod Migration
 pub mod LostNames

@@ -9,7 +9,8 @@ use Rattle.smo_ops_types.specs.Commands.{PlainVersion}
 use Rattle.smo_ops_spec.specs.OperatorTable.{line, made_names}
 use Rattle.smo_ops_spec.specs.Touching.{made_of}
 use Rattle.smo_ops_spec.specs.Losses.{Loss, loss_in, first_loss}
-use Rattle.smo_ops_versions_spec.specs.Ways.{Along, taken}
+use Rattle.smo_ops_versions_spec.specs.Steps.{Step, carrying, undoing, taken}
+use Rattle.smo_ops_versions_spec.specs.Ways.{way}
 
 -- the lost tables, by their names
 abbrev pub Losses : Type 0
@@ -38,18 +39,20 @@ losses_over tables op losses =
     with_loss (first_loss (get losses) (made_of op)) (made_names (line tables op).made)
     (none_lost (line tables op).consumed losses)
 
--- back over the operator of version k, where no inverse is named: the made names go, and the
--- consumed ones are lost
-abbrev pub losses_undone : ℕ → Tables → Operator → Losses → Losses
-losses_undone k before op losses =
-    all_lost (k, 1) (line before op).consumed (none_lost (made_names (line before op).made) losses)
+-- back over an operator where nothing leads back: the made names go, and the consumed ones have
+-- this loss
+abbrev pub losses_undone : Loss → Tables → Operator → Losses → Losses
+losses_undone loss before op losses =
+    all_lost loss (line before op).consumed (none_lost (made_names (line before op).made) losses)
 
-abbrev pub of_losses : Along Losses
-of_losses = record { over = losses_over; undone = losses_undone }
+-- over one step
+abbrev pub losses_stepped : Step → Losses → Losses
+losses_stepped (carrying tables op) losses = losses_over tables op losses
+losses_stepped (undoing loss before op) losses = losses_undone loss before op losses
 
 -- the tables that are lost on the way from version v to version q
 abbrev pub lost_names : List PlainVersion → ℕ → ℕ → Losses
-lost_names versions v q = taken of_losses versions v q empty
+lost_names versions v q = taken losses_stepped (way versions v q) empty
 
 -- the loss is by a version that is gone back over on the way from version v to version q, and that
 -- names no inverse: the one after version `before`, by its first operator

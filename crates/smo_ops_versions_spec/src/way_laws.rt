@@ -7,14 +7,17 @@ ghost use Rattle.smo_ops_types.specs.Operators.{Operator};
 ghost use Rattle.smo_ops_types.specs.Commands.{PlainVersion};
 ghost use Rattle.smo_ops_spec.specs.Losses.{IsDatabaseWithLosses, Loss, loss_in};
 ghost use Rattle.smo_ops_spec.specs.Touching.{makes, consumes};
-ghost use Rattle.smo_ops_spec.specs.After.{op_fault, schema_after, carried};
+ghost use Rattle.smo_ops_spec.specs.After.{op_fault, schema_after, carried, IsValid};
 ghost use Rattle.smo_ops_spec.specs.Past.{no_tables, tables_from};
 ghost use Rattle.smo_ops_spec.specs.ValidPast.{AreVersions};
 ghost use Rattle.smo_ops_spec.specs.ValidValues.{HoldsValues, VersionsHold};
-ghost use Rattle.smo_ops_versions_spec.specs.Ways.{over_each, to_next, from_next};
+ghost use Rattle.smo_ops_versions_spec.specs.TableColumns.{HaveColumns};
+ghost use Rattle.smo_ops_versions_spec.specs.Steps.{carrying_each, taken};
+ghost use Rattle.smo_ops_versions_spec.specs.Ways.{to_next, from_next};
 ghost use Rattle.smo_ops_versions_spec.specs.Migration.{carried_over, carried_along, back};
 ghost use Rattle.smo_ops_versions_spec.specs.Migration.{migrated_from};
-ghost use Rattle.smo_ops_versions_spec.specs.LostNames.{Losses, AreLosses, of_losses, losses_over};
+ghost use Rattle.smo_ops_versions_spec.specs.LostNames.{Losses, AreLosses, losses_stepped};
+ghost use Rattle.smo_ops_versions_spec.specs.LostNames.{losses_over};
 ghost use Rattle.smo_ops_versions_spec.specs.LostNames.{losses_undone, lost_names, IsUnnamed};
 ghost use Rattle.smo_ops_versions_spec.specs.Whole.{whole};
 
@@ -45,9 +48,11 @@ pub fn the_way_is_step_by_step()
     ensures losses_stay { (versions : List PlainVersion) → (v : ℕ)
         → lost_names versions v v ≡ empty }
     ensures losses_forward { (versions : List PlainVersion) → (v : ℕ) → (q : ℕ) → v ≤ q
-        → lost_names versions v (q + 1) ≡ to_next of_losses versions q (lost_names versions v q) }
+        → lost_names versions v (q + 1)
+        ≡ taken losses_stepped (to_next versions q) (lost_names versions v q) }
     ensures losses_back { (versions : List PlainVersion) → (v : ℕ) → (q : ℕ) → q < v
-        → lost_names versions v q ≡ from_next of_losses versions q (lost_names versions v (q + 1)) }
+        → lost_names versions v q
+        ≡ taken losses_stepped (from_next versions q) (lost_names versions v (q + 1)) }
 {}
 
 /// What one step of a way is, at the version number `k + 1`, the one after the tables of version
@@ -89,16 +94,17 @@ pub fn a_step_is_over_its_version()
         → get (back versions k database) n ≡ get database n }
     ensures losses_over { (versions : List PlainVersion) → (k : ℕ) → (v : PlainVersion)
         → (losses : Losses) → slice_get versions k ≡ Some v
-        → to_next of_losses versions k losses
+        → taken losses_stepped (to_next versions k) losses
         ≡ losses_over (tables_from no_tables versions k) v.op losses }
     ensures losses_named { (versions : List PlainVersion) → (k : ℕ) → (v : PlainVersion)
         → (losses : Losses) → (op : Operator) → (rest : List Operator)
         → slice_get versions k ≡ Some v → v.inverse ≡ op ∷ rest
-        → from_next of_losses versions k losses ≡ over_each of_losses v.tables v.inverse losses }
+        → taken losses_stepped (from_next versions k) losses
+        ≡ taken losses_stepped (carrying_each v.tables v.inverse) losses }
     ensures losses_undone { (versions : List PlainVersion) → (k : ℕ) → (v : PlainVersion)
         → (losses : Losses) → slice_get versions k ≡ Some v → v.inverse ≡ []
-        → from_next of_losses versions k losses
-        ≡ losses_undone (k + 1) (tables_from no_tables versions k) v.op losses }
+        → taken losses_stepped (from_next versions k) losses
+        ≡ losses_undone (k + 1, 1) (tables_from no_tables versions k) v.op losses }
 {}
 
 /// What is taken along the versions of a past is a database of the version that is reached, in
@@ -147,6 +153,17 @@ pub fn names_tell_what_is_lost()
 pub fn what_is_lost_has_no_named_inverse()
     ensures { (versions : List PlainVersion) → (v : ℕ) → (q : ℕ) → (n : List ℕ) → (loss : Loss)
         → get (lost_names versions v q) n ≡ Some loss → IsUnnamed versions v q loss }
+{}
+
+/// Each table of an accepted schema has a column: none of no tables lacks one, each operator that is
+/// accepted keeps that, and so it is at every version of a past.
+pub fn each_table_has_a_column()
+    ensures beginning { HaveColumns no_tables }
+    ensures kept { (tables : Tables) → (op : Operator) → IsValid tables → HaveColumns tables
+        → op_fault tables op ≡ None → HaveColumns (schema_after tables op) }
+    ensures versions { (versions : List PlainVersion) → (k : ℕ)
+        → AreVersions None no_tables versions
+        → HaveColumns (tables_from no_tables versions k) }
 {}
 
 /// With the empty relation in the place of each lost table a database with losses is one without,

@@ -1,19 +1,21 @@
-use Rattle.std.proofs.Common.{refl, ap, ◌+◌, ◌∙◌}
+use Rattle.std.proofs.Common.{List, refl, ap, ◌+◌, ◌∙◌}
 use Rattle.std.specs.FinMap.{get}
 use Rattle.smo_ops_spec.specs.Past.{no_tables, tables_from}
-use Rattle.smo_ops_versions_spec.specs.Migration.{of_databases}
-use Rattle.smo_ops_versions_spec.specs.LostNames.{of_losses}
+use Rattle.smo_ops_versions_spec.specs.Steps.{Step, taken}
+use Rattle.smo_ops_versions_spec.specs.Migration.{stepped}
+use Rattle.smo_ops_versions_spec.specs.LostNames.{losses_stepped}
 use Rattle.smo_ops_versions_spec.proofs.OneSteps.{over_is, named_is, unnamed_is, consumed_lost}
 use Rattle.smo_ops_versions_spec.proofs.OneSteps.{made_gone}
 use Rattle.smo_ops_versions_spec.proofs.OneSteps.{others_stay}
 use Rattle.smo_ops_versions_spec.proofs.way_laws.a_step_is_over_its_version.Goals as goal
 
 pub returns-clause-forward : goal.returns-clause-forward
-returns-clause-forward c = λ versions k v db is. over_is versions k v is of_databases db
+returns-clause-forward c = λ versions k v db is.
+    ap (λ (steps : List Step). taken stepped steps db) (over_is versions k v is)
 
 pub returns-clause-named : goal.returns-clause-named
 returns-clause-named c = λ versions k v db op rest is e.
-    named_is versions k v is of_databases db op rest e
+    ap (λ (steps : List Step). taken stepped steps db) (named_is versions k v is op rest e)
 
 pub returns-clause-over_none : goal.returns-clause-over_none
 returns-clause-over_none c = λ tables db. refl
@@ -23,26 +25,28 @@ returns-clause-over_each c = λ tables op ops db. refl
 
 pub returns-clause-lost : goal.returns-clause-lost
 returns-clause-lost c = λ versions k v db n is e m.
-    ap (λ d. get d n) (unnamed_is versions k v is of_databases db e)
-    ∙ consumed_lost (k + 1) (tables_from no_tables versions k) v.op db n m
+    ap (λ (steps : List Step). get (taken stepped steps db) n) (unnamed_is versions k v is e)
+    ∙ consumed_lost (k + 1, 1) (tables_from no_tables versions k) v.op db n m
 
 pub returns-clause-gone : goal.returns-clause-gone
 returns-clause-gone c = λ versions k v db n is e m l.
-    ap (λ d. get d n) (unnamed_is versions k v is of_databases db e)
-    ∙ made_gone (k + 1) (tables_from no_tables versions k) v.op db n m l
+    ap (λ (steps : List Step). get (taken stepped steps db) n) (unnamed_is versions k v is e)
+    ∙ made_gone (k + 1, 1) (tables_from no_tables versions k) v.op db n m l
 
 pub returns-clause-others : goal.returns-clause-others
 returns-clause-others c = λ versions k v db n is e m l.
-    ap (λ d. get d n) (unnamed_is versions k v is of_databases db e)
-    ∙ others_stay (k + 1) (tables_from no_tables versions k) v.op db n m l
+    ap (λ (steps : List Step). get (taken stepped steps db) n) (unnamed_is versions k v is e)
+    ∙ others_stay (k + 1, 1) (tables_from no_tables versions k) v.op db n m l
 
 pub returns-clause-losses_over : goal.returns-clause-losses_over
-returns-clause-losses_over c = λ versions k v losses is. over_is versions k v is of_losses losses
+returns-clause-losses_over c = λ versions k v losses is.
+    ap (λ (steps : List Step). taken losses_stepped steps losses) (over_is versions k v is)
 
 pub returns-clause-losses_named : goal.returns-clause-losses_named
 returns-clause-losses_named c = λ versions k v losses op rest is e.
-    named_is versions k v is of_losses losses op rest e
+    ap (λ (steps : List Step). taken losses_stepped steps losses)
+    (named_is versions k v is op rest e)
 
 pub returns-clause-losses_undone : goal.returns-clause-losses_undone
 returns-clause-losses_undone c = λ versions k v losses is e.
-    unnamed_is versions k v is of_losses losses e
+    ap (λ (steps : List Step). taken losses_stepped steps losses) (unnamed_is versions k v is e)
