@@ -1,18 +1,14 @@
 //! An expression or a condition from a list of tokens.
 
-ghost use Rattle.std.specs.Prelude.{◌≡◌, ◌++◌, ◌<◌, ◌≤◌, ◌+◌, ◌∷◌, List, length, take, drop};
-ghost use Rattle.cond_expr.specs.Trees.{Tree, Test};
+ghost use Rattle.std.specs.Prelude.{◌≡◌, ◌≤◌, length, drop};
 ghost use Rattle.cond_expr.specs.Seen.{tree, test};
-ghost use Rattle.lexer_spec.specs.Lexemes.{Lexeme};
 ghost use Rattle.lexer_combinators.specs.declared.cursor.Stop.TheVariants as stop;
 ghost use Rattle.lexer_trees_spec.specs.Grammar.{IsExpr, IsCond};
-ghost use Rattle.lexer_combinators.specs.Crossings.{IsFirstCrossing, IsFaultOf};
+ghost use Rattle.lexer_combinators.specs.Crossings.{IsFaultOf, RefusesFirst};
 ghost use Rattle.lexer_trees_spec.specs.TreeCounts.{expr_crossings, cond_crossings};
-ghost use Rattle.lexer_combinators.specs.Parsing.{Stops, limit};
-ghost use Rattle.lexer_combinators.specs.Grammar.{Size};
-ghost use Rattle.prima_base.specs.declared.refusal.What.{What as Counted};
+ghost use Rattle.lexer_combinators.specs.Parsing.{limit};
 ghost use Rattle.lexer_trees_spec.specs.Reader.{follow_expr, follow_cond, outermost};
-ghost use Rattle.lexer_combinators.specs.Found.{IsRead, Finds, Ends, IsTooMany, AnswersAs};
+ghost use Rattle.lexer_combinators.specs.Found.{IsRead, FindsStopped, FindsLongest, AnswersAs};
 ghost use Rattle.lexer_combinators.specs.Found.{FaultAt, lexemes_from};
 
 use crate::reader::{outer_cond, outer_expr};
@@ -87,26 +83,16 @@ pub fn parse_expr(
     ensures read { IsRead tree (IsExpr qualified) list.now from result }
     // What is in the grammar, up to a token that it does not go on with, is read if it is within
     // the limits, and else refused.
-    ensures only { (e : Tree) (s : Size) (prefix rest : List Lexeme)
-        → lexemes_from list.now from ≡ prefix ++ rest → IsExpr qualified e s prefix
-        → Stops (follow_expr qualified) rest →
-        Finds tree e s (from + length prefix) result }
+    ensures only { FindsStopped tree (IsExpr qualified) (follow_expr qualified) list.now from result }
     // What is in the grammar, where nothing of it goes on with the token after it, is read if it is
     // within the limits, and else refused.
-    ensures longest { (e : Tree) (s : Size) (prefix rest : List Lexeme)
-        → lexemes_from list.now from ≡ prefix ++ rest → IsExpr qualified e s prefix
-        → Ends (IsExpr qualified) (lexemes_from list.now from) (length prefix) →
-        Finds tree e s (from + length prefix) result }
+    ensures longest { FindsLongest tree (IsExpr qualified) list.now from result }
     // A fault is at the first token with which nothing of the grammar goes on, or at which a count
     // passes its limit.
     ensures fault { IsFaultOf (IsExpr qualified) (expr_crossings qualified) list.now from result }
     // A prefix that passes a limit at its last token is refused there for this count, whatever
     // stands after it.
-    ensures over { (w : Counted) (prefix rest more : List Lexeme) (x : Lexeme) (e : Tree) (s : Size)
-        (h : IsExpr qualified e s (prefix ++ x ∷ more))
-        → lexemes_from list.now from ≡ prefix ++ x ∷ rest →
-        IsFirstCrossing w (expr_crossings qualified e s (prefix ++ x ∷ more) h) (length prefix)
-        → IsTooMany w result }
+    ensures over { RefusesFirst (IsExpr qualified) (expr_crossings qualified) list.now from result }
     ensures exact { AnswersAs tree ((outermost qualified).expr 0 (lexemes_from list.now from))
         list.now result }
 {
@@ -130,20 +116,10 @@ pub fn parse_cond(
 ) -> Result<(Cond, usize), ParseFault>
     requires { from ≤ length list.now }
     ensures read { IsRead test (IsCond qualified) list.now from result }
-    ensures only { (c : Test) (s : Size) (prefix rest : List Lexeme)
-        → lexemes_from list.now from ≡ prefix ++ rest → IsCond qualified c s prefix
-        → Stops (follow_cond qualified) rest →
-        Finds test c s (from + length prefix) result }
-    ensures longest { (c : Test) (s : Size) (prefix rest : List Lexeme)
-        → lexemes_from list.now from ≡ prefix ++ rest → IsCond qualified c s prefix
-        → Ends (IsCond qualified) (lexemes_from list.now from) (length prefix) →
-        Finds test c s (from + length prefix) result }
+    ensures only { FindsStopped test (IsCond qualified) (follow_cond qualified) list.now from result }
+    ensures longest { FindsLongest test (IsCond qualified) list.now from result }
     ensures fault { IsFaultOf (IsCond qualified) (cond_crossings qualified) list.now from result }
-    ensures over { (w : Counted) (prefix rest more : List Lexeme) (x : Lexeme) (c : Test) (s : Size)
-        (h : IsCond qualified c s (prefix ++ x ∷ more))
-        → lexemes_from list.now from ≡ prefix ++ x ∷ rest →
-        IsFirstCrossing w (cond_crossings qualified c s (prefix ++ x ∷ more) h) (length prefix)
-        → IsTooMany w result }
+    ensures over { RefusesFirst (IsCond qualified) (cond_crossings qualified) list.now from result }
     ensures exact { AnswersAs test ((outermost qualified).cond 0 (lexemes_from list.now from))
         list.now result }
 {

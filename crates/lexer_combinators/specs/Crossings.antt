@@ -12,7 +12,7 @@ use Rattle.lexer_spec.specs.Lexemes.{Lexeme}
 use Rattle.lexer_combinators.specs.Parsing.{CanGoOn, limit}
 use Rattle.lexer_combinators.specs.Grammar.{Size}
 use Rattle.lexer_combinators.specs.TokenCounts.{TokenCounts, crossed_by}
-use Rattle.lexer_combinators.specs.Found.{lexemes_from, place, IsFirst}
+use Rattle.lexer_combinators.specs.Found.{lexemes_from, place, IsFirst, IsTooMany}
 
 -- at each token, after so many nodes: the count that passes its limit there, if one does
 abbrev pub crossings_after : ℕ → List TokenCounts → List (Option What)
@@ -53,3 +53,13 @@ IsFaultOf G crossing list from (Err (fault.TooMany w most)) = (most ≡ limit w)
     × (prefix : List Lexeme) × (x : Lexeme) × (suffix : List Lexeme)
     × (lexemes_from list from ≡ prefix ++ x ∷ suffix) × CrossingsFirst G crossing w prefix x
 IsFaultOf G crossing list from _ = Unit {0}
+
+-- a prefix that passes a limit at its last token is refused there for this count, whatever stands
+-- after it
+abbrev pub RefusesFirst : {A X : Type 0} → (G : Grammar A)
+    → ((a : A) (s : Size) (f : List Lexeme) → G a s f → List (Option What)) → List Token → ℕ
+    → Result (X × ℕ) ParseFault → Type 0
+RefusesFirst {A} G crossing list from result = (w : What) (prefix rest more : List Lexeme)
+    (x : Lexeme) (a : A) (s : Size) (h : G a s (prefix ++ x ∷ more))
+    → lexemes_from list from ≡ prefix ++ x ∷ rest →
+    IsFirstCrossing w (crossing a s (prefix ++ x ∷ more) h) (length prefix) → IsTooMany w result

@@ -1,5 +1,6 @@
 -- What reading a list of tokens ensures, by the grammar.
-use Rattle.std.specs.Prelude.{◌≡◌, ℕ, ◌+◌, ◌-◌, ◌<◌, ◌≤◌, List, length, take, drop, map, get_or}
+use Rattle.std.specs.Prelude.{◌≡◌, ℕ, ◌+◌, ◌-◌, ◌<◌, ◌≤◌, Bool, List, ◌++◌, length, take, drop}
+use Rattle.std.specs.Prelude.{map, get_or}
 use Rattle.std.specs.Prelude.{Result, Ok, Err}
 use Rattle.prima_base.specs.declared.refusal.What.{What}
 use Rattle.prima_base.specs.Limits.{max_nodes, max_depth}
@@ -10,8 +11,8 @@ use Rattle.lexer_combinators.specs.declared.fault.ParseFault.TheVariants as faul
 use Rattle.lexer_combinators.specs.declared.cursor.Stop.{Stop}
 use Rattle.lexer_combinators.specs.declared.cursor.Stop.TheVariants as stop
 use Rattle.lexer_spec.specs.Lexemes.{Lexeme, lexeme}
-use Rattle.lexer_combinators.specs.Parsing.{CanGoOn, Valid, Exceeds, Out, Parsed, Unexpected}
-use Rattle.lexer_combinators.specs.Parsing.{LimitExceeded, limit}
+use Rattle.lexer_combinators.specs.Parsing.{CanGoOn, Stops, Valid, Exceeds, Out, Parsed}
+use Rattle.lexer_combinators.specs.Parsing.{Unexpected, LimitExceeded, limit}
 use Rattle.lexer_combinators.specs.Grammar.{Size}
 
 -- what the tokens from a place on say
@@ -42,6 +43,23 @@ Finds view a s n (Err fault.NoMemory) = Unit {0}
 Finds view a s n (Err (fault.TooMany w most)) = Exceeds w 0 max_depth s
 Finds view a s n (Err (fault.Syntax at)) = ⊥
 Finds view a s n (Err fault.RanOut) = ⊥
+
+-- what is in the grammar, up to a token that it does not go on with, is read if it is within the
+-- limits, and else refused
+abbrev pub FindsStopped : {A X : Type 0} → (X → A) → Grammar A → (Lexeme → Bool) → List Token → ℕ
+    → Result (X × ℕ) ParseFault → Type 0
+FindsStopped {A} view G follow list from result = (a : A) (s : Size) (prefix rest : List Lexeme)
+    → lexemes_from list from ≡ prefix ++ rest → G a s prefix → Stops follow rest →
+    Finds view a s (from + length prefix) result
+
+-- what is in the grammar, where nothing of it goes on with the token after it, is read if it is
+-- within the limits, and else refused
+abbrev pub FindsLongest : {A X : Type 0} → (X → A) → Grammar A → List Token → ℕ
+    → Result (X × ℕ) ParseFault → Type 0
+FindsLongest {A} view G list from result = (a : A) (s : Size) (prefix rest : List Lexeme)
+    → lexemes_from list from ≡ prefix ++ rest → G a s prefix
+    → Ends G (lexemes_from list from) (length prefix) →
+    Finds view a s (from + length prefix) result
 
 -- the token so far after the prefix is the first with which nothing goes on
 abbrev pub IsFirst : {A : Type 0} → Grammar A → List Lexeme → ℕ → Type 0

@@ -1,15 +1,10 @@
 //! An operator from a list of tokens.
 
-ghost use Rattle.std.specs.Prelude.{◌≡◌, ◌++◌, ◌<◌, ◌≤◌, ◌+◌, ◌∷◌, List, length, drop};
-ghost use Rattle.smo_ops_types.specs.Operators.{Operator, operator_of};
-ghost use Rattle.lexer_spec.specs.Lexemes.{Lexeme};
-ghost use Rattle.lexer_combinators.specs.declared.cursor.Stop.TheVariants as stop;
-ghost use Rattle.lexer_combinators.specs.Parsing.{Stops, limit};
-ghost use Rattle.lexer_combinators.specs.Grammar.{Size};
-ghost use Rattle.lexer_combinators.specs.Found.{IsRead, Finds, Ends, IsTooMany, AnswersAs};
-ghost use Rattle.lexer_combinators.specs.Found.{FaultAt, lexemes_from};
-ghost use Rattle.lexer_combinators.specs.Crossings.{IsFirstCrossing, IsFaultOf};
-ghost use Rattle.prima_base.specs.declared.refusal.What.{What as Counted};
+ghost use Rattle.std.specs.Prelude.{◌≤◌, length};
+ghost use Rattle.smo_ops_types.specs.Operators.{operator_of};
+ghost use Rattle.lexer_combinators.specs.Found.{IsRead, FindsStopped, FindsLongest, AnswersAs};
+ghost use Rattle.lexer_combinators.specs.Found.{lexemes_from};
+ghost use Rattle.lexer_combinators.specs.Crossings.{IsFaultOf, RefusesFirst};
 ghost use Rattle.smo_parse.specs.Productions.{IsOperator};
 ghost use Rattle.smo_parse.specs.OperatorCounts.{operator_crossings};
 ghost use Rattle.smo_parse.specs.OperatorReader as spec;
@@ -37,26 +32,16 @@ pub fn parse_op(alloc: Global, list: &[Token<'_>], from: usize) -> Result<(Op, u
     ensures read { IsRead operator_of IsOperator list.now from result }
     // What is in the grammar, up to a token that it does not go on with, is read if it is within
     // the limits, and else refused.
-    ensures only { (o : Operator) (s : Size) (prefix rest : List Lexeme)
-        → lexemes_from list.now from ≡ prefix ++ rest → IsOperator o s prefix
-        → Stops spec.follow_operator rest →
-        Finds operator_of o s (from + length prefix) result }
+    ensures only { FindsStopped operator_of IsOperator spec.follow_operator list.now from result }
     // What is in the grammar, where nothing of it goes on with the token after it, is read if it is
     // within the limits, and else refused.
-    ensures longest { (o : Operator) (s : Size) (prefix rest : List Lexeme)
-        → lexemes_from list.now from ≡ prefix ++ rest → IsOperator o s prefix
-        → Ends IsOperator (lexemes_from list.now from) (length prefix) →
-        Finds operator_of o s (from + length prefix) result }
+    ensures longest { FindsLongest operator_of IsOperator list.now from result }
     // A fault is at the first token with which nothing of the grammar goes on, or at which a count
     // passes its limit.
     ensures fault { IsFaultOf IsOperator operator_crossings list.now from result }
     // A prefix that passes a limit at its last token is refused there for this count, whatever
     // stands after it.
-    ensures over { (w : Counted) (prefix rest more : List Lexeme) (x : Lexeme) (o : Operator)
-        (s : Size) (h : IsOperator o s (prefix ++ x ∷ more))
-        → lexemes_from list.now from ≡ prefix ++ x ∷ rest →
-        IsFirstCrossing w (operator_crossings o s (prefix ++ x ∷ more) h) (length prefix)
-        → IsTooMany w result }
+    ensures over { RefusesFirst IsOperator operator_crossings list.now from result }
     ensures exact { AnswersAs operator_of (spec.operator 0 (lexemes_from list.now from)) list.now
         result }
 {

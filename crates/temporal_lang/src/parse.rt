@@ -1,14 +1,10 @@
 //! A query from a list of tokens.
 
-ghost use Rattle.std.specs.Prelude.{◌≡◌, ◌++◌, ◌≤◌, ◌+◌, ◌∷◌, List, length};
-ghost use Rattle.prima_base.specs.declared.refusal.What.{What as Counted};
-ghost use Rattle.lexer_spec.specs.Lexemes.{Lexeme};
-ghost use Rattle.lexer_combinators.specs.Parsing.{Stops};
-ghost use Rattle.lexer_combinators.specs.Grammar.{Size};
-ghost use Rattle.lexer_combinators.specs.Found.{IsRead, Finds, Ends, IsTooMany, AnswersAs};
+ghost use Rattle.std.specs.Prelude.{◌≤◌, length};
+ghost use Rattle.lexer_combinators.specs.Found.{IsRead, FindsStopped, FindsLongest, AnswersAs};
 ghost use Rattle.lexer_combinators.specs.Found.{lexemes_from};
-ghost use Rattle.lexer_combinators.specs.Crossings.{IsFirstCrossing, IsFaultOf};
-ghost use Rattle.temporal_lang_types.specs.Queries.{PlainQuery, query_of};
+ghost use Rattle.lexer_combinators.specs.Crossings.{IsFaultOf, RefusesFirst};
+ghost use Rattle.temporal_lang_types.specs.Queries.{query_of};
 ghost use Rattle.temporal_lang_grammar_spec.specs.QueryGrammar.{IsAsk};
 ghost use Rattle.temporal_lang_grammar_spec.specs.QueryCrossings.{ask_crossings};
 ghost use Rattle.temporal_lang_grammar_spec.specs.QueryReader as spec;
@@ -38,26 +34,16 @@ pub fn parse_query(
     ensures read { IsRead query_of IsAsk list.now from result }
     // What is in the grammar, up to a token that it does not go on with, is read if it is within
     // the limits, and else refused.
-    ensures only { (q : PlainQuery) (s : Size) (prefix rest : List Lexeme)
-        → lexemes_from list.now from ≡ prefix ++ rest → IsAsk q s prefix
-        → Stops spec.follow_ask rest →
-        Finds query_of q s (from + length prefix) result }
+    ensures only { FindsStopped query_of IsAsk spec.follow_ask list.now from result }
     // What is in the grammar, where nothing of it goes on with the token after it, is read if it is
     // within the limits, and else refused.
-    ensures longest { (q : PlainQuery) (s : Size) (prefix rest : List Lexeme)
-        → lexemes_from list.now from ≡ prefix ++ rest → IsAsk q s prefix
-        → Ends IsAsk (lexemes_from list.now from) (length prefix) →
-        Finds query_of q s (from + length prefix) result }
+    ensures longest { FindsLongest query_of IsAsk list.now from result }
     // A fault is at the first token with which nothing of the grammar goes on, or at which a count
     // passes its limit.
     ensures fault { IsFaultOf IsAsk ask_crossings list.now from result }
     // A prefix that passes a limit at its last token is refused there for this count, whatever
     // stands after it.
-    ensures over { (w : Counted) (prefix rest more : List Lexeme) (x : Lexeme) (q : PlainQuery)
-        (s : Size) (h : IsAsk q s (prefix ++ x ∷ more))
-        → lexemes_from list.now from ≡ prefix ++ x ∷ rest →
-        IsFirstCrossing w (ask_crossings q s (prefix ++ x ∷ more) h) (length prefix)
-        → IsTooMany w result }
+    ensures over { RefusesFirst IsAsk ask_crossings list.now from result }
     ensures exact { AnswersAs query_of (spec.ask 0 (lexemes_from list.now from)) list.now result }
 {
     let mut cursor = Cursor {
