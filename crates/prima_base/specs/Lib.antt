@@ -1,6 +1,7 @@
 pub mod Bytes
 pub mod Columns
 pub mod Faults
+pub mod Groups
 pub mod Keeping
 pub mod Limits
 pub mod Order

@@ -4,6 +4,7 @@
 //! its two moments, and a counter as its count.
 #![tactic(auto)]
 
+mod agg_row;
 mod column;
 mod counter;
 mod failure;
@@ -19,6 +20,7 @@ mod text;
 mod timed_row;
 mod value;
 
+pub use agg_row::{AggRow, AggValue};
 pub use column::copy_columns;
 pub use counter::Steps;
 pub use failure::{Failed, NoMemory};

@@ -33,4 +33,4 @@ pub use temporal_lang_spec::{
     a_query_is_refused_for_want_of_a_named_inverse_alone, first_loss_is_at_the_least_moment,
     listing_is_the_one_list,
 };
-pub use temporal_lang_types::{Branch, Query, When, slice};
+pub use temporal_lang_types::{AggItem, Branch, Query, Relation, When, slice};
