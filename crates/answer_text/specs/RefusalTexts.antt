@@ -98,6 +98,12 @@ number_of (refusal.Arity branch) = 36
 number_of (refusal.JournalFull at need limit) = 37
 number_of (refusal.TooMany w limit) = 38
 number_of (refusal.TooWide measure) = 39
+number_of (refusal.SchemaMoved began newest) = 50
+number_of (refusal.TooLongStamp stamp bytes) = 51
+number_of (refusal.Begun session) = 52
+number_of (refusal.NotBegun session) = 53
+number_of (refusal.CursorOpen session cursor) = 54
+number_of (refusal.NoCursor session cursor) = 55
 
 abbrev pub kept_of : Refusal → List Kept
 kept_of (refusal.Syntax place) = number place ∷ []
@@ -124,6 +130,12 @@ kept_of (refusal.Arity branch) = number branch ∷ []
 kept_of (refusal.JournalFull at need limit) = number at ∷ number need ∷ number limit ∷ []
 kept_of (refusal.TooMany w limit) = word (what_word w) ∷ number limit ∷ []
 kept_of (refusal.TooWide measure) = number measure ∷ []
+kept_of (refusal.SchemaMoved began newest) = number began ∷ number newest ∷ []
+kept_of (refusal.TooLongStamp stamp bytes) = number stamp ∷ number bytes ∷ []
+kept_of (refusal.Begun session) = number session ∷ []
+kept_of (refusal.NotBegun session) = number session ∷ []
+kept_of (refusal.CursorOpen session cursor) = number session ∷ word cursor ∷ []
+kept_of (refusal.NoCursor session cursor) = number session ∷ word cursor ∷ []
 
 -- `error`, the number and the kept values
 unfoldable pub refusal_text : Refusal → List ℕ

@@ -106,6 +106,12 @@ fn number_of(refusal: &Refusal) -> u64
         Refusal::JournalFull(_, _, _) => 37,
         Refusal::TooMany(_, _) => 38,
         Refusal::TooWide(_) => 39,
+        Refusal::SchemaMoved(_, _) => 50,
+        Refusal::TooLongStamp(_, _) => 51,
+        Refusal::Begun(_) => 52,
+        Refusal::NotBegun(_) => 53,
+        Refusal::CursorOpen(_, _) => 54,
+        Refusal::NoCursor(_, _) => 55,
     }
 }
 
@@ -136,9 +142,11 @@ fn values_of<'a>(refusal: &'a Refusal) -> (Kept<'a>, Kept<'a>, Kept<'a>, Kept<'a
     let none = Kept::Nothing;
     match refusal {
         Refusal::Unfinished | Refusal::TooLong => (none, none, none, none),
-        Refusal::Syntax(place) | Refusal::WrongType(place) | Refusal::Arity(place) => {
-            (Kept::Number(u64::from(*place)), none, none, none)
-        }
+        Refusal::Syntax(number)
+        | Refusal::WrongType(number)
+        | Refusal::Arity(number)
+        | Refusal::Begun(number)
+        | Refusal::NotBegun(number) => (Kept::Number(u64::from(*number)), none, none, none),
         Refusal::NoTable(name)
         | Refusal::NoColumn(name)
         | Refusal::Ambiguous(name)
@@ -152,12 +160,20 @@ fn values_of<'a>(refusal: &'a Refusal) -> (Kept<'a>, Kept<'a>, Kept<'a>, Kept<'a
         | Refusal::ColumnMissing(first, second) => {
             (Kept::Name(first), Kept::Name(second), none, none)
         }
-        Refusal::StampNotLater(first, second) | Refusal::EmptyPeriod(first, second) => {
+        Refusal::StampNotLater(first, second)
+        | Refusal::EmptyPeriod(first, second)
+        | Refusal::TooLongStamp(first, second) => {
             (Kept::Number(*first), Kept::Number(*second), none, none)
         }
-        Refusal::NoVersion(asked, newest) => (
-            Kept::Number(u64::from(*asked)),
-            Kept::Number(u64::from(*newest)),
+        Refusal::NoVersion(first, second) | Refusal::SchemaMoved(first, second) => (
+            Kept::Number(u64::from(*first)),
+            Kept::Number(u64::from(*second)),
+            none,
+            none,
+        ),
+        Refusal::CursorOpen(session, cursor) | Refusal::NoCursor(session, cursor) => (
+            Kept::Number(u64::from(*session)),
+            Kept::Name(cursor),
             none,
             none,
         ),

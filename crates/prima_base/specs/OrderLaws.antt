@@ -5,6 +5,7 @@ use Rattle.std.specs.declared.cmp.Ordering.TheVariants.{Less, Equal, Greater}
 use Rattle.std.specs.Cmp.{IsTotalOrder, IsPartialOrder, IsEquivalence, IsPartialEquivalence}
 use Rattle.std.specs.Cmp.{on_total, on_equiv, partial_equiv_from_equiv, partial_order_from_total}
 use Rattle.std.specs.Cmp.Lexicographic.{nat_list_cmp_total, lists_total}
+use Rattle.std.specs.Hash as fed
 use Rattle.std.specs.Ordering.{eq_by_cmp, is_eq, ordering_reverse}
 use Rattle.std.specs.declared.cmp.Ordering.{Ordering}
 use Rattle.std.specs.FinMap.{IsAntisymmetric, nat_cmp-IsAntisymmetric, int_cmp-IsAntisymmetric}
@@ -105,3 +106,7 @@ same_is a b e = step (bytes_cmp a b) refl e
     step Less q h = absurd (cc)
     step Equal q h = bytes_exact.same a b q
     step Greater q h = absurd (cc)
+
+-- equal names are hashed alike
+pub name_fed : (a b : List ℕ) → same a b ≡ true → fed.slice fed.u8 a ≡ fed.slice fed.u8 b
+name_fed a b h = ap (fed.slice fed.u8) (same_is a b h)

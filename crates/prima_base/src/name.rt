@@ -9,6 +9,7 @@ use crate::NoMemory;
 use crate::limits::MAX_NAME;
 use std::alloc::{AllocError, Global};
 use std::cmp::Ordering;
+use std::hash::{Hash, Hasher};
 use std::marker::Model;
 use thiserror::Error;
 
@@ -176,5 +177,18 @@ impl Ord for Name {
 
     fn cmp(&self, other: &Name) -> Ordering {
         self.bytes.as_slice().cmp(other.bytes.as_slice())
+    }
+}
+
+impl Hash for Name {
+    ghost use Rattle.std.specs.Hash as fed;
+    ghost use Rattle.prima_base.specs.OrderLaws.{name_fed};
+
+    ghost hash_input = { λ n. fed.slice fed.u8 n };
+
+    ghost respects_eq = { name_fed };
+
+    fn hash<H: Hasher>(&self, state: &mut H) {
+        self.bytes.as_slice().hash(state);
     }
 }

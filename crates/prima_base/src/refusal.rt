@@ -121,4 +121,16 @@ pub enum Refusal {
     TooMany(What, u64),
     /// 39: the measure of the operator.
     TooWide(u64),
+    /// 50: the version that was the newest when the transaction began, and the newest.
+    SchemaMoved(u32, u32),
+    /// 51: the stamp of the statement that would be too long, and its length in bytes.
+    TooLongStamp(u64, u64),
+    /// 52: the session, which has a begun transaction.
+    Begun(u32),
+    /// 53: the session, which has none.
+    NotBegun(u32),
+    /// 54: the session, and its cursor, which is open.
+    CursorOpen(u32, Name),
+    /// 55: the session, and the cursor, which is not open.
+    NoCursor(u32, Name),
 }

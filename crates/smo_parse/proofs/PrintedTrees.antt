@@ -21,7 +21,7 @@ use Rattle.lexer_trees_spec.specs.Grammar.{IsConj}
 use Rattle.lexer_trees_spec.specs.Grammar.{AreConjs, IsCond}
 use Rattle.smo_parse.specs.TreeTexts.{sign_text, tree_text, more_trees_text, test_text}
 use Rattle.smo_parse.specs.TreeTexts.{more_tests_text}
-use Rattle.smo_parse.proofs.Spellings.{Closing}
+use Rattle.smo_parse.proofs.Spellings.{Closing, any_int}
 use Rattle.smo_parse.proofs.Spelled.{Spells, none, a_space, a_token, an_open, a_point, single, join}
 use Rattle.smo_parse.proofs.Spelled.{as_text, right3, right5, right7}
 
@@ -253,7 +253,7 @@ mutual
     as_wide = λ w. refl;
     no_deeper = omega arith;
     spells =
-        single (number z) h;
+        single (number z) (any_int z h);
   }
   expr_printed q e s f (g.a_text p t) r = record {
     size = leaf;

@@ -97,9 +97,15 @@ mutual
       later (b == 45) (gap_len true (n + 1 + 2) bytes) (n + 1) (gap_len true (n + 2) bytes) n
       (ap (λ k. gap_len true k bytes) e ∙ gap_later true (n + 2) bytes) refl
 
-space_gap : (bytes : List ℕ) → gap_len false 0 (32 ∷ bytes) ≡ suc (gap_len false 0 bytes)
+pub space_gap : (bytes : List ℕ) → gap_len false 0 (32 ∷ bytes) ≡ suc (gap_len false 0 bytes)
 unfolding gap_len
 space_gap bytes = let e : gap_len false 0 bytes + 1 ≡ suc (gap_len false 0 bytes) = omega arith in
+    gap_later false 0 bytes ∙ e
+
+-- an LF is a gap as a space is
+pub line_gap : (bytes : List ℕ) → gap_len false 0 (10 ∷ bytes) ≡ suc (gap_len false 0 bytes)
+unfolding gap_len
+line_gap bytes = let e : gap_len false 0 bytes + 1 ≡ suc (gap_len false 0 bytes) = omega arith in
     gap_later false 0 bytes ∙ e
 
 -- after a space the same tokens stand, one place further
@@ -127,11 +133,11 @@ without_space at bytes (t ∷ ts) e h =
 
 -- ---- tokens
 
-take_prefix : (prefix rest : List ℕ) → take (length prefix) (prefix ++ rest) ≡ prefix
+pub take_prefix : (prefix rest : List ℕ) → take (length prefix) (prefix ++ rest) ≡ prefix
 take_prefix [] rest = refl
 take_prefix (x ∷ prefix) rest = ap (λ l. x ∷ l) (take_prefix prefix rest)
 
-drop_prefix : (prefix rest : List ℕ) → drop (length prefix) (prefix ++ rest) ≡ rest
+pub drop_prefix : (prefix rest : List ℕ) → drop (length prefix) (prefix ++ rest) ≡ rest
 drop_prefix [] rest = refl
 drop_prefix (x ∷ prefix) rest = drop_prefix prefix rest
 

@@ -46,10 +46,15 @@ abbrev pub signs : List (List ℕ)
 signs = codes "(" ∷ codes ")" ∷ codes "," ∷ codes "." ∷ codes "=" ∷ codes "<>" ∷ codes "<"
     ∷ codes "<=" ∷ codes ">" ∷ codes ">=" ∷ []
 
+-- a number that a token has: -2^63 to 2^64 - 1
+abbrev pub is_number : ℤ → Bool
+is_number (pos n) = nat_le n 18446744073709551615
+is_number (negsuc n) = nat_le n 9223372036854775807
+
 -- that it can be written
 abbrev pub Writable : Lexeme → Type 0
 Writable (word w) = IsName w
-Writable (number z) = is_int z ≡ true
+Writable (number z) = is_number z ≡ true
 Writable (text t) = IsTxt t
 Writable (sign s) = is_one_of signs s ≡ true
 
@@ -233,9 +238,20 @@ minus_token n (d ∷ ds) rest few some h e k = (
   ap (signed true) e,
 )
 
-number_token : (z : ℤ) (rest : List ℕ) → is_int z ≡ true → Closing rest → Token (number z) rest
+fits_token : (n : ℕ) → nat_le n 18446744073709551615 ≡ true → n ≤ 18446744073709551615
+fits_token n h = grind (arith, nat_tests)
+
+as_number : (n : ℕ) → nat_le n 9223372036854775807 ≡ true → nat_le n 18446744073709551615 ≡ true
+as_number n h = let k = small n h in grind (arith, nat_tests)
+
+-- an INT is one
+pub any_int : (z : ℤ) → is_int z ≡ true → is_number z ≡ true
+any_int (pos n) h = as_number n h
+any_int (negsuc n) h = h
+
+number_token : (z : ℤ) (rest : List ℕ) → is_number z ≡ true → Closing rest → Token (number z) rest
 number_token (pos n) rest h k =
-    let few : n < 2 ^ 64 = below n (omega (arith, small n h)) in
+    let few : n < 2 ^ 64 = let l = fits_token n h in omega (arith, l) in
     let r = digits_token n (decimal n) rest few (decimal_nonempty n few) (digits_decimal own n few)
     (digits_value-decimal own n few) k in
     record { near = r.0; whole = r.1; means = ap number r.2 }
@@ -397,3 +413,25 @@ token_of (word w) rest h k = word_token w rest h k
 token_of (number z) rest h k = number_token z rest h k
 token_of (text t) rest h k = text_token t rest h k
 token_of (sign s) rest h k = sign_token s rest h k
+
+-- ---- the bytes of a lexeme
+
+-- those of a name
+pub name_is_bytes : (w : List ℕ) → IsName w → Each is_name_byte w
+name_is_bytes [] h = tt
+name_is_bytes (b ∷ w) h =
+    let valid : cond (is_digit b) (Some 0) (first_from (λ c. not (is_name_byte c)) 0 (b ∷ w))
+    ≡ None = h.valid in
+    let no : is_digit b ≡ false = by_test (is_digit b)
+    (λ e. let z : Some 0 ≡ None = sym (ap
+    (λ t. cond t (Some 0) (first_from (λ c. not (is_name_byte c)) 0 (b ∷ w))) e) ∙ valid in cc)
+    (λ e. e) in
+    name_bytes 0 (b ∷ w)
+    (sym (ap (λ t. cond t (Some 0) (first_from (λ c. not (is_name_byte c)) 0 (b ∷ w))) no)
+    ∙ valid)
+
+-- those of a number without its sign, of which there are some
+pub number_is_digits : (n : ℕ) → nat_le n 18446744073709551615 ≡ true → Each is_digit (decimal n)
+    × (0 < length (decimal n))
+number_is_digits n h = let few : n < 2 ^ 64 = let l = fits_token n h in omega (arith, l) in
+    (digits_decimal own n few, decimal_nonempty n few)

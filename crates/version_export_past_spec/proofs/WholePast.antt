@@ -1,0 +1,175 @@
+-- The rows of a version's tables, put into a past with just these tables, make one that shows at
+-- each moment what the version shows.
+use Rattle.std.specs.Prelude.{◌≡◌, ◌≤◌, ◌<◌, ℕ, Bool, true, false, List, [], ◌∷◌, cond, length}
+use Rattle.std.specs.Prelude.{nat_le, Option, Some, None, slice_get}
+use Rattle.std.proofs.Common.{refl, sym, ap, subst, ◌∙◌, inl, inr, arith}
+use Rattle.std.specs.FinMap.{get}
+use Rattle.schema_catalog.specs.Tables.{Tables}
+use Rattle.schema_catalog.specs.Databases.{Database, IsDatabase}
+use Rattle.smo_ops_types.specs.Commands.{PlainCommand, PlainVersion}
+use Rattle.smo_ops_spec.specs.Losses.{Loss}
+use Rattle.smo_ops_spec.specs.InForce.{stamp_of}
+use Rattle.smo_ops_spec.specs.Past.{Past, no_tables, tables_of, tables_from, newest_from, begun_at}
+use Rattle.smo_ops_spec.specs.Past.{version_at, database_at, newest_tables}
+use Rattle.smo_ops_spec.specs.History.{past_after}
+use Rattle.smo_ops_spec.specs.ValidPast.{IsPast, AreVersions}
+use Rattle.smo_ops_spec.proofs.PastLaws.{not_at, at_least}
+use Rattle.smo_ops_spec.proofs.PastMoments.{before_or_not, few_begun}
+use Rattle.smo_ops_versions_spec.specs.Migration.{migrated, migrated_from, carried_along, back}
+use Rattle.smo_ops_versions_spec.specs.LostNames.{lost_names}
+use Rattle.smo_ops_versions_spec.proofs.LossCauses.{loss_cause}
+use Rattle.smo_ops_versions_spec.proofs.WaySteps.{stays}
+use Rattle.smo_ops_versions_spec.proofs.WayDatabases.{valid_at}
+use Rattle.version_export_past_spec.specs.Commands.{row_commands}
+use Rattle.version_export_past_spec.specs.Rebuilt.{AllFew, IsRebuilt}
+use Rattle.version_export_past_spec.specs.Blank.{IsBlank, IsCreated}
+use Rattle.version_export_past_spec.specs.Showing.{first_stamp, shown_by, tables_in, later_moments}
+use Rattle.version_export_past_spec.specs.Showing.{NoneLost}
+use Rattle.version_export_past_spec.specs.SamePast.{ShowsTheSame}
+use Rattle.version_export_past_spec.proofs.Rebuilding.{rebuilds}
+use Rattle.version_export_past_spec.proofs.BlankDatabases.{blank_migrated, one_blank_database}
+use Rattle.version_export_past_spec.proofs.ShownDatabases.{shows_database, is_steady}
+
+-- ---- up to its stamp no version but the first is in force
+
+none_later : (low m : ℕ) (before : Tables) (versions : List PlainVersion)
+    → AreVersions (Some low) before versions → m ≤ low → begun_at m versions ≡ []
+none_later low m before [] are l = refl
+none_later low m before (v ∷ versions) are l =
+    let later = are.0.later in
+    ap (λ b. cond b (v ∷ begun_at m versions) (begun_at m versions))
+    (not_at m v.stamp (omega (arith, later, l)))
+    ∙ none_later v.stamp m v.tables versions are.1 (omega (arith, later, l))
+
+one_at_most : (b : Bool) (v : PlainVersion) → length (cond b (v ∷ []) []) ≤ 1
+one_at_most true v = omega arith
+one_at_most false v = omega arith
+
+early_version : (versions : List PlainVersion) (m : ℕ) → AreVersions None no_tables versions
+    → m ≤ stamp_of (slice_get versions 0) → length (begun_at m versions) ≤ 1
+early_version [] m are l = omega arith
+early_version (v ∷ versions) m are l = subst (λ (vs : List PlainVersion).
+    length (cond (nat_le v.stamp m) (v ∷ vs) vs) ≤ 1)
+    (sym (none_later v.stamp m v.tables versions are.1 l)) (one_at_most (nat_le v.stamp m) v)
+
+-- ---- over one version nothing is lost
+
+nothing : (o : Option Loss) → ((l : Loss) → o ≡ Some l → ⊥) → o ≡ None
+nothing None h = refl
+nothing (Some l) h = absurd (h l refl)
+
+pub none_lost_forward : (past : Past) (m : ℕ) (n : List ℕ) → length past.versions ≤ 1
+    → get (lost_names past.versions (version_at past m) 1) n ≡ None
+none_lost_forward past m n few = nothing
+    (get (lost_names past.versions (version_at past m) 1) n)
+    (λ l e. (let h = loss_cause past.versions (version_at past m) 1 n l e in
+    let a = h.from in
+    let b = h.to in
+    let c = few_begun m past.versions in
+    absurd (omega (arith, a, b, c, few))))
+
+-- ---- a past of one version
+
+module _ (past : Past) (v : PlainVersion) (is : past.versions ≡ v ∷ []) where
+  pub version_before : (m : ℕ) → m < v.stamp → version_at past m ≡ 0
+  version_before m l = ap (λ (vs : List PlainVersion). length (begun_at m vs)) is
+      ∙ ap (λ b. length (cond b (v ∷ []) [])) (not_at m v.stamp l)
+
+  pub version_from : (m : ℕ) → v.stamp ≤ m → version_at past m ≡ 1
+  version_from m l = ap (λ (vs : List PlainVersion). length (begun_at m vs)) is
+      ∙ ap (λ b. length (cond b (v ∷ []) [])) (at_least v.stamp m l)
+
+  pub tables_of_one : tables_of past 1 ≡ v.tables
+  tables_of_one = ap (λ (vs : List PlainVersion). tables_from no_tables vs 1) is
+
+  pub newest_of_one : newest_tables past ≡ v.tables
+  newest_of_one = ap (newest_from no_tables) is
+
+  pub one_of_one : length past.versions ≤ 1
+  one_of_one = subst (λ (vs : List PlainVersion). length vs ≤ 1) (sym is) (omega arith)
+
+-- ---- the whole
+
+module _ (past : Past) (version : ℕ) (h : IsPast past) (some : 1 ≤ version)
+    (early : (m : ℕ) → m ≤ first_stamp past → IsBlank (database_at past m))
+    (none : (m : ℕ) → NoneLost past version m) (created : Past)
+    (c : IsCreated (tables_of past version) (first_stamp past) created) where
+  abbrev first : ℕ
+  first = first_stamp past
+
+  abbrev tables : Tables
+  tables = tables_of past version
+
+  abbrev shown : ℕ → Database
+  shown = shown_by past version
+
+  abbrev rows : List PlainCommand
+  rows = row_commands (tables_in past version) shown (later_moments first past.states)
+
+  shows : (m : ℕ) → IsDatabase tables (shown m)
+  shows m = shows_database past version m h (none m)
+
+  blank_early : (m : ℕ) → m ≤ first → IsBlank (shown m)
+  blank_early m l = blank_migrated past.versions (version_at past m) version (database_at past m)
+      (let one = early_version past.versions m h.evolved l in omega (arith, one, some)) (early m l)
+
+  created_database : (m : ℕ) → first ≤ m → IsDatabase tables (database_at created m)
+  created_database m l = subst (λ (t : Tables). IsDatabase t (database_at created m))
+      (ap (tables_of created) (version_from created c.version c.versions m
+      (let b = c.begins in omega (arith, b, l)))
+      ∙ tables_of_one created c.version c.versions ∙ c.has) (c.valid.each m)
+
+  begins_blank : (m : ℕ) → first ≤ m → database_at created m ≡ shown first
+  begins_blank m l = one_blank_database tables (database_at created m) (shown first)
+      (created_database m l) (shows first) (c.blank m) (blank_early first (omega arith))
+
+  module _ (few : AllFew rows) where
+    made : IsRebuilt created rows first shown
+    made =
+        let valid = valid_at past.versions h.evolved version in
+        rebuilds tables valid.schema valid.narrow shown shows (later_moments first past.states)
+        first created c.valid (newest_of_one created c.version c.versions ∙ c.has) c.last
+        begins_blank (is_steady past version first h) few
+
+    abbrev next : Past
+    next = past_after created rows
+
+    next_versions : next.versions ≡ c.version ∷ []
+    next_versions = made.versions ∙ c.versions
+
+    next_tables : tables_of next 1 ≡ tables
+    next_tables = tables_of_one next c.version next_versions ∙ c.has
+
+    next_none : (m : ℕ) (n : List ℕ)
+        → get (lost_names next.versions (version_at next m) 1) n ≡ None
+    next_none m n = none_lost_forward next m n (one_of_one next c.version next_versions)
+
+    next_database : (m : ℕ) → IsDatabase tables (migrated next m 1)
+    next_database m = subst (λ (t : Tables). IsDatabase t (migrated next m 1)) next_tables
+        (shows_database next 1 m made.valid (λ t i. next_none m t.0))
+
+    next_blank : (m : ℕ) → m < first → IsBlank (migrated next m 1)
+    next_blank m l = blank_migrated next.versions (version_at next m) 1 (database_at next m)
+        (let z = version_before next c.version next_versions m
+        (let b = c.begins in omega (arith, b, l)) in omega (arith, z))
+        (subst IsBlank (sym (made.before m l)) (c.blank m))
+
+    same : (m : ℕ) → migrated next m 1 ≡ shown m
+    same m = elim (before_or_not m first) [
+      | inl l ↦ one_blank_database tables (migrated next m 1) (shown m) (next_database m) (shows m)
+          (next_blank m l) (blank_early m (omega (arith, l)))
+      | inr l ↦ ap (λ k. migrated_from next.versions k 1 (database_at next m))
+          (version_from next c.version next_versions m (let b = c.begins in omega (arith, b, l)))
+          ∙ stays (carried_along next.versions) (back next.versions) 1 (database_at next m)
+          ∙ made.after m l
+    ]
+
+    pub shows_the_same : ShowsTheSame created rows past version
+    shows_the_same = record {
+      accepted = made.accepted;
+      valid = made.valid;
+      versions = made.versions;
+      tables = next_tables;
+      shows = same;
+      kept = next_none;
+    }
