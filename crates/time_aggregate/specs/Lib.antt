@@ -1,0 +1,6 @@
+pub mod KeyLaws
+pub mod Aggregates
+pub mod Turns
+pub mod Tallies
+pub mod Listed
+pub mod Parts
