@@ -61,7 +61,7 @@ answers_alike past version created rows h one s query v to accepted =
           s.valid.begun lasts to,
     )
 
-module _ (history : List PlainCommand) (are : IsHistory history) (version : ℕ) (some : 1 ≤ version)
+module _ (history : List PlainCommand) (are : IsHistory history) (version : ℕ)
     (none : NoTableLost (past_of history) version)
     (ends : last_or_nought (past_of history).last < forever)
     (few : AllFew (rows_exported (past_of history) version)) where
@@ -76,7 +76,7 @@ module _ (history : List PlainCommand) (are : IsHistory history) (version : ℕ)
 
   shows : (created : Past) → IsCreated (tables_of past version) (first_stamp past) created
       → ShowsTheSame created (rows_exported past version) past version
-  shows created c = shows_the_same past version is_past some blank
+  shows created c = shows_the_same past version is_past blank
       (lost_never past version is_past none ends) created c few
 
   -- the tables are created by one command

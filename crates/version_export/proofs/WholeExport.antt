@@ -10,7 +10,6 @@ use Rattle.prima_base.specs.Columns.{Column, AreColumns}
 use Rattle.schema_catalog.specs.Places.{NamedColumns}
 use Rattle.smo_ops_spec.specs.Accepts.{command_fault}
 use Rattle.version_export_past_spec.proofs.Changing.{table_found}
-use Rattle.version_export_past_spec.proofs.SomeColumns.{version_has_some}
 use Rattle.version_export_lines_spec.specs.Lines.{body_text}
 use Rattle.smo_ops_types.specs.Operators.{create_table}
 use Rattle.smo_ops_types.specs.Commands.{PlainBody, PlainCommand, PlainVersion}
@@ -22,7 +21,7 @@ use Rattle.smo_ops_spec.specs.ValidPast.{IsPast, AllUpTo, AllInForce, last_or_no
 use Rattle.smo_ops_spec.specs.ValidValues.{HoldsValues, PastHolds}
 use Rattle.smo_ops_spec.proofs.PastSteps.{beginning_is_past}
 use Rattle.smo_ops_spec.proofs.ValueLaws.{beginning_holds, history_holds}
-use Rattle.smo_ops_versions_spec.proofs.WayDatabases.{valid_at}
+use Rattle.smo_ops_versions_spec.proofs.WayLeads.{valid_at, columns_at}
 use Rattle.smo_ops_versions_spec.proofs.WayValues.{way_values}
 use Rattle.smo_parse.specs.Productions.{IsCreateTable, IsOperator}
 use Rattle.smo_parse.proofs.PrintedParts.{Printed, among}
@@ -86,8 +85,7 @@ module _ (history : List PlainCommand) (version : ℕ) (h : IsExportable history
       record {
         table = names.table;
         columns = names.columns;
-        some = version_has_some past.versions version beginning_is_past.tables is_past.evolved t.0
-            t.1 there;
+        some = columns_at past.versions is_past.evolved version t.0 t.1 there;
         few = (valid_at past.versions is_past.evolved version).narrow t.0 t.1 there;
       }
 
@@ -131,7 +129,7 @@ module _ (history : List PlainCommand) (version : ℕ) (h : IsExportable history
               (let b = begins_before from to in omega (arith, b)) c.printed),
           rows_print none,
         ) short;
-    rebuilds = rebuilds history h.is version from none h.ends
+    rebuilds = rebuilds history h.is version none h.ends
         (short_few (rows_exported past version) short.1) (creating (tables_in past version))
         c.accepted c.creates;
   }

@@ -27,7 +27,7 @@ use Rattle.smo_ops_spec.specs.Preconditions.{among}
 use Rattle.smo_ops_spec.specs.Past.{Past, tables_of}
 use Rattle.smo_ops_spec.specs.ValidPast.{IsPast}
 use Rattle.smo_ops_spec.proofs.NameLaws.{in_among, in_names}
-use Rattle.smo_ops_versions_spec.proofs.WayDatabases.{valid_at}
+use Rattle.smo_ops_versions_spec.proofs.WayLeads.{valid_at}
 use Rattle.plain_answers_spec.specs.Choosing.{answered, chosen_cells, choice_meets}
 use Rattle.plain_answers_spec.specs.Branches.{plain}
 use Rattle.temporal_lang_spec.specs.Atoms.{branches_with_atoms, sources_of, to_atoms}

@@ -1,7 +1,7 @@
 -- Operators make no rows of none.
-use Rattle.std.specs.Prelude.{◌≡◌, ◌≤◌, ◌+◌, ◌-◌, ℕ, zero, suc, Bool, true, false, List, [], ◌∷◌}
-use Rattle.std.specs.Prelude.{cond, Option, Some, None, slice_get}
-use Rattle.std.proofs.Common.{refl, sym, ap, subst, ◌∙◌}
+use Rattle.std.specs.Prelude.{◌≡◌, ℕ, Bool, true, false, List, [], ◌∷◌}
+use Rattle.std.specs.Prelude.{cond, Option, Some, None}
+use Rattle.std.proofs.Common.{refl, sym, ap, ◌∙◌}
 use Rattle.std.specs.FinMap.{get, insert, remove, get-insert, get-remove, same_map}
 use Rattle.std.specs.FinMap.{slice_cmp-IsAntisymmetric, nat_cmp-IsAntisymmetric}
 use Rattle.std.specs.Ordering.{eq_by_cmp}
@@ -18,12 +18,12 @@ use Rattle.smo_ops_types.specs.Commands.{PlainVersion}
 use Rattle.smo_ops_spec.specs.OneRow.{Relation}
 use Rattle.smo_ops_spec.specs.Effects.{rows_of, rows_under}
 use Rattle.smo_ops_spec.specs.Making.{from_one, from_two}
-use Rattle.smo_ops_spec.specs.OperatorTable.{Made, line}
+use Rattle.smo_ops_spec.specs.Losses.{Loss}
+use Rattle.smo_ops_spec.specs.OperatorTable.{Made, line, made_names}
 use Rattle.smo_ops_spec.specs.After.{carried, lose_all, make_all}
-use Rattle.smo_ops_spec.specs.Past.{no_tables, tables_from}
-use Rattle.smo_ops_versions_spec.specs.Ways.{forward, over_version}
-use Rattle.smo_ops_versions_spec.specs.Migration.{of_databases, carried_along, back, migrated_from}
-use Rattle.smo_ops_versions_spec.proofs.WaySteps.{goes_forward}
+use Rattle.smo_ops_versions_spec.specs.Steps.{Step, carrying, undoing, taken}
+use Rattle.smo_ops_versions_spec.specs.Ways.{way}
+use Rattle.smo_ops_versions_spec.specs.Migration.{lost_by, stepped, migrated_from}
 use Rattle.version_export_past_spec.specs.Blank.{IsBlank}
 
 blank_lost : (consumed : List (List ℕ)) (db : Database) → IsBlank db
@@ -93,25 +93,34 @@ blank_carried tables op db h = blank_made db (line tables op).made
     (lose_all (line tables op).consumed db) (each_blank tables op db h)
     (blank_lost (line tables op).consumed db h)
 
--- ---- forward over versions
+-- ---- over steps, which lose tables or carry them
 
-blank_next : (before : Tables) (o : Option PlainVersion) (db : Database) → IsBlank db
-    → IsBlank (over_version of_databases before o db)
-blank_next before None db h = h
-blank_next before (Some v) db h = blank_carried before v.op db h
+lost_blank : (loss : Loss) (names : List (List ℕ)) (db : Database) → IsBlank db
+    → IsBlank (lost_by loss names db)
+lost_blank loss [] db h = h
+lost_blank loss (c ∷ names) db h = lost_blank loss names (insert db c (Lost loss.0 loss.1))
+    (λ n. ap rows_under (get-insert nat_list_cmp_total db c (Lost loss.0 loss.1) n)
+    ∙ step n (eq_by_cmp bytes_cmp n c))
+  where
+    step : (n : List ℕ) (b : Bool)
+        → rows_under (cond b (Some (Lost loss.0 loss.1)) (get db n)) ≡ []
+    step n true = refl
+    step n false = h n
 
-blank_forward : (versions : List PlainVersion) (v n : ℕ) (db : Database) → IsBlank db
-    → IsBlank (forward (carried_along versions) v n db)
-blank_forward versions v zero db h = h
-blank_forward versions v (suc n) db h = blank_next (tables_from no_tables versions (v + n))
-    (slice_get versions (v + n)) (forward (carried_along versions) v n db)
-    (blank_forward versions v n db h)
+blank_step : (s : Step) (db : Database) → IsBlank db → IsBlank (stepped s db)
+blank_step (carrying tables op) db h = blank_carried tables op db h
+blank_step (undoing loss before op) db h = lost_blank loss (line before op).consumed
+    (lose_all (made_names (line before op).made) db)
+    (blank_lost (made_names (line before op).made) db h)
 
-pub blank_migrated : (versions : List PlainVersion) (v q : ℕ) (db : Database) → v ≤ q → IsBlank db
+pub blank_taken : (steps : List Step) (db : Database) → IsBlank db
+    → IsBlank (taken stepped steps db)
+blank_taken [] db h = h
+blank_taken (s ∷ steps) db h = blank_taken steps (stepped s db) (blank_step s db h)
+
+pub blank_migrated : (versions : List PlainVersion) (v q : ℕ) (db : Database) → IsBlank db
     → IsBlank (migrated_from versions v q db)
-blank_migrated versions v q db l h = subst IsBlank
-    (sym (goes_forward (carried_along versions) (back versions) v q db l))
-    (blank_forward versions v (q - v) db h)
+blank_migrated versions v q db h = blank_taken (way versions v q) db h
 
 -- ---- one database of a schema has no rows
 

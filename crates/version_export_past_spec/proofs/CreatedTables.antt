@@ -30,14 +30,14 @@ use Rattle.smo_ops_spec.specs.OneRow.{same}
 use Rattle.smo_ops_spec.specs.Preconditions.{among, is_some_column, each_once, few_columns}
 use Rattle.smo_ops_spec.specs.Preconditions.{few_tables}
 use Rattle.smo_ops_spec.specs.Making.{in_order}
-use Rattle.smo_ops_spec.specs.After.{op_fault, schema_after, carried}
+use Rattle.smo_ops_spec.specs.After.{op_fault, schema_after}
 use Rattle.smo_ops_spec.specs.Inverses.{schema_after_each, AllOperatorsAccepted}
 use Rattle.smo_ops_spec.specs.Past.{no_tables}
 use Rattle.smo_ops_spec.proofs.NameLaws.{same_not, same_turned}
-use Rattle.smo_ops_versions_spec.specs.Ways.{over_each}
-use Rattle.smo_ops_versions_spec.specs.Migration.{of_databases}
+use Rattle.smo_ops_versions_spec.specs.Steps.{carrying_each}
+use Rattle.smo_ops_versions_spec.specs.Migration.{carried_over}
 use Rattle.version_export_past_spec.specs.Blank.{IsBlank}
-use Rattle.version_export_past_spec.proofs.BlankDatabases.{blank_carried}
+use Rattle.version_export_past_spec.proofs.BlankDatabases.{blank_taken}
 use Rattle.version_export_past_spec.proofs.CreatedPast.{already_in_order, none_again}
 
 -- a table that can be created: its columns in the order of their names, some and not too many
@@ -188,7 +188,5 @@ all_created_accepted tables few c = all_accepted no_tables (entries tables) (ent
 
 -- and no row is made
 pub blank_over_each : (tables : Tables) (ops : List Operator) (db : Database) → IsBlank db
-    → IsBlank (over_each of_databases tables ops db)
-blank_over_each tables [] db h = h
-blank_over_each tables (op ∷ ops) db h = blank_over_each (schema_after tables op) ops
-    (carried tables op db) (blank_carried tables op db h)
+    → IsBlank (carried_over tables ops db)
+blank_over_each tables ops db h = blank_taken (carrying_each tables ops) db h

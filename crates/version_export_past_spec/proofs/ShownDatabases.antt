@@ -13,6 +13,7 @@ use Rattle.smo_ops_spec.specs.Losses.{loss_of, IsEntryOrLost}
 use Rattle.smo_ops_spec.specs.Past.{State, Past, no_database, tables_of, version_at, database_from}
 use Rattle.smo_ops_spec.specs.Past.{database_at, begun_at}
 use Rattle.smo_ops_spec.specs.ValidPast.{IsPast, Rise, AreStates, Starts, EachStarts}
+use Rattle.smo_ops_versions_spec.specs.Ways.{way}
 use Rattle.smo_ops_versions_spec.specs.Migration.{migrated_from}
 use Rattle.smo_ops_versions_spec.specs.LostNames.{AreLosses, lost_names}
 use Rattle.smo_ops_versions_spec.proofs.WayDatabases.{none_is_lost, migrated_database}
@@ -42,7 +43,7 @@ shows_database past version m h none = λ n.
   where
     losses : AreLosses (lost_names past.versions (version_at past m) version)
         (shown_by past version m)
-    losses = losses_are past.versions (version_at past m) version empty (database_at past m)
+    losses = losses_are (way past.versions (version_at past m) version) empty (database_at past m)
         (no_losses (tables_of past (version_at past m)) (database_at past m) (h.each m))
 
 -- ---- between states all stays

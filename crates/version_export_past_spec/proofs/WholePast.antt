@@ -1,25 +1,25 @@
 -- The rows of a version's tables, put into a past with just these tables, make one that shows at
 -- each moment what the version shows.
-use Rattle.std.specs.Prelude.{◌≡◌, ◌≤◌, ◌<◌, ℕ, Bool, true, false, List, [], ◌∷◌, cond, length}
-use Rattle.std.specs.Prelude.{nat_le, Option, Some, None, slice_get}
+use Rattle.std.specs.Prelude.{◌≡◌, ◌≤◌, ◌<◌, ℕ, List, [], ◌∷◌, cond, length}
+use Rattle.std.specs.Prelude.{Option, Some, None}
 use Rattle.std.proofs.Common.{refl, sym, ap, subst, ◌∙◌, inl, inr, arith}
 use Rattle.std.specs.FinMap.{get}
 use Rattle.schema_catalog.specs.Tables.{Tables}
 use Rattle.schema_catalog.specs.Databases.{Database, IsDatabase}
 use Rattle.smo_ops_types.specs.Commands.{PlainCommand, PlainVersion}
 use Rattle.smo_ops_spec.specs.Losses.{Loss}
-use Rattle.smo_ops_spec.specs.InForce.{stamp_of}
 use Rattle.smo_ops_spec.specs.Past.{Past, no_tables, tables_of, tables_from, newest_from, begun_at}
 use Rattle.smo_ops_spec.specs.Past.{version_at, database_at, newest_tables}
 use Rattle.smo_ops_spec.specs.History.{past_after}
-use Rattle.smo_ops_spec.specs.ValidPast.{IsPast, AreVersions}
-use Rattle.smo_ops_spec.proofs.PastLaws.{not_at, at_least}
+use Rattle.smo_ops_spec.specs.ValidPast.{IsPast}
+use Rattle.smo_ops_spec.proofs.PastLaws.{at_least}
 use Rattle.smo_ops_spec.proofs.PastMoments.{before_or_not, few_begun}
-use Rattle.smo_ops_versions_spec.specs.Migration.{migrated, migrated_from, carried_along, back}
+use Rattle.smo_ops_versions_spec.specs.Steps.{Step, taken}
+use Rattle.smo_ops_versions_spec.specs.Migration.{stepped, migrated, migrated_from}
 use Rattle.smo_ops_versions_spec.specs.LostNames.{lost_names}
 use Rattle.smo_ops_versions_spec.proofs.LossCauses.{loss_cause}
 use Rattle.smo_ops_versions_spec.proofs.WaySteps.{stays}
-use Rattle.smo_ops_versions_spec.proofs.WayDatabases.{valid_at}
+use Rattle.smo_ops_versions_spec.proofs.WayLeads.{valid_at}
 use Rattle.version_export_past_spec.specs.Commands.{row_commands}
 use Rattle.version_export_past_spec.specs.Rebuilt.{AllFew, IsRebuilt}
 use Rattle.version_export_past_spec.specs.Blank.{IsBlank, IsCreated}
@@ -29,28 +29,6 @@ use Rattle.version_export_past_spec.specs.SamePast.{ShowsTheSame}
 use Rattle.version_export_past_spec.proofs.Rebuilding.{rebuilds}
 use Rattle.version_export_past_spec.proofs.BlankDatabases.{blank_migrated, one_blank_database}
 use Rattle.version_export_past_spec.proofs.ShownDatabases.{shows_database, is_steady}
-
--- ---- up to its stamp no version but the first is in force
-
-none_later : (low m : ℕ) (before : Tables) (versions : List PlainVersion)
-    → AreVersions (Some low) before versions → m ≤ low → begun_at m versions ≡ []
-none_later low m before [] are l = refl
-none_later low m before (v ∷ versions) are l =
-    let later = are.0.later in
-    ap (λ b. cond b (v ∷ begun_at m versions) (begun_at m versions))
-    (not_at m v.stamp (omega (arith, later, l)))
-    ∙ none_later v.stamp m v.tables versions are.1 (omega (arith, later, l))
-
-one_at_most : (b : Bool) (v : PlainVersion) → length (cond b (v ∷ []) []) ≤ 1
-one_at_most true v = omega arith
-one_at_most false v = omega arith
-
-early_version : (versions : List PlainVersion) (m : ℕ) → AreVersions None no_tables versions
-    → m ≤ stamp_of (slice_get versions 0) → length (begun_at m versions) ≤ 1
-early_version [] m are l = omega arith
-early_version (v ∷ versions) m are l = subst (λ (vs : List PlainVersion).
-    length (cond (nat_le v.stamp m) (v ∷ vs) vs) ≤ 1)
-    (sym (none_later v.stamp m v.tables versions are.1 l)) (one_at_most (nat_le v.stamp m) v)
 
 -- ---- over one version nothing is lost
 
@@ -71,10 +49,6 @@ none_lost_forward past m n few = nothing
 -- ---- a past of one version
 
 module _ (past : Past) (v : PlainVersion) (is : past.versions ≡ v ∷ []) where
-  pub version_before : (m : ℕ) → m < v.stamp → version_at past m ≡ 0
-  version_before m l = ap (λ (vs : List PlainVersion). length (begun_at m vs)) is
-      ∙ ap (λ b. length (cond b (v ∷ []) [])) (not_at m v.stamp l)
-
   pub version_from : (m : ℕ) → v.stamp ≤ m → version_at past m ≡ 1
   version_from m l = ap (λ (vs : List PlainVersion). length (begun_at m vs)) is
       ∙ ap (λ b. length (cond b (v ∷ []) [])) (at_least v.stamp m l)
@@ -90,7 +64,7 @@ module _ (past : Past) (v : PlainVersion) (is : past.versions ≡ v ∷ []) wher
 
 -- ---- the whole
 
-module _ (past : Past) (version : ℕ) (h : IsPast past) (some : 1 ≤ version)
+module _ (past : Past) (version : ℕ) (h : IsPast past)
     (early : (m : ℕ) → m ≤ first_stamp past → IsBlank (database_at past m))
     (none : (m : ℕ) → NoneLost past version m) (created : Past)
     (c : IsCreated (tables_of past version) (first_stamp past) created) where
@@ -111,7 +85,7 @@ module _ (past : Past) (version : ℕ) (h : IsPast past) (some : 1 ≤ version)
 
   blank_early : (m : ℕ) → m ≤ first → IsBlank (shown m)
   blank_early m l = blank_migrated past.versions (version_at past m) version (database_at past m)
-      (let one = early_version past.versions m h.evolved l in omega (arith, one, some)) (early m l)
+      (early m l)
 
   created_database : (m : ℕ) → first ≤ m → IsDatabase tables (database_at created m)
   created_database m l = subst (λ (t : Tables). IsDatabase t (database_at created m))
@@ -150,8 +124,6 @@ module _ (past : Past) (version : ℕ) (h : IsPast past) (some : 1 ≤ version)
 
     next_blank : (m : ℕ) → m < first → IsBlank (migrated next m 1)
     next_blank m l = blank_migrated next.versions (version_at next m) 1 (database_at next m)
-        (let z = version_before next c.version next_versions m
-        (let b = c.begins in omega (arith, b, l)) in omega (arith, z))
         (subst IsBlank (sym (made.before m l)) (c.blank m))
 
     same : (m : ℕ) → migrated next m 1 ≡ shown m
@@ -160,7 +132,8 @@ module _ (past : Past) (version : ℕ) (h : IsPast past) (some : 1 ≤ version)
           (next_blank m l) (blank_early m (omega (arith, l)))
       | inr l ↦ ap (λ k. migrated_from next.versions k 1 (database_at next m))
           (version_from next c.version next_versions m (let b = c.begins in omega (arith, b, l)))
-          ∙ stays (carried_along next.versions) (back next.versions) 1 (database_at next m)
+          ∙ ap (λ (steps : List Step). taken stepped steps (database_at next m))
+          (stays next.versions 1)
           ∙ made.after m l
     ]
 
