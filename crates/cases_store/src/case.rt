@@ -4,9 +4,9 @@ use crate::change_case::{MadeChange, Numbers, made_change, made_row};
 use crate::comparison::Difference;
 use crate::line::{Line, read_line};
 use crate::pair::Pair;
-use crate::word::{read_row, with_number};
+use crate::word::read_row;
 use cases_store_tables::add_copies;
-use cases_text::{LinePlayer, first_word, play_lines, read_number, write_number};
+use cases_text::{LinePlayer, first_word, play_lines, read_number, with_number, write_number};
 use prima_base::{ColType, Name, NameFault, NoMemory, Row};
 use std::alloc::{AllocError, Global};
 

@@ -1,6 +1,6 @@
 //! Changes made from a seed.
 
-use crate::word::text_value;
+use cases_text::text_value;
 use prima_base::{ColType, Name, NoMemory, Row, Value};
 use std::alloc::Global;
 

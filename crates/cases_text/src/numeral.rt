@@ -2,6 +2,7 @@
 
 use itoa::Buffer;
 use prima_base::NoMemory;
+use std::alloc::Global;
 
 /// Puts a number after a text.
 pub fn write_number(number: u64, text: &mut Vec<u8>) -> Result<(), NoMemory> {
@@ -21,4 +22,17 @@ pub fn read_number(text: &[u8]) -> u64 {
         }
     }
     value
+}
+
+/// The text with the number in place of each `#`.
+pub fn with_number(alloc: Global, text: &[u8], number: u64) -> Result<Vec<u8>, NoMemory> {
+    let mut all = Vec::new(alloc);
+    for byte in text {
+        if *byte == b'#' {
+            write_number(number, &mut all)?;
+        } else {
+            all.push(*byte)?;
+        }
+    }
+    Ok(all)
 }
