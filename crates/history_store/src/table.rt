@@ -99,7 +99,6 @@ impl StoredTable {
     ghost use Rattle.history_store.specs.Store.{column_of};
     ghost use Rattle.history_store_writes.specs.Writing.{new_keys};
     ghost use Rattle.history_store_row_order.specs.Handing.{handed, only_in};
-    ghost use Rattle.history_store_row_order.specs.Rows.{values_in};
     ghost use Rattle.history_store_change_spec.specs.Handing.{written};
     ghost use Rattle.history_store_change_spec.specs.Change.{PreparedChange, IsPrepared};
     ghost use Rattle.history_store_change_spec.specs.Change.{rows_after};
@@ -393,13 +392,13 @@ impl StoredTable {
         change_index(&mut self.live, after);
     }
 
-    /// Copies of the current rows, ascending. Each value is one step, as an entry of a scan is. The
-    /// one error is `NoMemory`, where memory runs out.
+    /// Copies of the current rows, ascending. Each row is one step. The one error is `NoMemory`,
+    /// where memory runs out.
     pub fn current<L: Ledger>(&self, steps: &mut Steps<L>) -> Result<Vec<Row>, NoMemory>
         ensures rows { (m : ℕ) → m < forever → AllBefore self.now (m + 1)
             → IfOk result (λ rows. rows.items ≡ relation_at self.now m) }
         ensures relation { IfOk result (λ rows. IsRelation self.now.columns rows.items) }
-        ensures cost { IfOk result (λ rows. steps.new ≡ steps.old + values_in rows.items) }
+        ensures cost { IfOk result (λ rows. steps.new ≡ steps.old + length rows.items) }
     {
         copy_rows(self.alloc, &self.logs, &self.live.copy()?, steps)
     }

@@ -1,9 +1,9 @@
 -- The rows of ids, as members of a list.
-use Rattle.std.proofs.Common.{◌≡◌, ◌+◌, ◌++◌, ℕ, List, [], ◌∷◌, length, refl, ap, inl, inr, arith}
+use Rattle.std.proofs.Common.{◌≡◌, ℕ, List, [], ◌∷◌, refl, ap, inl, inr}
 use Rattle.prima_base.specs.declared.value.Value.{Value}
 use Rattle.history_store_columns.specs.Log.{Write}
 use Rattle.relations_spec.specs.Sets.{In}
-use Rattle.history_store_row_order.specs.Rows.{row_now, rows_of, values_in}
+use Rattle.history_store_row_order.specs.Rows.{row_now, rows_of}
 
 pub rows_of_in : (id : ℕ) (ids : List ℕ) (columns : List (List Write)) → In id ids
     → In (row_now id columns) (rows_of ids columns)
@@ -16,11 +16,3 @@ pub in_rows_of : (q : List Value) (ids : List ℕ) (columns : List (List Write))
 in_rows_of q [] columns i = absurd i
 in_rows_of q (j ∷ ids) columns (inl e) = (j, inl refl, e)
 in_rows_of q (j ∷ ids) columns (inr i) = let r = in_rows_of q ids columns i in (r.0, inr r.1, r.2)
-
--- one row more
-pub values_more : (rows : List (List Value)) (row : List Value)
-    → values_in (rows ++ row ∷ []) ≡ values_in rows + length row
-values_more [] row = omega arith
-values_more (r ∷ rows) row =
-    let h = values_more rows row in
-    omega (arith, h)

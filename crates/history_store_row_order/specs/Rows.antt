@@ -11,11 +11,6 @@ abbrev pub rows_of : List ℕ → List (List Write) → List (List Value)
 rows_of [] columns = []
 rows_of (id ∷ ids) columns = row_now id columns ∷ rows_of ids columns
 
--- how many values rows have, all together
-abbrev pub values_in : List (List Value) → ℕ
-values_in [] = 0
-values_in (row ∷ rows) = length row + values_in rows
-
 -- each row has so many values
 abbrev pub AllWidth : ℕ → List (List Value) → Type 0
 AllWidth width [] = Unit {0}

@@ -5,7 +5,7 @@ ghost use Rattle.history_store_row_order.specs.Logs.{cells_of};
 ghost use Rattle.history_store_columns.specs.Log.{Log};
 ghost use Rattle.prima_base.specs.Order.{row_cmp};
 ghost use Rattle.relations_spec.specs.Sets.{Ascends};
-ghost use Rattle.history_store_row_order.specs.Rows.{row_now, rows_of, values_in};
+ghost use Rattle.history_store_row_order.specs.Rows.{row_now, rows_of};
 ghost use Rattle.history_store_row_order.specs.Handing.{lost_ids, first_order, owners, no_owners};
 ghost use Rattle.history_store_row_order.specs.Handing.{gained_rows};
 ghost use Rattle.history_store_row_order.specs.Handing.{given_ids, id_by, lost_by, next_by};
@@ -185,27 +185,19 @@ pub fn next_ids(
     Ok(ids)
 }
 
-/// The newest row of the id. Each value is one step.
-fn copy_now<L: Ledger>(
-    alloc: Global,
-    columns: &[Column],
-    id: usize,
-    steps: &mut Steps<L>,
-) -> Result<Row, NoMemory>
+/// The newest row of the id.
+fn copy_now(alloc: Global, columns: &[Column], id: usize) -> Result<Row, NoMemory>
     requires { All (λ c. id < c.ids) columns.now }
-    ensures row { IfOk result (λ row. row ≡ row_now id (cells_of columns.now)) }
-    ensures cost { IfOk result (λ row. steps.new ≡ steps.old + length row) }
+    ensures { IfOk result (λ row. row ≡ row_now id (cells_of columns.now)) }
 {
     let mut values = Vec::with_capacity(alloc, columns.len())?;
     for column in columns {
-        steps.tick();
         values.push(column.newest(id).into_value(alloc)?)?;
     }
     Ok(Row::new(alloc, values))
 }
 
-/// The newest rows of these ids. Each value is one step.
-#[tactic(auto, using(crate::proofs::RowsOf::values_more))]
+/// The newest rows of these ids. Each row is one step.
 pub fn copy_rows<L: Ledger>(
     alloc: Global,
     columns: &[Column],
@@ -215,11 +207,12 @@ pub fn copy_rows<L: Ledger>(
     requires { (id : _) → (k : _) (d : Log) → id < length live.now → k < length columns.now
         → slice_index_or live.now id 0 < (slice_index_or columns.now k d).ids }
     ensures rows { IfOk result (λ rows. rows.items ≡ rows_of live.now (cells_of columns.now)) }
-    ensures cost { IfOk result (λ rows. steps.new ≡ steps.old + values_in rows.items) }
+    ensures cost { IfOk result (λ rows. steps.new ≡ steps.old + length rows.items) }
 {
     let mut rows = Vec::with_capacity(alloc, live.len())?;
     for id in live {
-        rows.push(copy_now(alloc, columns, *id, steps)?)?;
+        steps.tick();
+        rows.push(copy_now(alloc, columns, *id)?)?;
     }
     Ok(rows)
 }

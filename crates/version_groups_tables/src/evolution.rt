@@ -46,7 +46,7 @@ pub struct NextTables {
     pub places: Vec<usize>,
 }
 
-// The rows that are stored under the name now; none where there is no such table. Each value is one
+// The rows that are stored under the name now; none where there is no such table. Each row is one
 // step.
 fn current_rows<L: Ledger>(
     alloc: Global,
