@@ -9,6 +9,7 @@
 #![tactic(auto)]
 
 mod atom;
+mod branch_join;
 mod cursor;
 mod gathered_table;
 mod key_rows;
@@ -17,6 +18,7 @@ mod left_entries;
 mod name;
 mod piece;
 
+pub use branch_join::join_atoms;
 pub use gathered_table::gather;
 pub use laws::reads_depend_on_the_columns_named;
 pub use name::names_at;

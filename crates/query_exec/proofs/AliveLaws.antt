@@ -85,20 +85,7 @@ module _ (versions : List PlainVersion) where
   halved (x ∷ xs) ys alive (one_alive e es rest n h) =
       more_alive x xs ys rest n (halved xs ys rest h)
 
-  -- there is one such list
-  pub one_list : (xs first second : List PlainExplained) → AreAlive versions xs first
-      → AreAlive versions xs second → first ≡ second
-  one_list [] first second none_alive none_alive = refl
-  one_list (x ∷ xs) first second (one_dead e es alive d h) (one_dead f fs others c k) =
-      one_list xs alive others h k
-  one_list (x ∷ xs) first second (one_dead e es alive d h) (one_alive f fs others n k) =
-      absurd (n d)
-  one_list (x ∷ xs) first second (one_alive e es alive n h) (one_dead f fs others d k) =
-      absurd (n d)
-  one_list (x ∷ xs) first second (one_alive e es alive n h) (one_alive f fs others m k) =
-      ap (λ (es : List PlainExplained). x ∷ es) (one_list xs alive others h k)
-
-  -- and each piece that is not dead is in it
+  -- each piece that is not dead is in the list of these
   pub alive_in : (es alive : List PlainExplained) (e : PlainExplained) → AreAlive versions es alive
       → IsAlive versions es e → In e alive
   alive_in es alive e none_alive h = absurd h.among
@@ -185,12 +172,16 @@ own_told branch atom p (x ∷ ps) =
       | false ↦ own_told branch atom p ps
     ]
 
+-- of two lists
+alive_append : (xs ys : List PlainExplained) → alive_of (xs ++ ys) ≡ alive_of xs ++ alive_of ys
+alive_append xs ys = filter-append (λ (e : PlainExplained). lives e.piece) xs ys
+
 told_joined : (xs ys first second : List PlainExplained) → first ≡ alive_of xs
     → second ≡ alive_of ys → first ++ second ≡ alive_of (xs ++ ys)
 told_joined xs ys first second e f =
     ap (λ (es : List PlainExplained). es ++ second) e
     ∙ ap (λ (es : List PlainExplained). alive_of xs ++ es) f
-    ∙ sym (filter-append (λ (e : PlainExplained). lives e.piece) xs ys)
+    ∙ sym (alive_append xs ys)
 
 module _ (versions : List PlainVersion) where
   pub none_over : AreLeft versions [] []
@@ -257,30 +248,25 @@ module _ (kept : Kept) where
   -- a plan reads what its pieces read
   pub plan_cost : (versions : List PlainVersion) (book : Book) (q : ℕ) (table : List ℕ) (r : Read)
       (branch atom : ℕ) (parts : List Part) (plan : List PartPieces)
-      → ArePlanned book versions q table r parts plan → (alive : List PlainExplained)
-      → AreAlive versions (table_pieces book versions q table r branch atom parts) alive
-      → total (part_read kept) plan ≡ reads_of kept alive
-  plan_cost versions book q table r branch atom parts plan h alive k =
+      → ArePlanned book versions q table r parts plan → total (part_read kept) plan
+      ≡ reads_of kept (alive_of (table_pieces book versions q table r branch atom parts))
+  plan_cost versions book q table r branch atom parts plan h =
       sym (planned_read branch atom plan)
-      ∙ ap (reads_of kept)
-      (one_list versions (table_pieces book versions q table r branch atom parts)
-      (planned_pieces branch atom plan) alive
-      (planned_alive versions book q table r branch atom parts plan h) k)
+      ∙ ap (reads_of kept) (plan_told versions book q table r branch atom parts plan h)
 
   -- for each piece of the table that is not dead there is a part of the plan for which as much is
   -- read
   pub plan_least : (versions : List PlainVersion) (book : Book) (q : ℕ) (table : List ℕ) (r : Read)
       (branch atom : ℕ) (parts : List Part) (plan : List PartPieces)
       → ArePlanned book versions q table r parts plan → (e : PlainExplained)
-      → IsAlive versions (table_pieces book versions q table r branch atom parts) e
+      → In e (alive_of (table_pieces book versions q table r branch atom parts))
       → (x : PartPieces) × In x plan × (explained_read kept e ≤ part_read kept x)
   plan_least versions book q table r branch atom parts plan h e a =
-      let among = alive_in versions (table_pieces book versions q table r branch atom parts)
-      (planned_pieces branch atom plan) e
-      (planned_alive versions book q table r branch atom parts plan h) a in
+      let among : In e (planned_pieces branch atom plan) =
+      subst (λ (es : List PlainExplained). In e es)
+      (sym (plan_told versions book q table r branch atom parts plan h)) a in
       let x = from_flat_map (own_pieces branch atom) e plan among in
-      let p = from_map (explained_in branch atom x.0.part) e (shown_pieces x.0.pieces.items) x.2 in
-          (
+      let p = from_map (explained_in branch atom x.0.part) e (shown_pieces x.0.pieces.items) x.2 in (
         x.0,
         x.1,
         subst (λ (y : PlainExplained). explained_read kept y ≤ part_read kept x.0) p.2
@@ -288,61 +274,46 @@ module _ (kept : Kept) where
       )
 
   -- a piece that is not dead is still to be read, or as much was read as there is for it
-  abbrev pub IsLeftOrRead : List PlainVersion → List PlainExplained → ℕ → ℕ → PlainExplained
-      → Type 0
-  IsLeftOrRead versions left first steps e = IsAlive versions left e
+  abbrev pub IsLeftOrRead : List PlainExplained → ℕ → ℕ → PlainExplained → Type 0
+  IsLeftOrRead left first steps e = In e (alive_of left)
       ⊎ (first + explained_read kept e ≤ steps)
 
   -- after the first of them
-  pub left_less : (versions : List PlainVersion) (xs ys : List PlainExplained) (first steps new : ℕ)
-      (e : PlainExplained) → first ≤ steps → steps ≤ new
-      → IsLeftOrRead versions (xs ++ ys) first steps e
-      → (IsAlive versions xs e → steps + explained_read kept e ≤ new)
-      → IsLeftOrRead versions ys first new e
-  left_less versions xs ys first steps new e a b (inr k) here = inr (omega (arith, a, b, k))
-  left_less versions xs ys first steps new e a b (inl h) here =
-      elim (in_append e xs ys h.among) [
-        | inl m ↦ (let k = here (record { among = m; alive = h.alive }) in
-            inr (omega (arith, a, b, k)))
-        | inr m ↦ inl (record { among = m; alive = h.alive })
+  pub left_less : (xs ys : List PlainExplained) (first steps new : ℕ) (e : PlainExplained)
+      → first ≤ steps → steps ≤ new → IsLeftOrRead (xs ++ ys) first steps e
+      → (In e (alive_of xs) → steps + explained_read kept e ≤ new)
+      → IsLeftOrRead ys first new e
+  left_less xs ys first steps new e a b (inr k) here = inr (omega (arith, a, b, k))
+  left_less xs ys first steps new e a b (inl h) here =
+      elim (in_append e (alive_of xs) (alive_of ys)
+      (subst (λ (es : List PlainExplained). In e es) (alive_append xs ys) h)) [
+        | inl m ↦ (let k = here m in inr (omega (arith, a, b, k)))
+        | inr m ↦ inl m
       ]
 
   -- and at last
-  pub all_read : (versions : List PlainVersion) (first steps : ℕ) (e : PlainExplained)
-      → IsLeftOrRead versions [] first steps e → first + explained_read kept e ≤ steps
-  all_read versions first steps e (inl h) = absurd h.among
-  all_read versions first steps e (inr k) = k
+  pub all_read : (first steps : ℕ) (e : PlainExplained) → IsLeftOrRead [] first steps e
+      → first + explained_read kept e ≤ steps
+  all_read first steps e (inl h) = absurd h
+  all_read first steps e (inr k) = k
 
   -- what may still be read: for those of these pieces that are not dead
-  pub record Owes (versions : List PlainVersion) (left : List PlainExplained) (steps all : ℕ) :
-      Type 0 where
-    pub alive : List PlainExplained
-    pub are : AreAlive versions left alive
-    pub within : steps + reads_of kept alive ≤ all
+  abbrev pub Owes : List PlainExplained → ℕ → ℕ → Type 0
+  Owes left steps all = steps + reads_of kept (alive_of left) ≤ all
 
   -- at first, and after the first of them
-  pub owes_all : (versions : List PlainVersion) (xs alive : List PlainExplained) (steps : ℕ)
-      → AreAlive versions xs alive → Owes versions xs steps (steps + reads_of kept alive)
-  owes_all versions xs alive steps h = record { alive = alive; are = h; within = omega arith }
+  pub owes_all : (xs : List PlainExplained) (steps : ℕ)
+      → Owes xs steps (steps + reads_of kept (alive_of xs))
+  owes_all xs steps = omega arith
 
-  pub owes_less : (versions : List PlainVersion) (xs ys : List PlainExplained) (steps all new : ℕ)
-      → Owes versions (xs ++ ys) steps all
-      → ((alive : List PlainExplained) → AreAlive versions xs alive
-      → new ≤ steps + reads_of kept alive) → Owes versions ys new all
-  owes_less versions xs ys steps all new o h =
-      let halves = halved versions xs ys o.alive o.are in
-      let sum : reads_of kept o.alive ≡ reads_of kept halves.first + reads_of kept halves.second =
-      ap (reads_of kept) halves.both ∙ total_joined (explained_read kept) halves.first
-      halves.second in
-      let here = h halves.first halves.left in
-      let within = o.within in
-      record {
-        alive = halves.second;
-        are = halves.right;
-        within =
-            omega (arith, sum, here, within);
-      }
+  pub owes_less : (xs ys : List PlainExplained) (steps all new : ℕ) → Owes (xs ++ ys) steps all
+      → new ≤ steps + reads_of kept (alive_of xs) → Owes ys new all
+  owes_less xs ys steps all new o h =
+      let sum : reads_of kept (alive_of (xs ++ ys))
+      ≡ reads_of kept (alive_of xs) + reads_of kept (alive_of ys) =
+      ap (reads_of kept) (alive_append xs ys)
+      ∙ total_joined (explained_read kept) (alive_of xs) (alive_of ys) in
+      omega (arith, sum, h, o)
 
-  pub owes_within : (versions : List PlainVersion) (xs : List PlainExplained) (steps all : ℕ)
-      → Owes versions xs steps all → steps ≤ all
-  owes_within versions xs steps all o = (let within = o.within in omega (arith, within))
+  pub owes_within : (xs : List PlainExplained) (steps all : ℕ) → Owes xs steps all → steps ≤ all
+  owes_within xs steps all o = omega (arith, o)

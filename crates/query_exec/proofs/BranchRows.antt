@@ -32,7 +32,7 @@ use Rattle.piece_ir.specs.ExplainedPieces.{PlainExplained}
 use Rattle.period_split.specs.Splitting.{Part}
 use Rattle.query_exec.specs.declared.route.Route.{Route}
 use Rattle.query_exec.specs.Accepted.{MayBranch, MayBranches}
-use Rattle.query_exec.specs.QueryPieces.{branch_pieces, branches_pieces, AreAlive, IsAlive}
+use Rattle.query_exec.specs.QueryPieces.{branch_pieces, branches_pieces, alive_of}
 use Rattle.query_exec.specs.Reads.{explained_read, reads_of}
 use Rattle.query_exec.proofs.AliveLaws.{Owes, owes_less, IsLeftOrRead, left_less}
 use Rattle.version_groups.specs.Groups.{Kept}
@@ -139,41 +139,40 @@ module _ (branches : List Branch) (i : ℕ) (b : Branch) (l : i < length branche
 
   pub branch_owes : (kept : Kept) (book : Book) (versions : List PlainVersion) (q : ℕ)
       (parts : List Part) (number : ℕ) (steps all new : ℕ)
-      → Owes kept versions (branches_pieces book versions q parts (number + i)
+      → Owes kept (branches_pieces book versions q parts (number + i)
       (branches_of (drop i branches))) steps all
-      → ((own : List PlainExplained) → AreAlive versions
-      (branch_pieces book versions q parts (number + i) (branch_of b)) own
-      → new ≤ steps + reads_of kept own)
-      → Owes kept versions (branches_pieces book versions q parts (number + (i + 1))
+      → new ≤ steps + reads_of kept (alive_of (branch_pieces book versions q parts (number + i)
+      (branch_of b)))
+      → Owes kept (branches_pieces book versions q parts (number + (i + 1))
       (branches_of (drop (i + 1) branches))) new all
   branch_owes kept book versions q parts number steps all new o h =
       let e : (number + i) + 1 ≡ number + (i + 1) = omega arith in
-      subst (λ (n : ℕ). Owes kept versions (branches_pieces book versions q parts n
+      subst (λ (n : ℕ). Owes kept (branches_pieces book versions q parts n
       (branches_of (drop (i + 1) branches))) new all) e
-      (owes_less kept versions (branch_pieces book versions q parts (number + i) (branch_of b))
+      (owes_less kept (branch_pieces book versions q parts (number + i) (branch_of b))
       (branches_pieces book versions q parts ((number + i) + 1)
       (branches_of (drop (i + 1) branches))) steps all new
-      (subst (λ (es : List PlainExplained). Owes kept versions es steps all)
+      (subst (λ (es : List PlainExplained). Owes kept es steps all)
       (branches_left book versions q parts (number + i)) o) h)
 
   pub branch_left : (kept : Kept) (book : Book) (versions : List PlainVersion) (q : ℕ)
       (parts : List Part) (number : ℕ) (first steps new : ℕ) (e : PlainExplained) → first ≤ steps
       → steps ≤ new
-      → IsLeftOrRead kept versions (branches_pieces book versions q parts (number + i)
+      → IsLeftOrRead kept (branches_pieces book versions q parts (number + i)
       (branches_of (drop i branches))) first steps e
-      → (IsAlive versions (branch_pieces book versions q parts (number + i) (branch_of b)) e
+      → (In e (alive_of (branch_pieces book versions q parts (number + i) (branch_of b)))
       → steps + explained_read kept e ≤ new)
-      → IsLeftOrRead kept versions (branches_pieces book versions q parts (number + (i + 1))
+      → IsLeftOrRead kept (branches_pieces book versions q parts (number + (i + 1))
       (branches_of (drop (i + 1) branches))) first new e
   branch_left kept book versions q parts number first steps new e x y o h =
       let s : (number + i) + 1 ≡ number + (i + 1) = omega arith in
-      subst (λ (n : ℕ). IsLeftOrRead kept versions
+      subst (λ (n : ℕ). IsLeftOrRead kept
       (branches_pieces book versions q parts n (branches_of (drop (i + 1) branches))) first new
       e) s
-      (left_less kept versions (branch_pieces book versions q parts (number + i) (branch_of b))
+      (left_less kept (branch_pieces book versions q parts (number + i) (branch_of b))
       (branches_pieces book versions q parts ((number + i) + 1)
       (branches_of (drop (i + 1) branches))) first steps new e x y
-      (subst (λ (es : List PlainExplained). IsLeftOrRead kept versions es first steps e)
+      (subst (λ (es : List PlainExplained). IsLeftOrRead kept es first steps e)
       (branches_left book versions q parts (number + i)) o) h)
 
   pub branches_more : (book : Book) (versions : List PlainVersion) (q : ℕ) (parts : List Part)

@@ -5,7 +5,6 @@ use Rattle.std.proofs.Common.{sym, ap, subst, ◌∙◌, inl, inr}
 use Rattle.std.specs.Prelude.{◌==◌, not, None, if◌then◌else◌}
 use Rattle.std.specs.FinMap.{get}
 use Rattle.relations_spec.specs.Sets.{In}
-use Rattle.relations_spec.specs.Spans.{Span}
 use Rattle.relations_spec.proofs.SetLaws.{in_append, from_map, from_flat_map, from_filter}
 use Rattle.prima_base.specs.Columns.{IsValid}
 use Rattle.schema_catalog.specs.Tables.{Tables}
@@ -16,9 +15,8 @@ use Rattle.cond_expr.specs.Faults.{test_references}
 use Rattle.cond_expr.specs.Parts.{parts, Bound}
 use Rattle.smo_ops_types.specs.Commands.{PlainVersion}
 use Rattle.smo_ops_spec.specs.ValidPast.{IsPast}
-use Rattle.smo_ops_spec.specs.Past.{Past, no_tables, tables_from, tables_of, version_at}
+use Rattle.smo_ops_spec.specs.Past.{Past, no_tables, tables_from, tables_of}
 use Rattle.smo_ops_versions_spec.specs.LostNames.{lost_names}
-use Rattle.version_groups.proofs.OwnMoments.{own_version}
 use Rattle.plain_answers_spec.specs.Branches.{Item, PlainBranch}
 use Rattle.plain_answers_spec.specs.Naming.{all_references}
 use Rattle.plain_answers_spec.specs.Pushing.{are_own, own_parts, as_first, pushed, pushed_from}
@@ -42,18 +40,17 @@ use Rattle.piece_ir_spec.proofs.ReadMoments.{table_typed, table_valid}
 use Rattle.temporal_lang_spec.specs.Accepted.{fault_of_query}
 use Rattle.temporal_lang_spec.specs.Atoms.{Source, sources_of, to_atoms, branch_with_atoms}
 use Rattle.temporal_lang_spec.specs.Atoms.{with_atoms}
-use Rattle.temporal_lang_types.specs.Queries.{PlainQuery, slice_of}
-use Rattle.query_pieces_spec.specs.Piecewise.{asked_branches, IsAskedOf}
-use Rattle.query_pieces_spec.proofs.ReadByPieces.{pushed_enough, items_kept}
-use Rattle.period_split.specs.Splitting.{Part, split_by}
-use Rattle.period_split.proofs.PartLaws.{split_ascends}
+use Rattle.temporal_lang_types.specs.Queries.{PlainQuery}
+use Rattle.query_pieces_spec.specs.Piecewise.{asked_branches}
+use Rattle.query_pieces_spec.proofs.ReadByPieces.{pushed_enough}
+use Rattle.period_split.specs.Splitting.{Part}
 use Rattle.query_exec.specs.Constants.{ValidInQuery}
 use Rattle.query_exec.specs.QueryPieces.{explained_in, part_pieces, table_pieces, items_pieces}
 use Rattle.query_exec.specs.QueryPieces.{branch_pieces, branches_pieces, all_pieces, AreAlive}
 use Rattle.query_exec.specs.QueryPieces.{none_alive, one_dead, one_alive, ArePieces, alive_of}
 use Rattle.query_exec.specs.QueryPieces.{living_pieces}
 use Rattle.query_exec.specs.Questions.{own_read}
-use Rattle.query_exec.proofs.RouteLaws.{each_lasts, covers_start, asked_of, is_own, is_within}
+use Rattle.query_exec.proofs.QueryParts.{asked_parts, NoneLost, none_lost}
 
 -- ---- one piece
 
@@ -146,32 +143,8 @@ module _ (book : Book) (valid : IsValidBook book) (past : Past) (is : IsPast pas
   abbrev q : ℕ
   q = query.version
 
-  abbrev slice : Span
-  slice = slice_of query.when
-
   abbrev its_parts : List Part
-  its_parts = split_by past.versions slice
-
-  part_asked : (p : Part) → In p its_parts → IsAskedOf query p.0.start
-      × (version_at past p.0.start ≡ p.1)
-  part_asked p i =
-      let up = split_ascends past.versions slice in
-      let c = covers_start p.0 (each_lasts 0 its_parts p up i) in
-      let own = is_own past.versions slice its_parts refl up p i in (
-        asked_of query p.0.start (is_within past.versions slice its_parts refl up p i p.0.start c),
-        own_version past is p.1 p.0.start own.there (own.moments p.0.start c),
-      )
-
-  -- none of the tables is lost on the way from a part's version
-  abbrev NoneLost : List Item → Type 0
-  NoneLost from = (x : Item) → In x from → (p : Part) → In p its_parts
-      → get (lost_names past.versions p.1 q) x.0 ≡ None
-
-  none_lost : (b : PlainBranch) → In b (asked_branches past query) → NoneLost b.from
-  none_lost b m x k p i =
-      let a = part_asked p i in
-      subst (λ (v : ℕ). get (lost_names past.versions v q) x.0 ≡ None) a.1
-      (items_kept past query accepted p.0.start a.0 b m x k)
+  its_parts = asked_parts past query
 
   table_clear : (table : List ℕ) (r : Read) (branch atom : ℕ)
       → IsQuestion (tables_of past q) table r
@@ -190,7 +163,7 @@ module _ (book : Book) (valid : IsValidBook book) (past : Past) (is : IsPast pas
       })
 
   items_clear : (outs : List Tree) (c : Test) (n i : ℕ) (from : List Item)
-      → AreQuestions (tables_of past q) from (pushed_from i from outs c) → NoneLost from
+      → AreQuestions (tables_of past q) from (pushed_from i from outs c) → NoneLost past query from
       → ValidInTest c
       → AllClear past.versions (items_pieces book past.versions q its_parts (all_references outs c)
       c n i from)
@@ -206,7 +179,7 @@ module _ (book : Book) (valid : IsValidBook book) (past : Past) (is : IsPast pas
 
   branches_clear : (n : ℕ) (bs : List PlainBranch)
       → ((b : PlainBranch) → In b bs → Suffices (tables_of past q) (pushed_reads b) b)
-      → ((b : PlainBranch) → In b bs → NoneLost b.from)
+      → ((b : PlainBranch) → In b bs → NoneLost past query b.from)
       → ((b : PlainBranch) → In b bs → ValidInTest b.cond)
       → AllClear past.versions (branches_pieces book past.versions q its_parts n bs)
   branches_clear n [] s none h e m = absurd m
@@ -230,5 +203,5 @@ module _ (book : Book) (valid : IsValidBook book) (past : Past) (is : IsPast pas
       (living_pieces book past.versions (with_atoms (tables_of past q) query))
   are_pieces =
       all_alive past.versions (all_pieces book past.versions (with_atoms (tables_of past q) query))
-      (branches_clear 1 (asked_branches past query) (pushed_enough past query accepted) none_lost
-      branch_valid)
+      (branches_clear 1 (asked_branches past query) (pushed_enough past query accepted)
+      (none_lost past query is accepted) branch_valid)

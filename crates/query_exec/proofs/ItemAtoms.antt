@@ -3,7 +3,7 @@ use Rattle.std.proofs.Common.{◌≡◌, ◌+◌, ◌<◌, ◌≤◌, ℕ, true,
 use Rattle.std.proofs.Common.{take, drop, refl, sym, ap, subst, ◌∙◌, append_assoc, append-nil}
 use Rattle.std.proofs.Common.{arith}
 use Rattle.std.proofs.lemmas.List.{length-map, length-take-le}
-use Rattle.relations_spec.specs.Sets.{set_of}
+use Rattle.relations_spec.specs.Sets.{In, set_of}
 use Rattle.relations_spec.specs.Spans.{covers}
 use Rattle.relations_spec.specs.Listing.{IsListing}
 use Rattle.prima_base.specs.Columns.{Column, names_of}
@@ -42,7 +42,7 @@ use Rattle.period_split.specs.Splitting.{Part}
 use Rattle.query_exec.specs.declared.route.Route.{Route}
 use Rattle.query_exec.specs.Accepted.{IsRead, AreRead, MayItems}
 use Rattle.query_exec.specs.Questions.{own_read, table_read}
-use Rattle.query_exec.specs.QueryPieces.{table_pieces, items_pieces, AreAlive, IsAlive}
+use Rattle.query_exec.specs.QueryPieces.{table_pieces, items_pieces, alive_of}
 use Rattle.query_exec.specs.Reads.{explained_read, reads_of}
 use Rattle.query_exec.specs.Routes.{MayBeRead}
 use Rattle.coalesce.proofs.Listed.{listed_at}
@@ -164,35 +164,33 @@ module _ (book : Book) (versions : List PlainVersion) (q : ℕ) (parts : List Pa
 
   pub item_owes : (kept : Kept) (from : List Item) (i : ℕ) (x : Item) → i < length from
       → x ≡ get_or from i x → (steps all new : ℕ)
-      → Owes kept versions (items_pieces book versions q parts rs c branch i (drop i from)) steps
+      → Owes kept (items_pieces book versions q parts rs c branch i (drop i from)) steps all
+      → new ≤ steps + reads_of kept (alive_of (table_pieces book versions q x.0 (own_read i rs c)
+      branch (i + 1) parts))
+      → Owes kept (items_pieces book versions q parts rs c branch (i + 1) (drop (i + 1) from)) new
       all
-      → ((own : List PlainExplained) → AreAlive versions
-      (table_pieces book versions q x.0 (own_read i rs c) branch (i + 1) parts) own
-      → new ≤ steps + reads_of kept own)
-      → Owes kept versions (items_pieces book versions q parts rs c branch (i + 1)
-      (drop (i + 1) from)) new all
   item_owes kept from i x l is steps all new o h =
-      owes_less kept versions (table_pieces book versions q x.0 (own_read i rs c) branch (i + 1)
+      owes_less kept (table_pieces book versions q x.0 (own_read i rs c) branch (i + 1)
       parts) (items_pieces book versions q parts rs c branch (i + 1) (drop (i + 1) from)) steps
       all new
-      (subst (λ (es : List PlainExplained). Owes kept versions es steps all)
+      (subst (λ (es : List PlainExplained). Owes kept es steps all)
       (items_left from i x l is) o) h
 
   -- and what is left to be read of one piece
   pub item_left : (kept : Kept) (from : List Item) (i : ℕ) (x : Item) → i < length from
       → x ≡ get_or from i x → (first steps new : ℕ) (e : PlainExplained) → first ≤ steps
       → steps ≤ new
-      → IsLeftOrRead kept versions (items_pieces book versions q parts rs c branch i (drop i from))
-      first steps e
-      → (IsAlive versions (table_pieces book versions q x.0 (own_read i rs c) branch (i + 1) parts)
-      e → steps + explained_read kept e ≤ new)
-      → IsLeftOrRead kept versions (items_pieces book versions q parts rs c branch (i + 1)
+      → IsLeftOrRead kept (items_pieces book versions q parts rs c branch i (drop i from)) first
+      steps e
+      → (In e (alive_of (table_pieces book versions q x.0 (own_read i rs c) branch (i + 1) parts))
+      → steps + explained_read kept e ≤ new)
+      → IsLeftOrRead kept (items_pieces book versions q parts rs c branch (i + 1)
       (drop (i + 1) from)) first new e
   item_left kept from i x l is first steps new e a b o h =
-      left_less kept versions (table_pieces book versions q x.0 (own_read i rs c) branch (i + 1)
+      left_less kept (table_pieces book versions q x.0 (own_read i rs c) branch (i + 1)
       parts) (items_pieces book versions q parts rs c branch (i + 1) (drop (i + 1) from)) first
       steps new e a b
-      (subst (λ (es : List PlainExplained). IsLeftOrRead kept versions es first steps e)
+      (subst (λ (es : List PlainExplained). IsLeftOrRead kept es first steps e)
       (items_left from i x l is) o) h
 
   items_last : (i : ℕ) (from : List Item) (x : Item)

@@ -13,4 +13,6 @@ pub mod ItemAtoms
 pub mod WholeAnswers
 pub mod BorrowedRows
 pub mod RunLaws
+pub mod QueryParts
 pub mod FoundDead
+pub mod ToldMeaningLaws

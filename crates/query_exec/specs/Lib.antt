@@ -3,6 +3,7 @@ pub mod Totals
 pub mod Questions
 pub mod Asked
 pub mod QueryPieces
+pub mod ToldMeanings
 pub mod Planned
 pub mod Losing
 pub mod Routes

@@ -1,8 +1,8 @@
 //! Branches of a query, answered over what is read of their items' tables.
 
-ghost use Rattle.std.specs.Prelude.{◌≡◌, ℕ, ◌+◌, ◌≤◌, List, [], length, true, false, IfOk};
+ghost use Rattle.std.specs.Prelude.{◌≡◌, ℕ, ◌+◌, ◌≤◌, [], length, true, false, IfOk};
 ghost use Rattle.std.specs.List.{flat_map};
-ghost use Rattle.relations_spec.specs.Sets.{set_of};
+ghost use Rattle.relations_spec.specs.Sets.{In, set_of};
 ghost use Rattle.relations_spec.specs.Spans.{covers};
 ghost use Rattle.prima_base.specs.Order.{row_cmp};
 ghost use Rattle.prima_base.specs.Timed.{rows_at};
@@ -19,7 +19,7 @@ ghost use Rattle.query_exec.specs.Accepted.{MayItems, MayBranch, MayBranches, Ar
 ghost use Rattle.query_exec.specs.Routes.{IsRoute};
 ghost use Rattle.piece_ir.specs.ExplainedPieces.{PlainExplained};
 ghost use Rattle.query_exec.specs.QueryPieces.{items_pieces, branch_pieces, branches_pieces};
-ghost use Rattle.query_exec.specs.QueryPieces.{AreAlive, IsAlive};
+ghost use Rattle.query_exec.specs.QueryPieces.{alive_of};
 ghost use Rattle.join_exec_spec.specs.BorrowedOutputs.{AllStayBorrowed};
 ghost use Rattle.join_exec_engine.specs.Atoms.{AtomsBorrow};
 ghost use Rattle.query_exec.specs.Borrowed.{BorrowedByBranch, AlwaysBorrowedBy, AllSpare};
@@ -29,7 +29,8 @@ use crate::item::read_item;
 use crate::piece::put_rows;
 use crate::route::Route;
 use cond_expr::{ColRef, Cond, gather_references};
-use join_exec_engine::{Atom, answer_choices};
+use join_exec::join_atoms;
+use join_exec_engine::Atom;
 use prima_base::{Name, NoMemory, Steps};
 use prima_base_rows::TimedRows;
 use rewrite_rules_book::{Rule, RuleBook};
@@ -66,17 +67,14 @@ fn read_items<'a, L: Ledger, R: Rule>(
         route.now.asked route.now.parts.items (borrowed references.now) (test cond.now) branch 0
         from.now)
         → IfOk result (λ atoms. AtomsBorrow (by_branch branch) atoms.items) }
-    ensures cost { (branch : ℕ) → (alive : List PlainExplained)
-        → AreAlive (versions_in groups.now)
+    ensures cost { (branch : ℕ) → steps.new ≤ steps.old + reads_of groups.now (alive_of
         (items_pieces (meaning_of book.now.rules.items R.handles R.answers) (versions_in groups.now)
         route.now.asked route.now.parts.items (borrowed references.now) (test cond.now) branch 0
-        from.now) alive
-        → steps.new ≤ steps.old + reads_of groups.now alive }
-    ensures least { (branch : ℕ) → (e : PlainExplained)
-        → IsAlive (versions_in groups.now)
+        from.now)) }
+    ensures least { (branch : ℕ) → (e : PlainExplained) → In e (alive_of
         (items_pieces (meaning_of book.now.rules.items R.handles R.answers) (versions_in groups.now)
         route.now.asked route.now.parts.items (borrowed references.now) (test cond.now) branch 0
-        from.now) e
+        from.now))
         → IfOk result (λ _. steps.old + explained_read groups.now e ≤ steps.new) }
     ensures rises { steps.old ≤ steps.new }
 {
@@ -119,17 +117,14 @@ fn answer_branch<'a, L: Ledger, R: Rule>(
         route.now.asked route.now.parts.items number (branch_of branch.now))
         → IfOk result (λ rows. AllStayBorrowed (by_branch number) (branch_of branch.now).outs
         rows.items) }
-    ensures cost { (number : ℕ) → (alive : List PlainExplained)
-        → AreAlive (versions_in groups.now)
+    ensures cost { (number : ℕ) → steps.new ≤ steps.old + reads_of groups.now (alive_of
         (branch_pieces (meaning_of book.now.rules.items R.handles R.answers)
         (versions_in groups.now) route.now.asked route.now.parts.items number
-        (branch_of branch.now)) alive
-        → steps.new ≤ steps.old + reads_of groups.now alive }
-    ensures least { (number : ℕ) → (e : PlainExplained)
-        → IsAlive (versions_in groups.now)
+        (branch_of branch.now))) }
+    ensures least { (number : ℕ) → (e : PlainExplained) → In e (alive_of
         (branch_pieces (meaning_of book.now.rules.items R.handles R.answers)
         (versions_in groups.now) route.now.asked route.now.parts.items number
-        (branch_of branch.now)) e
+        (branch_of branch.now)))
         → IfOk result (λ _. steps.old + explained_read groups.now e ≤ steps.new) }
     ensures rises { steps.old ≤ steps.new }
 {
@@ -146,7 +141,7 @@ fn answer_branch<'a, L: Ledger, R: Rule>(
         &branch.cond,
         steps,
     )?;
-    answer_choices(alloc, &branch.outs, &branch.cond, atoms, route.slice)
+    join_atoms(alloc, branch, atoms, route.slice)
 }
 
 /// What branches answer at each moment of the slice, all together.
@@ -175,17 +170,14 @@ pub(crate) fn answer_branches<'a, L: Ledger, R: Rule>(
         (branches_of branches.now))
         → IfOk result (λ rows. AlwaysBorrowedBy past route.now.asked by_branch number
         (branches_of branches.now) rows.items) }
-    ensures cost { (number : ℕ) → (alive : List PlainExplained)
-        → AreAlive (versions_in groups.now)
+    ensures cost { (number : ℕ) → steps.new ≤ steps.old + reads_of groups.now (alive_of
         (branches_pieces (meaning_of book.now.rules.items R.handles R.answers)
         (versions_in groups.now) route.now.asked route.now.parts.items number
-        (branches_of branches.now)) alive
-        → steps.new ≤ steps.old + reads_of groups.now alive }
-    ensures least { (number : ℕ) → (e : PlainExplained)
-        → IsAlive (versions_in groups.now)
+        (branches_of branches.now))) }
+    ensures least { (number : ℕ) → (e : PlainExplained) → In e (alive_of
         (branches_pieces (meaning_of book.now.rules.items R.handles R.answers)
         (versions_in groups.now) route.now.asked route.now.parts.items number
-        (branches_of branches.now)) e
+        (branches_of branches.now)))
         → IfOk result (λ _. steps.old + explained_read groups.now e ≤ steps.new) }
     ensures rises { steps.old ≤ steps.new }
 {

@@ -7,11 +7,13 @@ ghost use Rattle.smo_ops_spec.specs.Past.{Past};
 ghost use Rattle.piece_ir.specs.Shown.{piece_of, shown_pieces};
 ghost use Rattle.piece_ir.specs.ExplainedPieces.{PlainExplained, explained_of, all_explained};
 ghost use Rattle.temporal_lang_types.specs.Branches.{branch_of, branches_of};
-ghost use Rattle.temporal_lang_types.specs.Queries.{query_of, IsLasting};
+ghost use Rattle.temporal_lang_types.specs.Queries.{PlainQuery, query_of, IsLasting};
 ghost use Rattle.version_groups.specs.Groups.{versions_in};
 ghost use Rattle.version_groups.specs.Representation.{Represents};
 ghost use Rattle.rewrite.specs.Books.{meaning_of};
 ghost use Rattle.query_exec.specs.Accepted.{MayItems, MayBranch, MayBranches, IsAnswerable};
+ghost use Rattle.query_exec.specs.Accepted.{IsQueryAccepted};
+ghost use Rattle.query_exec.specs.ToldMeanings.{MeanWhatIsAsked};
 ghost use Rattle.query_exec.specs.Planned.{planned_pieces};
 ghost use Rattle.query_exec.specs.Questions.{own_read};
 ghost use Rattle.query_exec.specs.QueryPieces.{explained_in, table_pieces, items_pieces};
@@ -19,6 +21,7 @@ ghost use Rattle.query_exec.specs.QueryPieces.{branch_pieces, branches_pieces, l
 ghost use Rattle.query_exec.specs.QueryPieces.{AreLeft, ArePieces};
 ghost use Rattle.query_exec.specs.Routes.{IsRoute, MayBeRead};
 
+use crate::laws::pieces_mean_what_is_asked;
 use crate::part_piece::PartPieces;
 use crate::question::question_of;
 use crate::route::{Route, route_of};
@@ -211,7 +214,9 @@ fn explain_branches<R: Rule>(
 
 /// The pieces of a query, just those that `answer` reads: for each branch and item in text order,
 /// and for each version that is in force in the slice, those into which what is asked of the item's
-/// table unfolds there, but for the dead. The query is one that is not refused, with each reference
+/// table unfolds there, but for the dead: over every valid database of the version, and not only
+/// the one that is there, they mean what is asked of the table in that database, migrated to the
+/// query's version (clause `meant`). The query is one that is not refused, with each reference
 /// made one to an atom, and the groups represent the past. The one error is `NoMemory`, where
 /// memory runs out.
 pub fn explain<R: Rule>(
@@ -228,7 +233,13 @@ pub fn explain<R: Rule>(
     ensures told { IfOk result (λ v. all_explained v.items
         ≡ living_pieces (meaning_of book.now.rules.items R.handles R.answers)
         (versions_in groups.now) (query_of query.now)) }
+    ensures meant { (past : Past) → (asked : PlainQuery) → Represents groups.now past
+        → IsQueryAccepted past asked (query_of query.now)
+        → IfOk result (λ v. MeanWhatIsAsked past.versions (query_of query.now)
+        (all_explained v.items)) }
 {
+    pieces_mean_what_is_asked();
+    book.known();
     let slice = slice(query);
     let route = route_of(alloc, groups, slice, query.version)?;
     let pieces = explain_branches(alloc, groups, book, &route, &query.branches)?;

@@ -1,6 +1,7 @@
 //! The table of an item of a FROM, read as an atom of a join.
 
-ghost use Rattle.std.specs.Prelude.{◌≡◌, ℕ, ◌+◌, ◌≤◌, List, IfOk};
+ghost use Rattle.std.specs.Prelude.{◌≡◌, ℕ, ◌+◌, ◌≤◌, IfOk};
+ghost use Rattle.relations_spec.specs.Sets.{In};
 ghost use Rattle.cond_expr.specs.References.{borrowed};
 ghost use Rattle.cond_expr.specs.Seen.{test};
 ghost use Rattle.smo_ops_spec.specs.Effects.{columns_of};
@@ -13,7 +14,7 @@ ghost use Rattle.rewrite.specs.Books.{meaning_of};
 ghost use Rattle.query_exec.specs.Accepted.{IsRead};
 ghost use Rattle.query_exec.specs.Questions.{own_read};
 ghost use Rattle.piece_ir.specs.ExplainedPieces.{PlainExplained};
-ghost use Rattle.query_exec.specs.QueryPieces.{table_pieces, AreAlive, IsAlive};
+ghost use Rattle.query_exec.specs.QueryPieces.{table_pieces, alive_of};
 ghost use Rattle.join_exec_spec.specs.BorrowedOutputs.{RowsBorrow};
 ghost use Rattle.query_exec.specs.Borrowed.{BorrowedByBranch, AllSpare};
 ghost use Rattle.query_exec.specs.Routes.{IsRoute, MayBeRead};
@@ -80,17 +81,14 @@ pub(crate) fn read_item<'a, L: Ledger, R: Rule>(
         route.now.asked table.now (own_read place (borrowed references.now) (test cond.now))
         branch (place + 1) route.now.parts.items)
         → IfOk result (λ a. RowsBorrow (by_branch branch) a.columns.items a.rows.items) }
-    ensures cost { (branch : ℕ) → (atom : ℕ) → (alive : List PlainExplained)
-        → AreAlive (versions_in groups.now)
+    ensures cost { (branch : ℕ) → (atom : ℕ) → steps.new ≤ steps.old + reads_of groups.now (alive_of
         (table_pieces (meaning_of book.now.rules.items R.handles R.answers) (versions_in groups.now)
         route.now.asked table.now (own_read place (borrowed references.now) (test cond.now))
-        branch atom route.now.parts.items) alive
-        → steps.new ≤ steps.old + reads_of groups.now alive }
-    ensures least { (branch : ℕ) → (atom : ℕ) → (e : PlainExplained)
-        → IsAlive (versions_in groups.now)
+        branch atom route.now.parts.items)) }
+    ensures least { (branch : ℕ) → (atom : ℕ) → (e : PlainExplained) → In e (alive_of
         (table_pieces (meaning_of book.now.rules.items R.handles R.answers) (versions_in groups.now)
         route.now.asked table.now (own_read place (borrowed references.now) (test cond.now))
-        branch atom route.now.parts.items) e
+        branch atom route.now.parts.items))
         → IfOk result (λ _. steps.old + explained_read groups.now e ≤ steps.new) }
     ensures rises { steps.old ≤ steps.new }
 {

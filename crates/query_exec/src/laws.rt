@@ -1,7 +1,9 @@
 ghost use Rattle.std.specs.Prelude.{◌≡◌, ℕ, List, None};
 ghost use Rattle.relations_spec.specs.Sets.{In};
 ghost use Rattle.relations_spec.specs.Spans.{Span};
+ghost use Rattle.piece_ir.specs.ExplainedPieces.{PlainExplained};
 ghost use Rattle.smo_ops_spec.specs.ValidPast.{IsPast};
+ghost use Rattle.smo_ops_spec.specs.ValidValues.{PastHolds};
 ghost use Rattle.smo_ops_spec.specs.Past.{Past, tables_of};
 ghost use Rattle.version_groups.specs.Groups.{Kept};
 ghost use Rattle.piece_ir_spec.specs.Constants.{ValidInVersions};
@@ -15,6 +17,7 @@ ghost use Rattle.join_exec.specs.Pieces.{stored_meaning};
 ghost use Rattle.query_exec.specs.Constants.{ValidInQuery};
 ghost use Rattle.query_exec.specs.QueryPieces.{ArePieces, living_pieces};
 ghost use Rattle.query_exec.specs.Reads.{part_read};
+ghost use Rattle.query_exec.specs.ToldMeanings.{MeanWhatIsAsked};
 ghost use Rattle.query_exec.specs.Runs.{IsRun};
 ghost use Rattle.query_exec.specs.declared.part_piece.PartPieces.{PartPieces as OnePart};
 
@@ -40,4 +43,15 @@ pub fn living_pieces_are_those_that_are_not_dead()
         → fault_of_query past query ≡ None → ValidInQuery query
         → ArePieces book past.versions (with_atoms (tables_of past query.version) query)
         (living_pieces book past.versions (with_atoms (tables_of past query.version) query)) }
+{}
+
+/// The pieces of a query that is not refused, by a valid book, branch by branch, item by item and
+/// version by version: over every valid database of a version those of an item mean what is asked
+/// of its table in that database, migrated to the query's version, the columns that the branch
+/// names of the rows that meet the condition which is pushed to the item.
+pub fn pieces_mean_what_is_asked()
+    ensures { (book : Book) → IsValidBook book → (past : Past) → IsPast past → PastHolds past
+        → (query : PlainQuery) → fault_of_query past query ≡ None → (list : List PlainExplained)
+        → ArePieces book past.versions (with_atoms (tables_of past query.version) query) list
+        → MeanWhatIsAsked past.versions (with_atoms (tables_of past query.version) query) list }
 {}

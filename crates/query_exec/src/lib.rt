@@ -18,6 +18,9 @@ mod table;
 mod walk;
 
 pub use explanation::explain;
-pub use laws::{a_run_is_read_as_each_of_its_parts, living_pieces_are_those_that_are_not_dead};
+pub use laws::{
+    a_run_is_read_as_each_of_its_parts, living_pieces_are_those_that_are_not_dead,
+    pieces_mean_what_is_asked,
+};
 pub use loss::first_loss_in_slice;
 pub use query_answer::answer;

@@ -15,7 +15,7 @@ ghost use Rattle.rewrite.specs.Books.{meaning_of};
 ghost use Rattle.query_exec.specs.Accepted.{IsQueryAccepted, IsAnswerable};
 ghost use Rattle.piece_ir.specs.ExplainedPieces.{PlainExplained};
 ghost use Rattle.query_exec.specs.Borrowed.{BorrowedByBranch, AreSpared, AreBorrowedBy};
-ghost use Rattle.query_exec.specs.QueryPieces.{ArePieces};
+ghost use Rattle.query_exec.specs.QueryPieces.{ArePieces, living_pieces};
 ghost use Rattle.query_exec.specs.Reads.{explained_read, reads_of};
 
 use crate::branch::answer_branches;
@@ -64,14 +64,12 @@ pub fn answer<'a, L: Ledger, R: Rule>(
         (query_of query.now) pieces
         → (by_branch : BorrowedByBranch) → AreSpared groups.now by_branch pieces
         → IfOk result (λ rows. AreBorrowedBy past (query_of query.now) by_branch rows.items) }
-    ensures cost { (pieces : List PlainExplained)
-        → ArePieces (meaning_of book.now.rules.items R.handles R.answers) (versions_in groups.now)
-        (query_of query.now) pieces
-        → steps.new ≤ steps.old + reads_of groups.now pieces }
-    ensures least { (pieces : List PlainExplained)
-        → ArePieces (meaning_of book.now.rules.items R.handles R.answers) (versions_in groups.now)
-        (query_of query.now) pieces
-        → (e : PlainExplained) → In e pieces
+    ensures cost { steps.new ≤ steps.old + reads_of groups.now (living_pieces
+        (meaning_of book.now.rules.items R.handles R.answers) (versions_in groups.now)
+        (query_of query.now)) }
+    ensures least { (e : PlainExplained) → In e (living_pieces
+        (meaning_of book.now.rules.items R.handles R.answers) (versions_in groups.now)
+        (query_of query.now))
         → IfOk result (λ _. steps.old + explained_read groups.now e ≤ steps.new) }
     ensures rises { steps.old ≤ steps.new }
 {

@@ -20,7 +20,7 @@ ghost use Rattle.query_exec.specs.Asked.{read_asked};
 ghost use Rattle.query_exec.specs.Questions.{table_read};
 ghost use Rattle.query_exec.specs.Planned.{ArePlanned, planned_spans};
 ghost use Rattle.piece_ir.specs.ExplainedPieces.{PlainExplained};
-ghost use Rattle.query_exec.specs.QueryPieces.{table_pieces, AreAlive, IsAlive};
+ghost use Rattle.query_exec.specs.QueryPieces.{table_pieces, IsAlive, alive_of};
 ghost use Rattle.cond_expr.specs.declared.expr.Column.{Column as AtomColumn};
 ghost use Rattle.join_exec_spec.specs.BorrowedOutputs.{BorrowedValues, RowsBorrow};
 ghost use Rattle.query_exec.specs.Borrowed.{IsPlainIn, AllPlainIn};
@@ -155,15 +155,12 @@ pub(crate) fn read_table<'a, L: Ledger, R: Rule>(
         route.now.asked table.now (read_asked question.now) branch atom route.now.parts.items) e
         → IsPlainIn groups.now which columns e)
         → IfOk result (λ rows. RowsBorrow which columns rows.items) }
-    ensures cost { (branch : ℕ) → (atom : ℕ) → (alive : List PlainExplained)
-        → AreAlive (versions_in groups.now)
+    ensures cost { (branch : ℕ) → (atom : ℕ) → steps.new ≤ steps.old + reads_of groups.now (alive_of
         (table_pieces (meaning_of book.now.rules.items R.handles R.answers) (versions_in groups.now)
-        route.now.asked table.now (read_asked question.now) branch atom route.now.parts.items) alive
-        → steps.new ≤ steps.old + reads_of groups.now alive }
-    ensures least { (branch : ℕ) → (atom : ℕ) → (e : PlainExplained)
-        → IsAlive (versions_in groups.now)
+        route.now.asked table.now (read_asked question.now) branch atom route.now.parts.items)) }
+    ensures least { (branch : ℕ) → (atom : ℕ) → (e : PlainExplained) → In e (alive_of
         (table_pieces (meaning_of book.now.rules.items R.handles R.answers) (versions_in groups.now)
-        route.now.asked table.now (read_asked question.now) branch atom route.now.parts.items) e
+        route.now.asked table.now (read_asked question.now) branch atom route.now.parts.items))
         → IfOk result (λ _. steps.old + explained_read groups.now e ≤ steps.new) }
     ensures rises { steps.old ≤ steps.new }
 {

@@ -1,6 +1,7 @@
 use Rattle.std.proofs.Common.{◌≡◌, ◌<◌, ◌+◌, ℕ, List, length, get_or, drop, sym, ap, subst, ◌∙◌}
 use Rattle.std.proofs.Common.{inl, arith}
 use Rattle.std.proofs.lemmas.List.{take_all, drop_all}
+use Rattle.relations_spec.specs.Sets.{In}
 use Rattle.prima_base.specs.declared.timed_row.TimedRow.{TimedRow}
 use Rattle.prima_base.specs.Timed.{rows_at}
 use Rattle.smo_ops_spec.specs.Past.{tables_of}
@@ -10,7 +11,7 @@ use Rattle.plain_answers_spec.specs.Branches.{plain, branch_answers}
 use Rattle.piece_ir_spec.specs.Books.{book_of}
 use Rattle.temporal_lang_types.specs.Branches.{branch_of, branches_of}
 use Rattle.temporal_lang_types.specs.declared.branch.Branch.{Branch}
-use Rattle.query_exec.specs.QueryPieces.{branches_pieces, IsAlive}
+use Rattle.query_exec.specs.QueryPieces.{branches_pieces, alive_of}
 use Rattle.query_exec.specs.Borrowed.{AlwaysBorrowedBy, AllSpare}
 use Rattle.query_exec.specs.Reads.{reads_of}
 use Rattle.query_exec.proofs.AliveLaws.{Owes, owes_all, owes_within, IsLeftOrRead, all_read}
@@ -38,23 +39,26 @@ loop-branch-init g c = record {
             (versions_in c.args.groups.now) c.args.route.now.asked
             c.args.route.now.parts.items n (branches_of c.args.branches.now))) e h,
       );
-  count = λ number alive h.
+  count = λ number.
       let e : number ≡ number + 0 = omega arith in
-      subst (λ (n : ℕ). Owes c.args.groups.now (versions_in c.args.groups.now)
+      subst (λ (n : ℕ). Owes c.args.groups.now
       (branches_pieces (book_of g.R.Rule.handles g.R.Rule.answers c.args.book.now.rules.items)
       (versions_in c.args.groups.now) c.args.route.now.asked c.args.route.now.parts.items n
       (branches_of c.args.branches.now)) c.args.steps.now
-      (c.args.steps.now + reads_of c.args.groups.now alive)) e
-      (owes_all c.args.groups.now (versions_in c.args.groups.now)
+      (c.args.steps.now + reads_of c.args.groups.now (alive_of
       (branches_pieces (book_of g.R.Rule.handles g.R.Rule.answers c.args.book.now.rules.items)
       (versions_in c.args.groups.now) c.args.route.now.asked c.args.route.now.parts.items number
-      (branches_of c.args.branches.now)) alive c.args.steps.now h);
+      (branches_of c.args.branches.now))))) e
+      (owes_all c.args.groups.now
+      (branches_pieces (book_of g.R.Rule.handles g.R.Rule.answers c.args.book.now.rules.items)
+      (versions_in c.args.groups.now) c.args.route.now.asked c.args.route.now.parts.items number
+      (branches_of c.args.branches.now)) c.args.steps.now);
   least = λ number e h.
       let s : number ≡ number + 0 = omega arith in
-      inl (subst (λ (n : ℕ). IsAlive (versions_in c.args.groups.now)
+      inl (subst (λ (n : ℕ). In e (alive_of
       (branches_pieces (book_of g.R.Rule.handles g.R.Rule.answers c.args.book.now.rules.items)
       (versions_in c.args.groups.now) c.args.route.now.asked c.args.route.now.parts.items n
-      (branches_of c.args.branches.now)) e) s h);
+      (branches_of c.args.branches.now)))) s h);
   rises = omega arith;
 }
 
@@ -99,13 +103,14 @@ loop-branch-preserved g c =
                 (c.in_ok-news.ensures.borrowed (number + i) by_branch both.0),
             both.1,
           );
-      count = λ number alive h. branch_owes bs i b below is c.args.groups.now
+      count = λ number. branch_owes bs i b below is c.args.groups.now
           (book_of g.R.Rule.handles g.R.Rule.answers c.args.book.now.rules.items)
           (versions_in c.args.groups.now) c.args.route.now.asked c.args.route.now.parts.items number
-          c.loop-branch.steps (c.args.steps.now + reads_of c.args.groups.now alive)
-          c.answer_branch.new.steps
-          (c.loop-branch.invariant.count number alive h)
-          (λ own k. c.answer_branch.ensures.cost (number + i) own k);
+          c.loop-branch.steps (c.args.steps.now + reads_of c.args.groups.now (alive_of
+          (branches_pieces (book_of g.R.Rule.handles g.R.Rule.answers c.args.book.now.rules.items)
+          (versions_in c.args.groups.now) c.args.route.now.asked c.args.route.now.parts.items number
+          (branches_of bs)))) c.answer_branch.new.steps
+          (c.loop-branch.invariant.count number) (c.answer_branch.ensures.cost (number + i));
       least = λ number e h. branch_left bs i b below is c.args.groups.now
           (book_of g.R.Rule.handles g.R.Rule.answers c.args.book.now.rules.items)
           (versions_in c.args.groups.now) c.args.route.now.asked c.args.route.now.parts.items number
@@ -124,19 +129,23 @@ returns-in_err-news-clause-cost g c =
     let b : Branch = c.branch-item.result in
     let below : i < length bs = c.loop-branch-test.true in
     let is : b ≡ get_or bs i b = c.branch-item.is in
-    λ number alive h.
-    owes_within c.args.groups.now (versions_in c.args.groups.now)
+    λ number.
+    owes_within c.args.groups.now
     (branches_pieces (book_of g.R.Rule.handles g.R.Rule.answers c.args.book.now.rules.items)
     (versions_in c.args.groups.now) c.args.route.now.asked c.args.route.now.parts.items
     (number + (i + 1)) (branches_of (drop (i + 1) bs))) c.answer_branch.new.steps
-    (c.args.steps.now + reads_of c.args.groups.now alive)
+    (c.args.steps.now + reads_of c.args.groups.now (alive_of
+    (branches_pieces (book_of g.R.Rule.handles g.R.Rule.answers c.args.book.now.rules.items)
+    (versions_in c.args.groups.now) c.args.route.now.asked c.args.route.now.parts.items number
+    (branches_of bs))))
     (branch_owes bs i b below is c.args.groups.now
     (book_of g.R.Rule.handles g.R.Rule.answers c.args.book.now.rules.items)
     (versions_in c.args.groups.now) c.args.route.now.asked c.args.route.now.parts.items number
-    c.loop-branch.steps (c.args.steps.now + reads_of c.args.groups.now alive)
-    c.answer_branch.new.steps
-    (c.loop-branch.invariant.count number alive h)
-    (λ own k. c.answer_branch.ensures.cost (number + i) own k))
+    c.loop-branch.steps (c.args.steps.now + reads_of c.args.groups.now (alive_of
+    (branches_pieces (book_of g.R.Rule.handles g.R.Rule.answers c.args.book.now.rules.items)
+    (versions_in c.args.groups.now) c.args.route.now.asked c.args.route.now.parts.items number
+    (branches_of bs)))) c.answer_branch.new.steps
+    (c.loop-branch.invariant.count number) (c.answer_branch.ensures.cost (number + i)))
 
 pub returns-in_err-put_rows-clause-cost : goal.returns-in_err-put_rows-clause-cost
 returns-in_err-put_rows-clause-cost g c =
@@ -145,19 +154,23 @@ returns-in_err-put_rows-clause-cost g c =
     let b : Branch = c.branch-item.result in
     let below : i < length bs = c.loop-branch-test.true in
     let is : b ≡ get_or bs i b = c.branch-item.is in
-    λ number alive h.
-    owes_within c.args.groups.now (versions_in c.args.groups.now)
+    λ number.
+    owes_within c.args.groups.now
     (branches_pieces (book_of g.R.Rule.handles g.R.Rule.answers c.args.book.now.rules.items)
     (versions_in c.args.groups.now) c.args.route.now.asked c.args.route.now.parts.items
     (number + (i + 1)) (branches_of (drop (i + 1) bs))) c.answer_branch.new.steps
-    (c.args.steps.now + reads_of c.args.groups.now alive)
+    (c.args.steps.now + reads_of c.args.groups.now (alive_of
+    (branches_pieces (book_of g.R.Rule.handles g.R.Rule.answers c.args.book.now.rules.items)
+    (versions_in c.args.groups.now) c.args.route.now.asked c.args.route.now.parts.items number
+    (branches_of bs))))
     (branch_owes bs i b below is c.args.groups.now
     (book_of g.R.Rule.handles g.R.Rule.answers c.args.book.now.rules.items)
     (versions_in c.args.groups.now) c.args.route.now.asked c.args.route.now.parts.items number
-    c.loop-branch.steps (c.args.steps.now + reads_of c.args.groups.now alive)
-    c.answer_branch.new.steps
-    (c.loop-branch.invariant.count number alive h)
-    (λ own k. c.answer_branch.ensures.cost (number + i) own k))
+    c.loop-branch.steps (c.args.steps.now + reads_of c.args.groups.now (alive_of
+    (branches_pieces (book_of g.R.Rule.handles g.R.Rule.answers c.args.book.now.rules.items)
+    (versions_in c.args.groups.now) c.args.route.now.asked c.args.route.now.parts.items number
+    (branches_of bs)))) c.answer_branch.new.steps
+    (c.loop-branch.invariant.count number) (c.answer_branch.ensures.cost (number + i)))
 
 pub returns-clause-rows : goal.returns-clause-rows
 returns-clause-rows g c = λ past represents m inside.
@@ -167,14 +180,17 @@ returns-clause-rows g c = λ past represents m inside.
     (take_all c.loop-branch.branch-index c.args.branches.now c.loop-branch-test.false)
 
 pub returns-clause-cost : goal.returns-clause-cost
-returns-clause-cost g c = λ number alive h.
-    owes_within c.args.groups.now (versions_in c.args.groups.now)
+returns-clause-cost g c = λ number.
+    owes_within c.args.groups.now
     (branches_pieces (book_of g.R.Rule.handles g.R.Rule.answers c.args.book.now.rules.items)
     (versions_in c.args.groups.now) c.args.route.now.asked c.args.route.now.parts.items
     (number + c.loop-branch.branch-index)
     (branches_of (drop c.loop-branch.branch-index c.args.branches.now))) c.loop-branch.steps
-    (c.args.steps.now + reads_of c.args.groups.now alive)
-    (c.loop-branch.invariant.count number alive h)
+    (c.args.steps.now + reads_of c.args.groups.now (alive_of
+    (branches_pieces (book_of g.R.Rule.handles g.R.Rule.answers c.args.book.now.rules.items)
+    (versions_in c.args.groups.now) c.args.route.now.asked c.args.route.now.parts.items number
+    (branches_of c.args.branches.now))))
+    (c.loop-branch.invariant.count number)
 
 pub returns-clause-borrowed : goal.returns-clause-borrowed
 returns-clause-borrowed g c = λ past represents number by_branch h.
@@ -182,9 +198,8 @@ returns-clause-borrowed g c = λ past represents number by_branch h.
 
 pub returns-clause-least : goal.returns-clause-least
 returns-clause-least g c = λ number e h.
-    all_read c.args.groups.now (versions_in c.args.groups.now) c.args.steps.now c.loop-branch.steps
-    e
-    (subst (λ (bs : List Branch). IsLeftOrRead c.args.groups.now (versions_in c.args.groups.now)
+    all_read c.args.groups.now c.args.steps.now c.loop-branch.steps e
+    (subst (λ (bs : List Branch). IsLeftOrRead c.args.groups.now
     (branches_pieces (book_of g.R.Rule.handles g.R.Rule.answers c.args.book.now.rules.items)
     (versions_in c.args.groups.now) c.args.route.now.asked c.args.route.now.parts.items
     (number + c.loop-branch.branch-index) (branches_of bs)) c.args.steps.now c.loop-branch.steps

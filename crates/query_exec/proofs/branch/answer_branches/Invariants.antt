@@ -1,4 +1,5 @@
-use Rattle.std.proofs.Common.{◌≡◌, ◌+◌, ◌≤◌, ℕ, List, true, take, drop}
+use Rattle.std.proofs.Common.{◌≡◌, ◌+◌, ◌≤◌, ℕ, true, take, drop}
+use Rattle.relations_spec.specs.Sets.{In}
 use Rattle.relations_spec.specs.Spans.{covers}
 use Rattle.prima_base.specs.Timed.{rows_at}
 use Rattle.smo_ops_spec.specs.Past.{Past, tables_of}
@@ -10,7 +11,7 @@ use Rattle.piece_ir_spec.specs.Books.{book_of}
 use Rattle.piece_ir.specs.ExplainedPieces.{PlainExplained}
 use Rattle.temporal_lang_types.specs.Branches.{branches_of}
 use Rattle.query_exec.specs.Accepted.{MayBranches}
-use Rattle.query_exec.specs.QueryPieces.{branches_pieces, AreAlive, IsAlive}
+use Rattle.query_exec.specs.QueryPieces.{branches_pieces, alive_of}
 use Rattle.query_exec.specs.Borrowed.{BorrowedByBranch, AlwaysBorrowedBy, AllSpare}
 use Rattle.query_exec.specs.Reads.{reads_of}
 use Rattle.query_exec.proofs.AliveLaws.{Owes, IsLeftOrRead}
@@ -31,21 +32,17 @@ invariant-loop-branch g l = record {
       (branches_pieces (book_of g.R.Rule.handles g.R.Rule.answers l.book.rules.items)
       (versions_in l.groups) l.route.asked l.route.parts.items (number + l.branch-index)
       (branches_of (drop l.branch-index l.branches)));
-  count : (number : ℕ) → (alive : List PlainExplained)
-      → AreAlive (versions_in l.groups) (branches_pieces
-      (book_of g.R.Rule.handles g.R.Rule.answers l.book.rules.items)
-      (versions_in l.groups) l.route.asked l.route.parts.items number (branches_of l.branches))
-      alive
-      → Owes l.groups (versions_in l.groups) (branches_pieces
+  count : (number : ℕ) → Owes l.groups (branches_pieces
       (book_of g.R.Rule.handles g.R.Rule.answers l.book.rules.items)
       (versions_in l.groups) l.route.asked l.route.parts.items (number + l.branch-index)
       (branches_of (drop l.branch-index l.branches))) l.steps
-      (l.initial.steps + reads_of l.groups alive);
-  least : (number : ℕ) → (e : PlainExplained)
-      → IsAlive (versions_in l.groups) (branches_pieces
+      (l.initial.steps + reads_of l.groups (alive_of (branches_pieces
       (book_of g.R.Rule.handles g.R.Rule.answers l.book.rules.items)
-      (versions_in l.groups) l.route.asked l.route.parts.items number (branches_of l.branches)) e
-      → IsLeftOrRead l.groups (versions_in l.groups)
+      (versions_in l.groups) l.route.asked l.route.parts.items number (branches_of l.branches))));
+  least : (number : ℕ) → (e : PlainExplained) → In e (alive_of (branches_pieces
+      (book_of g.R.Rule.handles g.R.Rule.answers l.book.rules.items)
+      (versions_in l.groups) l.route.asked l.route.parts.items number (branches_of l.branches)))
+      → IsLeftOrRead l.groups
       (branches_pieces (book_of g.R.Rule.handles g.R.Rule.answers l.book.rules.items)
       (versions_in l.groups) l.route.asked l.route.parts.items (number + l.branch-index)
       (branches_of (drop l.branch-index l.branches))) l.initial.steps l.steps e;

@@ -1,7 +1,8 @@
-use Rattle.std.proofs.Common.{◌≡◌, ◌<◌, ◌+◌, ℕ, List, [], length, get_or, drop, refl, sym, ap}
+use Rattle.std.proofs.Common.{◌≡◌, ◌<◌, ◌+◌, ◌≤◌, ℕ, List, [], length, get_or, drop, refl, sym, ap}
 use Rattle.std.proofs.Common.{subst}
 use Rattle.std.proofs.Common.{inl, arith}
 use Rattle.std.proofs.lemmas.List.{drop_all}
+use Rattle.relations_spec.specs.Sets.{In}
 use Rattle.cond_expr.specs.declared.expr.ColRef.{ColRef}
 use Rattle.cond_expr.specs.References.{borrowed}
 use Rattle.cond_expr.specs.Seen.{test}
@@ -12,7 +13,7 @@ use Rattle.piece_ir_spec.specs.Books.{book_of}
 use Rattle.join_exec_engine.specs.declared.atom.Atom.{Atom}
 use Rattle.query_exec.specs.Accepted.{IsRead, AreRead}
 use Rattle.query_exec.specs.Questions.{own_read}
-use Rattle.query_exec.specs.QueryPieces.{table_pieces, items_pieces, AreAlive, IsAlive}
+use Rattle.query_exec.specs.QueryPieces.{table_pieces, items_pieces, alive_of}
 use Rattle.join_exec_engine.specs.Atoms.{AtomsBorrow}
 use Rattle.query_exec.specs.Borrowed.{AllSpare}
 use Rattle.query_exec.specs.Reads.{reads_of}
@@ -34,11 +35,11 @@ loop-item-init g c = record {
     subst (AtomsBorrow (by_branch branch)) (sym c.new-atoms.ensures.items) tt,
     h,
   );
-  count = λ branch alive h. owes_all c.args.groups.now (versions_in c.args.groups.now)
+  count = λ branch. owes_all c.args.groups.now
       (items_pieces (book_of g.R.Rule.handles g.R.Rule.answers c.args.book.now.rules.items)
       (versions_in c.args.groups.now) c.args.route.now.asked c.args.route.now.parts.items
-      (borrowed c.args.references.now) (test c.args.cond.now) branch 0 c.args.from.now) alive
-      c.args.steps.now h;
+      (borrowed c.args.references.now) (test c.args.cond.now) branch 0 c.args.from.now)
+      c.args.steps.now;
   least = λ branch e h. inl h;
   rises = omega arith;
 }
@@ -94,18 +95,21 @@ loop-item-preserved g c =
                 c.args.route.now.parts.items)) (sym c.loop-item.invariant.place) both.0)),
             both.1,
           );
-      count = λ branch alive h. item_owes
+      count = λ branch. item_owes
           (book_of g.R.Rule.handles g.R.Rule.answers c.args.book.now.rules.items)
           (versions_in c.args.groups.now) c.args.route.now.asked c.args.route.now.parts.items rs cd
           branch c.args.groups.now from i x below is c.loop-item.steps
-          (c.args.steps.now + reads_of c.args.groups.now alive) c.read_item.new.steps
-          (c.loop-item.invariant.count branch alive h)
-          (λ own k. c.read_item.ensures.cost branch (i + 1) own
-          (subst (λ (j : ℕ). AreAlive (versions_in c.args.groups.now)
+          (c.args.steps.now + reads_of c.args.groups.now (alive_of
+          (items_pieces (book_of g.R.Rule.handles g.R.Rule.answers c.args.book.now.rules.items)
+          (versions_in c.args.groups.now) c.args.route.now.asked c.args.route.now.parts.items rs cd
+          branch 0 from))) c.read_item.new.steps
+          (c.loop-item.invariant.count branch)
+          (subst (λ (j : ℕ). c.read_item.new.steps ≤ c.loop-item.steps
+          + reads_of c.args.groups.now (alive_of
           (table_pieces (book_of g.R.Rule.handles g.R.Rule.answers c.args.book.now.rules.items)
           (versions_in c.args.groups.now) c.args.route.now.asked
-          x.0 (own_read j rs cd) branch (i + 1) c.args.route.now.parts.items) own)
-          (sym c.loop-item.invariant.place) k));
+          x.0 (own_read j rs cd) branch (i + 1) c.args.route.now.parts.items)))
+          c.loop-item.invariant.place (c.read_item.ensures.cost branch (i + 1)));
       least = λ branch e h. item_left (book_of g.R.Rule.handles g.R.Rule.answers
           c.args.book.now.rules.items)
           (versions_in c.args.groups.now) c.args.route.now.asked c.args.route.now.parts.items rs cd
@@ -114,10 +118,10 @@ loop-item-preserved g c =
           c.loop-item.invariant.rises c.read_item.ensures.rises
           (c.loop-item.invariant.least branch e h)
           (λ k. c.in_ok-atom.ensures.least branch (i + 1) e
-          (subst (λ (j : ℕ). IsAlive (versions_in c.args.groups.now)
+          (subst (λ (j : ℕ). In e (alive_of
           (table_pieces (book_of g.R.Rule.handles g.R.Rule.answers c.args.book.now.rules.items)
           (versions_in c.args.groups.now) c.args.route.now.asked
-          x.0 (own_read j rs cd) branch (i + 1) c.args.route.now.parts.items) e)
+          x.0 (own_read j rs cd) branch (i + 1) c.args.route.now.parts.items)))
           (sym c.loop-item.invariant.place) k));
       rises = from_first c.args.steps.now c.loop-item.steps c.read_item.new.steps
           c.loop-item.invariant.rises c.read_item.ensures.rises;
@@ -132,22 +136,29 @@ returns-in_err-atom-clause-cost g c =
     let x : Item = c.item-item.result in
     let below : i < length from = c.loop-item-test.true in
     let is : x ≡ get_or from i x = c.item-item.is in
-    λ branch alive h.
-    owes_within c.args.groups.now (versions_in c.args.groups.now)
+    λ branch.
+    owes_within c.args.groups.now
     (items_pieces (book_of g.R.Rule.handles g.R.Rule.answers c.args.book.now.rules.items)
     (versions_in c.args.groups.now) c.args.route.now.asked c.args.route.now.parts.items rs cd
     branch (i + 1) (drop (i + 1) from)) c.read_item.new.steps
-    (c.args.steps.now + reads_of c.args.groups.now alive)
+    (c.args.steps.now + reads_of c.args.groups.now (alive_of
+    (items_pieces (book_of g.R.Rule.handles g.R.Rule.answers c.args.book.now.rules.items)
+    (versions_in c.args.groups.now) c.args.route.now.asked c.args.route.now.parts.items rs cd
+    branch 0 from)))
     (item_owes (book_of g.R.Rule.handles g.R.Rule.answers c.args.book.now.rules.items)
     (versions_in c.args.groups.now) c.args.route.now.asked c.args.route.now.parts.items rs cd
     branch c.args.groups.now from i x below is c.loop-item.steps
-    (c.args.steps.now + reads_of c.args.groups.now alive) c.read_item.new.steps
-    (c.loop-item.invariant.count branch alive h)
-    (λ own k. c.read_item.ensures.cost branch (i + 1) own
-    (subst (λ (j : ℕ). AreAlive (versions_in c.args.groups.now)
+    (c.args.steps.now + reads_of c.args.groups.now (alive_of
+    (items_pieces (book_of g.R.Rule.handles g.R.Rule.answers c.args.book.now.rules.items)
+    (versions_in c.args.groups.now) c.args.route.now.asked c.args.route.now.parts.items rs cd
+    branch 0 from))) c.read_item.new.steps
+    (c.loop-item.invariant.count branch)
+    (subst (λ (j : ℕ). c.read_item.new.steps ≤ c.loop-item.steps
+    + reads_of c.args.groups.now (alive_of
     (table_pieces (book_of g.R.Rule.handles g.R.Rule.answers c.args.book.now.rules.items)
     (versions_in c.args.groups.now) c.args.route.now.asked x.0 (own_read j rs cd) branch (i + 1)
-    c.args.route.now.parts.items) own) (sym c.loop-item.invariant.place) k)))
+    c.args.route.now.parts.items))) c.loop-item.invariant.place
+    (c.read_item.ensures.cost branch (i + 1))))
 
 pub returns-in_err-push-clause-cost : goal.returns-in_err-push-clause-cost
 returns-in_err-push-clause-cost g c =
@@ -158,32 +169,42 @@ returns-in_err-push-clause-cost g c =
     let x : Item = c.item-item.result in
     let below : i < length from = c.loop-item-test.true in
     let is : x ≡ get_or from i x = c.item-item.is in
-    λ branch alive h.
-    owes_within c.args.groups.now (versions_in c.args.groups.now)
+    λ branch.
+    owes_within c.args.groups.now
     (items_pieces (book_of g.R.Rule.handles g.R.Rule.answers c.args.book.now.rules.items)
     (versions_in c.args.groups.now) c.args.route.now.asked c.args.route.now.parts.items rs cd
     branch (i + 1) (drop (i + 1) from)) c.read_item.new.steps
-    (c.args.steps.now + reads_of c.args.groups.now alive)
+    (c.args.steps.now + reads_of c.args.groups.now (alive_of
+    (items_pieces (book_of g.R.Rule.handles g.R.Rule.answers c.args.book.now.rules.items)
+    (versions_in c.args.groups.now) c.args.route.now.asked c.args.route.now.parts.items rs cd
+    branch 0 from)))
     (item_owes (book_of g.R.Rule.handles g.R.Rule.answers c.args.book.now.rules.items)
     (versions_in c.args.groups.now) c.args.route.now.asked c.args.route.now.parts.items rs cd
     branch c.args.groups.now from i x below is c.loop-item.steps
-    (c.args.steps.now + reads_of c.args.groups.now alive) c.read_item.new.steps
-    (c.loop-item.invariant.count branch alive h)
-    (λ own k. c.read_item.ensures.cost branch (i + 1) own
-    (subst (λ (j : ℕ). AreAlive (versions_in c.args.groups.now)
+    (c.args.steps.now + reads_of c.args.groups.now (alive_of
+    (items_pieces (book_of g.R.Rule.handles g.R.Rule.answers c.args.book.now.rules.items)
+    (versions_in c.args.groups.now) c.args.route.now.asked c.args.route.now.parts.items rs cd
+    branch 0 from))) c.read_item.new.steps
+    (c.loop-item.invariant.count branch)
+    (subst (λ (j : ℕ). c.read_item.new.steps ≤ c.loop-item.steps
+    + reads_of c.args.groups.now (alive_of
     (table_pieces (book_of g.R.Rule.handles g.R.Rule.answers c.args.book.now.rules.items)
     (versions_in c.args.groups.now) c.args.route.now.asked x.0 (own_read j rs cd) branch (i + 1)
-    c.args.route.now.parts.items) own) (sym c.loop-item.invariant.place) k)))
+    c.args.route.now.parts.items))) c.loop-item.invariant.place
+    (c.read_item.ensures.cost branch (i + 1))))
 
 pub returns-clause-cost : goal.returns-clause-cost
-returns-clause-cost g c = λ branch alive h.
-    owes_within c.args.groups.now (versions_in c.args.groups.now)
+returns-clause-cost g c = λ branch.
+    owes_within c.args.groups.now
     (items_pieces (book_of g.R.Rule.handles g.R.Rule.answers c.args.book.now.rules.items)
     (versions_in c.args.groups.now) c.args.route.now.asked c.args.route.now.parts.items
     (borrowed c.args.references.now) (test c.args.cond.now) branch c.loop-item.item-index
     (drop c.loop-item.item-index c.args.from.now)) c.loop-item.steps
-    (c.args.steps.now + reads_of c.args.groups.now alive)
-    (c.loop-item.invariant.count branch alive h)
+    (c.args.steps.now + reads_of c.args.groups.now (alive_of
+    (items_pieces (book_of g.R.Rule.handles g.R.Rule.answers c.args.book.now.rules.items)
+    (versions_in c.args.groups.now) c.args.route.now.asked c.args.route.now.parts.items
+    (borrowed c.args.references.now) (test c.args.cond.now) branch 0 c.args.from.now)))
+    (c.loop-item.invariant.count branch)
 
 pub returns-clause-borrowed : goal.returns-clause-borrowed
 returns-clause-borrowed g c = λ branch by_branch h.
@@ -193,8 +214,8 @@ pub returns-clause-least : goal.returns-clause-least
 returns-clause-least g c = λ branch e h.
     let rs : List ColRef = borrowed c.args.references.now in
     let cd : Test = test c.args.cond.now in
-    all_read c.args.groups.now (versions_in c.args.groups.now) c.args.steps.now c.loop-item.steps e
-    (subst (λ (from : List Item). IsLeftOrRead c.args.groups.now (versions_in c.args.groups.now)
+    all_read c.args.groups.now c.args.steps.now c.loop-item.steps e
+    (subst (λ (from : List Item). IsLeftOrRead c.args.groups.now
     (items_pieces (book_of g.R.Rule.handles g.R.Rule.answers c.args.book.now.rules.items)
     (versions_in c.args.groups.now) c.args.route.now.asked c.args.route.now.parts.items rs cd
     branch c.loop-item.item-index from) c.args.steps.now c.loop-item.steps e)

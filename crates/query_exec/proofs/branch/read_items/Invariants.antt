@@ -1,4 +1,5 @@
-use Rattle.std.proofs.Common.{◌≡◌, ◌+◌, ◌≤◌, ℕ, List, take, drop}
+use Rattle.std.proofs.Common.{◌≡◌, ◌+◌, ◌≤◌, ℕ, take, drop}
+use Rattle.relations_spec.specs.Sets.{In}
 use Rattle.cond_expr.specs.References.{borrowed}
 use Rattle.cond_expr.specs.Seen.{test}
 use Rattle.smo_ops_spec.specs.Past.{Past}
@@ -7,7 +8,7 @@ use Rattle.version_groups.specs.Representation.{Represents}
 use Rattle.piece_ir_spec.specs.Books.{book_of}
 use Rattle.piece_ir.specs.ExplainedPieces.{PlainExplained}
 use Rattle.query_exec.specs.Accepted.{MayItems, AreRead}
-use Rattle.query_exec.specs.QueryPieces.{items_pieces, AreAlive, IsAlive}
+use Rattle.query_exec.specs.QueryPieces.{items_pieces, alive_of}
 use Rattle.join_exec_engine.specs.Atoms.{AtomsBorrow}
 use Rattle.query_exec.specs.Borrowed.{BorrowedByBranch, AllSpare}
 use Rattle.query_exec.specs.Reads.{reads_of}
@@ -30,22 +31,19 @@ invariant-loop-item g l = record {
       (items_pieces (book_of g.R.Rule.handles g.R.Rule.answers l.book.rules.items)
       (versions_in l.groups) l.route.asked l.route.parts.items (borrowed l.references)
       (test l.cond) branch l.item-index (drop l.item-index l.from));
-  count : (branch : ℕ) → (alive : List PlainExplained)
-      → AreAlive (versions_in l.groups) (items_pieces
-      (book_of g.R.Rule.handles g.R.Rule.answers l.book.rules.items)
-      (versions_in l.groups) l.route.asked l.route.parts.items (borrowed l.references) (test l.cond)
-      branch 0 l.from) alive
-      → Owes l.groups (versions_in l.groups) (items_pieces
+  count : (branch : ℕ) → Owes l.groups (items_pieces
       (book_of g.R.Rule.handles g.R.Rule.answers l.book.rules.items)
       (versions_in l.groups) l.route.asked l.route.parts.items (borrowed l.references)
       (test l.cond) branch l.item-index (drop l.item-index l.from)) l.steps
-      (l.initial.steps + reads_of l.groups alive);
-  least : (branch : ℕ) → (e : PlainExplained)
-      → IsAlive (versions_in l.groups) (items_pieces
+      (l.initial.steps + reads_of l.groups (alive_of (items_pieces
       (book_of g.R.Rule.handles g.R.Rule.answers l.book.rules.items)
       (versions_in l.groups) l.route.asked l.route.parts.items (borrowed l.references) (test l.cond)
-      branch 0 l.from) e
-      → IsLeftOrRead l.groups (versions_in l.groups)
+      branch 0 l.from)));
+  least : (branch : ℕ) → (e : PlainExplained) → In e (alive_of (items_pieces
+      (book_of g.R.Rule.handles g.R.Rule.answers l.book.rules.items)
+      (versions_in l.groups) l.route.asked l.route.parts.items (borrowed l.references) (test l.cond)
+      branch 0 l.from))
+      → IsLeftOrRead l.groups
       (items_pieces (book_of g.R.Rule.handles g.R.Rule.answers l.book.rules.items)
       (versions_in l.groups) l.route.asked l.route.parts.items (borrowed l.references)
       (test l.cond) branch l.item-index (drop l.item-index l.from)) l.initial.steps l.steps e;

@@ -1,4 +1,5 @@
-use Rattle.std.proofs.Common.{◌≡◌, ◌+◌, List, refl, sym, subst}
+use Rattle.std.proofs.Common.{◌≡◌, ◌+◌, ◌≤◌, List, refl, sym, subst}
+use Rattle.relations_spec.specs.Sets.{In}
 use Rattle.cond_expr.specs.References.{borrowed}
 use Rattle.cond_expr.specs.Seen.{test}
 use Rattle.smo_ops_spec.specs.Effects.{columns_of}
@@ -15,7 +16,8 @@ use Rattle.cond_expr.specs.AtomColumns.{columns_at}
 use Rattle.piece_ir.specs.ExplainedPieces.{PlainExplained}
 use Rattle.query_exec.specs.Borrowed.{IsPlainIn}
 use Rattle.query_exec.specs.Questions.{own_read}
-use Rattle.query_exec.specs.QueryPieces.{table_pieces, AreAlive, IsAlive}
+use Rattle.query_exec.specs.QueryPieces.{table_pieces, IsAlive, alive_of}
+use Rattle.query_exec.specs.Reads.{reads_of}
 use Rattle.query_exec.specs.Routes.{MayBeRead}
 use Rattle.query_exec.proofs.BorrowedRows.{item_plain}
 use Rattle.query_exec.proofs.ItemAtoms.{columns_are, item_own, item_fit, item_rows_are, item_names}
@@ -46,12 +48,13 @@ invariant_of-result g c =
     }
 
 pub returns-in_err-rows-clause-cost : goal.returns-in_err-rows-clause-cost
-returns-in_err-rows-clause-cost g c = λ branch atom alive h.
-    c.read_table.ensures.cost branch atom alive
-    (subst (λ (r : Read). AreAlive (versions_in c.args.groups.now)
+returns-in_err-rows-clause-cost g c = λ branch atom.
+    subst (λ (r : Read). c.read_table.new.steps ≤ c.args.steps.now
+    + reads_of c.args.groups.now (alive_of
     (table_pieces (book_of g.R.Rule.handles g.R.Rule.answers c.args.book.now.rules.items)
     (versions_in c.args.groups.now) c.args.route.now.asked c.args.table.now r branch atom
-    c.args.route.now.parts.items) alive) (sym c.in_ok-question.ensures) h)
+    c.args.route.now.parts.items))) c.in_ok-question.ensures
+    (c.read_table.ensures.cost branch atom)
 
 pub returns-clause-atom : goal.returns-clause-atom
 returns-clause-atom g c = λ past represents. record {
@@ -71,11 +74,13 @@ returns-clause-atom g c = λ past represents. record {
 }
 
 pub returns-clause-cost : goal.returns-clause-cost
-returns-clause-cost g c = λ branch atom alive h. c.read_table.ensures.cost branch atom alive
-    (subst (λ (r : Read). AreAlive (versions_in c.args.groups.now)
+returns-clause-cost g c = λ branch atom.
+    subst (λ (r : Read). c.read_table.new.steps ≤ c.args.steps.now
+    + reads_of c.args.groups.now (alive_of
     (table_pieces (book_of g.R.Rule.handles g.R.Rule.answers c.args.book.now.rules.items)
     (versions_in c.args.groups.now) c.args.route.now.asked c.args.table.now r branch atom
-    c.args.route.now.parts.items) alive) (sym c.in_ok-question.ensures) h)
+    c.args.route.now.parts.items))) c.in_ok-question.ensures
+    (c.read_table.ensures.cost branch atom)
 
 pub returns-clause-borrowed : goal.returns-clause-borrowed
 returns-clause-borrowed g c = λ branch by_branch spares.
@@ -109,7 +114,7 @@ returns-clause-borrowed g c = λ branch by_branch spares.
 
 pub returns-clause-least : goal.returns-clause-least
 returns-clause-least g c = λ branch atom e h. c.in_ok-rows.ensures.least branch atom e
-    (subst (λ (r : Read). IsAlive (versions_in c.args.groups.now)
+    (subst (λ (r : Read). In e (alive_of
     (table_pieces (book_of g.R.Rule.handles g.R.Rule.answers c.args.book.now.rules.items)
     (versions_in c.args.groups.now) c.args.route.now.asked c.args.table.now r branch atom
-    c.args.route.now.parts.items) e) (sym c.in_ok-question.ensures) h)
+    c.args.route.now.parts.items))) (sym c.in_ok-question.ensures) h)

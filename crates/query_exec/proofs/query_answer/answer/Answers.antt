@@ -1,4 +1,5 @@
-use Rattle.std.proofs.Common.{◌≤◌, ℕ, List, sym, ap, subst, ◌∙◌}
+use Rattle.std.proofs.Common.{◌≤◌, ◌+◌, ℕ, List, sym, ap, subst, ◌∙◌}
+use Rattle.relations_spec.specs.Sets.{In}
 use Rattle.relations_spec.specs.Spans.{Span, forever}
 use Rattle.relations_spec.specs.Listing.{IsListing}
 use Rattle.prima_base.specs.Order.{row_cmp}
@@ -14,8 +15,9 @@ use Rattle.temporal_lang_types.specs.declared.branch.Branch.{Branch}
 use Rattle.temporal_lang_types.specs.Queries.{query_of}
 use Rattle.query_exec.specs.Accepted.{MayBranches}
 use Rattle.query_exec.specs.Borrowed.{AlwaysBorrowedBy, AllSpare}
-use Rattle.query_exec.specs.QueryPieces.{branches_pieces, AreAlive}
-use Rattle.query_exec.proofs.AliveLaws.{alive_in, in_alive}
+use Rattle.query_exec.specs.QueryPieces.{alive_of}
+use Rattle.query_exec.specs.Reads.{reads_of}
+use Rattle.query_exec.proofs.AliveLaws.{alive_in}
 use Rattle.query_exec.proofs.BorrowedRows.{begun_borrowed}
 use Rattle.query_exec.proofs.WholeAnswers.{may_all, whole_listing, whole_answer, pieces_here}
 use Rattle.query_exec.proofs.query_answer.answer.Goals as goal
@@ -36,13 +38,15 @@ answer_branches-requires-clause-read g c =
     (c.in_ok-route.ensures.slice ∙ c.slice-slice.ensures.value))
 
 pub returns-in_err-rows-clause-cost : goal.returns-in_err-rows-clause-cost
-returns-in_err-rows-clause-cost g c = λ pieces h. c.answer_branches.ensures.cost 1 pieces
-    (subst (λ (all : List PlainExplained). AreAlive (versions_in c.args.groups.now) all pieces)
-    (sym (pieces_here (book_of g.R.Rule.handles g.R.Rule.answers c.args.book.now.rules.items)
+returns-in_err-rows-clause-cost g c =
+    subst (λ (all : List PlainExplained). c.answer_branches.new.steps ≤ c.args.steps.now
+    + reads_of c.args.groups.now (alive_of all))
+    (pieces_here (book_of g.R.Rule.handles g.R.Rule.answers c.args.book.now.rules.items)
     (versions_in c.args.groups.now) (query_of c.args.query.now) c.in_ok-route.route.asked
     c.in_ok-route.route.parts.items c.slice-slice.result (branches_of c.deref.result.now)
     c.in_ok-route.ensures.asked c.in_ok-route.ensures.parts c.slice-slice.ensures.value
-    (ap branches_of c.deref.ensures.value))) h)
+    (ap branches_of c.deref.ensures.value))
+    (c.answer_branches.ensures.cost 1)
 
 pub returns-clause-rows : goal.returns-clause-rows
 returns-clause-rows g c = λ past asked represents accepted.
@@ -76,13 +80,15 @@ returns-clause-listed g c = λ past asked represents accepted.
     c.coalesce_in_place.ensures.listing)
 
 pub returns-clause-cost : goal.returns-clause-cost
-returns-clause-cost g c = λ pieces h. c.answer_branches.ensures.cost 1 pieces
-    (subst (λ (all : List PlainExplained). AreAlive (versions_in c.args.groups.now) all pieces)
-    (sym (pieces_here (book_of g.R.Rule.handles g.R.Rule.answers c.args.book.now.rules.items)
+returns-clause-cost g c =
+    subst (λ (all : List PlainExplained). c.answer_branches.new.steps ≤ c.args.steps.now
+    + reads_of c.args.groups.now (alive_of all))
+    (pieces_here (book_of g.R.Rule.handles g.R.Rule.answers c.args.book.now.rules.items)
     (versions_in c.args.groups.now) (query_of c.args.query.now) c.in_ok-route.route.asked
     c.in_ok-route.route.parts.items c.slice-slice.result (branches_of c.deref.result.now)
     c.in_ok-route.ensures.asked c.in_ok-route.ensures.parts c.slice-slice.ensures.value
-    (ap branches_of c.deref.ensures.value))) h)
+    (ap branches_of c.deref.ensures.value))
+    (c.answer_branches.ensures.cost 1)
 
 pub returns-clause-borrowed : goal.returns-clause-borrowed
 returns-clause-borrowed g c = λ past shows pieces h by_branch spared.
@@ -103,14 +109,10 @@ returns-clause-borrowed g c = λ past shows pieces h by_branch spared.
     (λ e alive. spared e (alive_in (versions_in c.args.groups.now) _ pieces e h alive))))))
 
 pub returns-clause-least : goal.returns-clause-least
-returns-clause-least g c = λ pieces h e m. c.in_ok-rows.ensures.least 1 e
-    (in_alive (versions_in c.args.groups.now)
-    (branches_pieces (book_of g.R.Rule.handles g.R.Rule.answers c.args.book.now.rules.items)
-    (versions_in c.args.groups.now) c.in_ok-route.route.asked c.in_ok-route.route.parts.items 1
-    (branches_of c.deref.result.now)) pieces e
-    (subst (λ (all : List PlainExplained). AreAlive (versions_in c.args.groups.now) all pieces)
+returns-clause-least g c = λ e m. c.in_ok-rows.ensures.least 1 e
+    (subst (λ (all : List PlainExplained). In e (alive_of all))
     (sym (pieces_here (book_of g.R.Rule.handles g.R.Rule.answers c.args.book.now.rules.items)
     (versions_in c.args.groups.now) (query_of c.args.query.now) c.in_ok-route.route.asked
     c.in_ok-route.route.parts.items c.slice-slice.result (branches_of c.deref.result.now)
     c.in_ok-route.ensures.asked c.in_ok-route.ensures.parts c.slice-slice.ensures.value
-    (ap branches_of c.deref.ensures.value))) h) m)
+    (ap branches_of c.deref.ensures.value))) m)

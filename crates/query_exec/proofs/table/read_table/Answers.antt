@@ -70,23 +70,23 @@ returns-clause-rows g c = λ past represents.
     c.coalesce_in_place.ensures.listing
 
 pub returns-in_err-rows-clause-cost : goal.returns-in_err-rows-clause-cost
-returns-in_err-rows-clause-cost g c = λ branch atom alive h.
+returns-in_err-rows-clause-cost g c = λ branch atom.
     subst (λ (n : ℕ). c.read_parts.new.steps ≤ c.args.steps.now + n)
     (ap (λ (xs : List PartPieces). total (part_read c.args.groups.now) xs) c.deref.ensures.value
     ∙ plan_cost c.args.groups.now (versions_in c.args.groups.now)
     (book_of g.R.Rule.handles g.R.Rule.answers c.args.book.now.rules.items)
     c.args.route.now.asked c.args.table.now (read_asked c.args.question.now) branch atom
-    c.args.route.now.parts.items c.in_ok-plan.plan.items c.in_ok-plan.ensures alive h)
+    c.args.route.now.parts.items c.in_ok-plan.plan.items c.in_ok-plan.ensures)
     c.read_parts.ensures.cost
 
 pub returns-clause-cost : goal.returns-clause-cost
-returns-clause-cost g c = λ branch atom alive h.
+returns-clause-cost g c = λ branch atom.
     subst (λ (n : ℕ). c.read_parts.new.steps ≤ c.args.steps.now + n)
     (ap (λ (xs : List PartPieces). total (part_read c.args.groups.now) xs) c.deref.ensures.value
     ∙ plan_cost c.args.groups.now (versions_in c.args.groups.now)
     (book_of g.R.Rule.handles g.R.Rule.answers c.args.book.now.rules.items)
     c.args.route.now.asked c.args.table.now (read_asked c.args.question.now) branch atom
-    c.args.route.now.parts.items c.in_ok-plan.plan.items c.in_ok-plan.ensures alive h)
+    c.args.route.now.parts.items c.in_ok-plan.plan.items c.in_ok-plan.ensures)
     c.read_parts.ensures.cost
 
 pub returns-clause-borrowed : goal.returns-clause-borrowed
