@@ -2,7 +2,9 @@
 
 use crate::answer::{write_end, write_file, write_opened};
 use crate::line::{Line, read_line};
-use crate::run::{Devices, Played, Runs, open, play_fuse, play_once, play_twice};
+use crate::run::{
+    Devices, Played, Runs, open, play_crashes, play_fuse, play_moments, play_once, play_twice,
+};
 use cases_text::{Groups, LinePlayer, play_lines, read_hex};
 use prima_base::NoMemory;
 use script_cli::Word;
@@ -138,6 +140,34 @@ impl Case {
     }
 }
 
+// Crashes of a run.
+impl Case {
+    // Runs the case's script over disks that pass no call, one call, and so on, up to one that
+    // passes all calls of the run, and opens what a crash after each may leave.
+    fn crash_each(&mut self) -> Result<(), NoMemory> {
+        let (_ended, whole) = play_once(self.alloc, self.runs(), Devices::sure(self.alloc))?;
+        let mut groups = Groups::new();
+        for passes in 0..MOST {
+            let played = play_crashes(self.alloc, self.runs(), &whole, passes)?;
+            groups.add(passes, played.text, &mut self.answers)?;
+            if played.code < 2 {
+                break;
+            }
+        }
+        groups.end(&mut self.answers)
+    }
+
+    // Runs the case's script, and opens what a crash at each moment of the run may leave.
+    fn crash_at_each_moment(&mut self) -> Result<(), NoMemory> {
+        let runs = Runs {
+            words: &self.words,
+            file: &self.file,
+            script: &self.script,
+        };
+        play_moments(self.alloc, runs, &mut self.answers)
+    }
+}
+
 impl LinePlayer for Case {
     fn line(&mut self, line: &[u8]) -> Result<(), NoMemory> {
         match read_line(line) {
@@ -158,6 +188,8 @@ impl LinePlayer for Case {
             Line::Rooms => self.play_each(Kind::Room),
             Line::Disks => self.play_each(Kind::Disk),
             Line::Fuses => self.play_each(Kind::Fuse),
+            Line::Crashes => self.crash_each(),
+            Line::Moments => self.crash_at_each_moment(),
             Line::Note => Ok(()),
         }
     }

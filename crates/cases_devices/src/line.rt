@@ -19,6 +19,8 @@ pub(crate) enum Line<'a> {
     Rooms,
     Disks,
     Fuses,
+    Crashes,
+    Moments,
     Note,
 }
 
@@ -39,6 +41,8 @@ pub(crate) fn read_line(line: &[u8]) -> Line<'_> {
         [b'r', b'o', b'o', b'm', b's'] => Line::Rooms,
         [b'd', b'i', b's', b'k', b's'] => Line::Disks,
         [b'f', b'u', b's', b'e', b's'] => Line::Fuses,
+        [b'c', b'r', b'a', b's', b'h', b'e', b's'] => Line::Crashes,
+        [b'm', b'o', b'm', b'e', b'n', b't', b's'] => Line::Moments,
         _ => Line::Note,
     }
 }

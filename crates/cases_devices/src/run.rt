@@ -1,10 +1,12 @@
 //! One run of a script over given devices, and a later one over the file that it leaves.
 
-ghost use Rattle.std.specs.Prelude.{◌≡◌, ◌<◌};
+ghost use Rattle.std.specs.Prelude.{◌≡◌, ◌<◌, ◌≤◌};
+ghost use Rattle.disk_model.specs.Disks.{memory_meaning};
 
 use crate::answer::{write_end, write_left};
+use crate::crash::{acknowledged, write_images};
 use archive_core::{Archive, MountFault, Opened};
-use cases_text::write_number;
+use cases_text::{Groups, write_number};
 use disk_model::{Disk, FuseDisk, MemDisk};
 use prima_base::{NoMemory, Steps};
 use prima_io::{MemSink, MemSource};
@@ -21,7 +23,7 @@ const ROOM: usize = 1 << 12;
 const CHUNK: usize = 7;
 
 // How many writes and syncs a disk has room for that fails at none of them.
-const DISK_CALLS: u64 = 1 << 12;
+const DISK_CALLS: u64 = 1 << 14;
 
 // How many bytes these may have.
 const DISK_ROOM: u64 = 1 << 20;
@@ -192,4 +194,69 @@ pub(crate) fn play_fuse(alloc: Global, runs: Runs<'_>, passes: u64) -> Result<Pl
         code: ended.code,
         text,
     })
+}
+
+/// Runs a script over its file on a disk that passes so many calls, and tells how many commands
+/// were acknowledged, and how many the crash images of the last moment open with. The file `whole`
+/// is what a run leaves over a disk that does not fail.
+pub(crate) fn play_crashes(
+    alloc: Global,
+    runs: Runs<'_>,
+    whole: &[u8],
+    passes: u64,
+) -> Result<Played, NoMemory> {
+    let bytes = Vec::from_slice(alloc, runs.file)?;
+    let inner = MemDisk::new(alloc, bytes, DISK_CALLS, DISK_ROOM)?;
+    let mut disk = FuseDisk::new(inner, passes);
+    let ended = run_over(alloc, runs, Devices::sure(alloc), &mut disk)?;
+    let inner = disk.inner();
+    let mut text = Vec::new(alloc);
+    text.extend_from_slice(b"status ")?;
+    write_number(u64::from(ended.code), &mut text)?;
+    text.extend_from_slice(b", acknowledged ")?;
+    write_number(acknowledged(&ended.replies), &mut text)?;
+    text.extend_from_slice(b": ")?;
+    write_images(alloc, inner, inner.moment(), whole, &mut text)?;
+    Ok(Played {
+        code: ended.code,
+        text,
+    })
+}
+
+// Adds what the crash images of a moment open with.
+fn add_moment(
+    alloc: Global,
+    disk: &MemDisk,
+    moment: u64,
+    whole: &[u8],
+    groups: &mut Groups,
+    answers: &mut Vec<u8>,
+) -> Result<(), NoMemory>
+    requires past { moment ≤ (memory_meaning disk.now).moment }
+{
+    let mut text = Vec::new(alloc);
+    write_images(alloc, disk, moment, whole, &mut text)?;
+    groups.add(moment, text, answers)
+}
+
+/// Runs a script over its file, and tells how many commands the crash images of each moment of the
+/// run open with.
+pub(crate) fn play_moments(
+    alloc: Global,
+    runs: Runs<'_>,
+    answers: &mut Vec<u8>,
+) -> Result<(), NoMemory> {
+    let bytes = Vec::from_slice(alloc, runs.file)?;
+    let mut disk = MemDisk::new(alloc, bytes, DISK_CALLS, DISK_ROOM)?;
+    let ended = run_over(alloc, runs, Devices::sure(alloc), &mut disk)?;
+    write_end(ended.code, &ended.replies, answers)?;
+    answers.push(b'\n')?;
+    let file = whole(alloc, &mut disk)?;
+    let mut groups = Groups::new();
+    let last = disk.moment();
+    for moment in 0..last {
+        add_moment(alloc, &disk, moment, &file, &mut groups, answers)?;
+    }
+    add_moment(alloc, &disk, last, &file, &mut groups, answers)?;
+    groups.end(answers)
 }

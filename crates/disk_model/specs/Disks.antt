@@ -1,9 +1,9 @@
 -- What the disks of this crate mean, and what each keeps.
-use Rattle.std.specs.Prelude.{◌≡◌, ℕ, ◌-◌, Bool, false, List, [], length, None, nat_eq, nat_lt}
-use Rattle.std.specs.Prelude.{◌||◌}
+use Rattle.std.specs.Prelude.{◌≡◌, ℕ, ◌-◌, Bool, false, List, [], length, take, None, nat_eq}
+use Rattle.std.specs.Prelude.{nat_lt, ◌||◌}
 use Rattle.disk_model.specs.Meaning.{Meaning, with_faults}
 use Rattle.disk_model.specs.Calls.{steps_of}
-use Rattle.disk_model.specs.Images.{Step}
+use Rattle.disk_model.specs.Images.{Step, State, begun, run}
 use Rattle.disk_model.specs.Memory.{meaning_of}
 use Rattle.disk_model.specs.declared.mem_disk.MemDisk.{MemDisk}
 use Rattle.disk_model.specs.declared.fuse_disk.FuseDisk.{FuseDisk}
@@ -20,6 +20,11 @@ memory_first d = d.first.items
 -- its writes and syncs, the first of them first
 abbrev pub memory_steps : MemDisk → List Step
 memory_steps d = steps_of d.calls.items d.written.items
+
+-- what it was at a moment: what a read gave then, what the last sync had left, and the ranges
+-- written since
+abbrev pub memory_state : MemDisk → ℕ → State
+memory_state d moment = run (begun (memory_first d)) (take moment (memory_steps d))
 
 -- what a read gives
 abbrev pub memory_bytes : MemDisk → List ℕ

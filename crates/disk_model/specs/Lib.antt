@@ -3,6 +3,8 @@ pub mod Moments
 pub mod DeviceCalls
 pub mod MomentLaws
 pub mod Images
+pub mod CrashImages
+pub mod CrashImageLaws
 pub mod Calls
 pub mod Memory
 pub mod MemoryLaws

@@ -10,6 +10,7 @@
 
 mod borrowed;
 mod call;
+mod crash_image;
 mod disk;
 mod fuse_disk;
 mod mem_disk;

@@ -8,6 +8,7 @@ ghost use Rattle.disk_model.specs.Memory.{meaning_of};
 ghost use Rattle.disk_model.specs.MemoryLaws.{valid};
 
 use crate::call::Call;
+use crate::crash_image::image_after;
 use crate::{Disk, Failed, NoMemory};
 use prima_base::push_all_reserved;
 use std::alloc::Global;
@@ -48,8 +49,10 @@ fn put_bytes(file: &mut Vec<u8>, at: usize, bytes: &[u8])
 }
 
 impl MemDisk {
+    ghost use Rattle.disk_model.specs.CrashImages.{crash_image};
     ghost use Rattle.disk_model.specs.Disks.{memory_meaning, memory_first, memory_steps};
-    ghost use Rattle.disk_model.specs.Disks.{calls_left, room_left};
+    ghost use Rattle.disk_model.specs.Disks.{memory_state, calls_left, room_left};
+    ghost use Rattle.disk_model.specs.Images.{IsImage};
 
     /// A disk that holds these bytes, all of them synced. It takes here the memory for a list of
     /// `calls` writes and syncs, and for `room` bytes in all the writes.
@@ -74,6 +77,26 @@ impl MemDisk {
             room,
             faults: 0,
         })
+    }
+
+    /// One of the files that a crash at this moment may have left, by its number. The moment is at
+    /// most the present one. Pick 0 is what a read gave then, and pick 1 what the last sync had
+    /// left. Every other pick has some of the growth since that sync, and spoils all bytes that a
+    /// crash may have spoiled: those in a written range, and those past the length at that sync.
+    pub fn crash_image(&self, moment: u64, pick: u64) -> Result<Vec<u8>, NoMemory>
+        requires past { moment ≤ (memory_meaning self.now).moment }
+        ensures exact { IfOk result
+            (λ image. image.items ≡ crash_image (memory_state self.now moment) pick) }
+        ensures image { IfOk result (λ image. IsImage (memory_state self.now moment) image.items) }
+        ensures left { IfOk result
+            (λ image. (memory_meaning self.now).left_since moment image.items) }
+        ensures now { IfOk result (λ image. moment ≡ (memory_meaning self.now).moment
+            → (memory_meaning self.now).may_leave image.items) }
+    {
+        let calls = &self.calls[..moment as usize];
+        let room = self.bytes.len();
+        let alloc = *self.first.allocator();
+        image_after(alloc, &self.first, calls, &self.written, room, pick)
     }
 
     /// The present moment: how many writes and syncs are in the list. It takes no memory.
