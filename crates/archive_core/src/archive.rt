@@ -8,7 +8,7 @@ ghost use Rattle.smo_ops_types.specs.Commands.{command_of};
 ghost use Rattle.smo_ops_spec.specs.Past.{Past};
 ghost use Rattle.command_codec_spec.specs.Valid.{IsCommand};
 ghost use Rattle.temporal_lang_types.specs.Queries.{query_of};
-ghost use Rattle.rewrite.specs.Books.{meaning_of};
+ghost use Rattle.rewrite.specs.Books.{book_meaning};
 ghost use Rattle.journal.specs.Mounting.{IsNotSynced, KeepsFile};
 ghost use Rattle.journal.specs.Puts.{Puts, Acknowledges};
 ghost use Rattle.journal.specs.Records.{Record, StandsFor, opened_file};
@@ -265,7 +265,7 @@ impl<D: Disk> Archive<D> {
         ensures represents { RepresentsSome (standing_of self.now) }
         ensures borrowed { (past : Past) → RepresentsPast (standing_of self.now) past
             → (pieces : List PlainExplained)
-            → ArePiecesOf (meaning_of book.now.rules.items R.handles R.answers) past
+            → ArePiecesOf (book_meaning R.Rule book.now) past
             (query_of query.now) pieces
             → (by_branch : BorrowedByBranch)
             → AreSpared (standing_of self.now).groups by_branch pieces
@@ -273,12 +273,12 @@ impl<D: Disk> Archive<D> {
             (query_asked past (query_of query.now)) by_branch listing.rows.items) }
         ensures cost { (past : Past) → RepresentsPast (standing_of self.now) past
             → (pieces : List PlainExplained)
-            → ArePiecesOf (meaning_of book.now.rules.items R.handles R.answers) past
+            → ArePiecesOf (book_meaning R.Rule book.now) past
             (query_of query.now) pieces
             → steps.new ≤ steps.old + reads_of (standing_of self.now).groups pieces }
         ensures least { (past : Past) → RepresentsPast (standing_of self.now) past
             → (pieces : List PlainExplained)
-            → ArePiecesOf (meaning_of book.now.rules.items R.handles R.answers) past
+            → ArePiecesOf (book_meaning R.Rule book.now) past
             (query_of query.now) pieces
             → (e : PlainExplained) → In e pieces
             → IfOk result (λ _. steps.old + explained_read (standing_of self.now).groups e ≤
@@ -297,7 +297,7 @@ impl<D: Disk> Archive<D> {
         query: &Query,
     ) -> Result<Vec<Explained>, AskFault>
         ensures explained { (past : Past) → RepresentsPast (standing_of self.now) past
-            → IsExplained (meaning_of book.now.rules.items R.handles R.answers) past
+            → IsExplained (book_meaning R.Rule book.now) past
             (query_of query.now) result }
         ensures represents { RepresentsSome (standing_of self.now) }
     {

@@ -4,7 +4,7 @@
 ghost use Rattle.std.specs.Prelude.{◌≡◌, ◌⊎◌, List, ℕ, Option, Some, None, map, string_bytes};
 ghost use Rattle.disk_model.specs.Meaning.{Tells};
 ghost use Rattle.disk_model.specs.Moments.{GoesOn};
-ghost use Rattle.rewrite.specs.Books.{meaning_of};
+ghost use Rattle.rewrite.specs.Books.{book_meaning};
 ghost use Rattle.archive_core_file_spec.specs.Opening.{Damages};
 ghost use Rattle.script_cli_arguments.specs.Words.{asked, asked_for, limit_of_run};
 ghost use Rattle.script_cli_arguments.specs.declared.request.Mode.TheVariants.{Sample};
@@ -48,7 +48,7 @@ fn run_borrowed<S: Source, K: Sink, D: Disk, R: Rule>(
     disk: &mut D,
 ) -> Status
     ensures goes { GoesOn (D.meaning disk.old) (D.meaning disk.new) }
-    ensures runs { RunsOver (given_by limit (meaning_of book.now.rules.items R.handles R.answers))
+    ensures runs { RunsOver (given_by limit (book_meaning R.Rule book.now))
         result (S.left source.old) (S.left source.new) (K.written sink.old) (K.written sink.new)
         (K.faults sink.old) (K.faults sink.new) (D.meaning disk.old) (D.meaning disk.new) }
     ensures source { SourceCounted result (S.faults source.old) (S.faults source.new) }
@@ -70,7 +70,7 @@ fn sample_borrowed<K: Sink, D: Disk, R: Rule>(
 ) -> Status
     ensures goes { GoesOn (D.meaning disk.old) (D.meaning disk.new) }
     ensures samples { (left : Option (List ℕ))
-        → SamplesOver size (given_by limit (meaning_of book.now.rules.items R.handles R.answers))
+        → SamplesOver size (given_by limit (book_meaning R.Rule book.now))
         result left left (K.written sink.old) (K.written sink.new) (K.faults sink.old)
         (K.faults sink.new)
         (D.meaning disk.old) (D.meaning disk.new) }
@@ -92,12 +92,12 @@ fn perform<S: Source, K: Sink, D: Disk, R: Rule>(
 ) -> Status
     ensures words { result ≡ Status.Words → ⊥ }
     ensures runs { (limit : ℕ) → limit_of_run request ≡ Some limit
-        → RunsOver (given_by limit (meaning_of book.now.rules.items R.handles R.answers)) result
+        → RunsOver (given_by limit (book_meaning R.Rule book.now)) result
         (S.left source.old) (S.left source.new) (K.written sink.old) (K.written sink.new)
         (K.faults sink.old) (K.faults sink.new) (D.meaning disk.old) (D.meaning disk.new) }
     ensures samples { (size : ℕ) → request.mode ≡ Sample size → (source.new ≡ source.old)
         × SamplesOver size (given_by request.journal_limit
-        (meaning_of book.now.rules.items R.handles R.answers)) result (S.left source.old)
+        (book_meaning R.Rule book.now)) result (S.left source.old)
         (S.left source.new) (K.written sink.old) (K.written sink.new) (K.faults sink.old)
         (K.faults sink.new)
         (D.meaning disk.old) (D.meaning disk.new) }
@@ -128,7 +128,7 @@ fn judge_and_run<S: Source, K: Sink, D: Disk, R: Rule>(
     ensures runs { (limit : ℕ) → asked_for (map string_bytes words.now) ≡ Some limit
         → IsUntouched result (S.left source.old) (S.left source.new) (K.written sink.old)
         (K.written sink.new) disk.old disk.new
-        ⊎ RunsOver (given_by limit (meaning_of book.now.rules.items R.handles R.answers)) result
+        ⊎ RunsOver (given_by limit (book_meaning R.Rule book.now)) result
         (S.left source.old) (S.left source.new) (K.written sink.old) (K.written sink.new)
         (K.faults sink.old) (K.faults sink.new) (D.meaning disk.old) (D.meaning disk.new) }
     ensures quiet { (limit : ℕ) → (size : ℕ) → AsksSample (map string_bytes words.now) limit size
@@ -136,7 +136,7 @@ fn judge_and_run<S: Source, K: Sink, D: Disk, R: Rule>(
     ensures samples { (limit : ℕ) → (size : ℕ) → AsksSample (map string_bytes words.now) limit size
         → IsUntouched result (S.left source.old) (S.left source.new) (K.written sink.old)
         (K.written sink.new) disk.old disk.new
-        ⊎ SamplesOver size (given_by limit (meaning_of book.now.rules.items R.handles R.answers))
+        ⊎ SamplesOver size (given_by limit (book_meaning R.Rule book.now))
         result (S.left source.old) (S.left source.new) (K.written sink.old) (K.written sink.new)
         (K.faults sink.old) (K.faults sink.new) (D.meaning disk.old) (D.meaning disk.new) }
     ensures goes { GoesOn (D.meaning disk.old) (D.meaning disk.new) }
@@ -183,14 +183,14 @@ pub fn run<S: Source, K: Sink, D: Disk, R: Rule>(
     // a prefix of the script's output, whatever happens, and all of it where the script was read to
     // its end; what a crash leaves wherever the run is stopped; and that sound files stay so.
     ensures runs { (limit : ℕ) → asked_for (map string_bytes words.now) ≡ Some limit
-        → IsRun (given_by limit (meaning_of book.now.rules.items R.handles R.answers)) D.meaning
+        → IsRun (given_by limit (book_meaning R.Rule book.now)) D.meaning
         result (S.left source.old) (S.left source.new) (K.written sink.old) (K.written sink.new)
         (K.faults sink.old) (K.faults sink.new) disk.old disk.new }
 
     // Where they ask for a sample: the same of its script, of which the summary is written. No
     // source is called.
     ensures samples { (limit : ℕ) → (size : ℕ) → AsksSample (map string_bytes words.now) limit size
-        → IsSample size (given_by limit (meaning_of book.now.rules.items R.handles R.answers))
+        → IsSample size (given_by limit (book_meaning R.Rule book.now))
         D.meaning result (S.left source.old) (S.left source.new) (K.written sink.old)
         (K.written sink.new) (K.faults sink.old) (K.faults sink.new) disk.old disk.new }
     ensures quiet { (limit : ℕ) → (size : ℕ) → AsksSample (map string_bytes words.now) limit size
@@ -213,7 +213,7 @@ pub fn run<S: Source, K: Sink, D: Disk, R: Rule>(
 
     // What scripts, statements and replies are: how a script is cut, how a statement is read, what
     // a command changes, what a query lists and EXPLAIN tells, and which replies are errors.
-    ensures laws { OutputLaws (meaning_of book.now.rules.items R.handles R.answers) }
+    ensures laws { OutputLaws (book_meaning R.Rule book.now) }
 {
     a_script_is_read_in_one_way();
     a_statement_has_no_open_text();
