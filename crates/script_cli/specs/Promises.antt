@@ -18,7 +18,7 @@ use Rattle.script_cli.specs.declared.status.Status.{Status}
 
 module _ {D : Type 0} where
   -- A run, given its limit and its rules.
-  pub record IsRun (given : Given) (meaning : D → Meaning) (status : Status)
+  pub record RunOutcome (given : Given) (meaning : D → Meaning) (status : Status)
       (left_old left_new written_old written_new : Option (List ℕ)) (faults_old faults_new : ℕ)
       (disk_old disk_new : D) : Type 0 where
     -- What is taken, written and left where they are, by the status: how many statements were
@@ -52,7 +52,7 @@ module _ {D : Type 0} where
         → UntilSynced (meaning disk_old) (meaning disk_new) IsSoundFile
 
   -- A sample of this size, given its limit and its rules: its script is made from the size.
-  pub record IsSample (size : ℕ) (given : Given) (meaning : D → Meaning) (status : Status)
+  pub record SampleOutcome (size : ℕ) (given : Given) (meaning : D → Meaning) (status : Status)
       (left_old left_new written_old written_new : Option (List ℕ)) (faults_old faults_new : ℕ)
       (disk_old disk_new : D) : Type 0 where
     -- What is written and left on the disk, by the status: the summary of the replies to the

@@ -9,7 +9,7 @@ ghost use Rattle.archive_core_file_spec.specs.Opening.{Damages};
 ghost use Rattle.script_cli_arguments.specs.Words.{asked, asked_for, limit_of_run};
 ghost use Rattle.script_cli_arguments.specs.declared.request.Mode.TheVariants.{Sample};
 ghost use Rattle.script_cli.specs.Laws.{OutputLaws};
-ghost use Rattle.script_cli.specs.Promises.{IsRun, IsSample};
+ghost use Rattle.script_cli.specs.Promises.{RunOutcome, SampleOutcome};
 ghost use Rattle.script_cli.specs.Runs.{IsUntouched, RunsOver, RefusedWords, given_by};
 ghost use Rattle.script_cli.specs.Runs.{SourceCounted, SinkCounted, DiskCounted};
 ghost use Rattle.script_cli.specs.Sampling.{AsksSample, SamplesOver};
@@ -183,14 +183,14 @@ pub fn run<S: Source, K: Sink, D: Disk, R: Rule>(
     // a prefix of the script's output, whatever happens, and all of it where the script was read to
     // its end; what a crash leaves wherever the run is stopped; and that sound files stay so.
     ensures runs { (limit : ℕ) → asked_for (map string_bytes words.now) ≡ Some limit
-        → IsRun (given_by limit (book_meaning R.Rule book.now)) D.meaning
+        → RunOutcome (given_by limit (book_meaning R.Rule book.now)) D.meaning
         result (S.left source.old) (S.left source.new) (K.written sink.old) (K.written sink.new)
         (K.faults sink.old) (K.faults sink.new) disk.old disk.new }
 
     // Where they ask for a sample: the same of its script, of which the summary is written. No
     // source is called.
     ensures samples { (limit : ℕ) → (size : ℕ) → AsksSample (map string_bytes words.now) limit size
-        → IsSample size (given_by limit (book_meaning R.Rule book.now))
+        → SampleOutcome size (given_by limit (book_meaning R.Rule book.now))
         D.meaning result (S.left source.old) (S.left source.new) (K.written sink.old)
         (K.written sink.new) (K.faults sink.old) (K.faults sink.new) disk.old disk.new }
     ensures quiet { (limit : ℕ) → (size : ℕ) → AsksSample (map string_bytes words.now) limit size
