@@ -1,4 +1,4 @@
-ghost use Rattle.std.specs.Prelude.{◌≡◌, ◌⊎◌, ◌+◌, ◌-◌, ◌^◌, ◌≤◌, ◌↔◌, ◌++◌, ◌∷◌, [], IsTrue, ℕ};
+ghost use Rattle.std.specs.Prelude.{◌≡◌, ◌⊎◌, ◌+◌, ◌-◌, ◌^◌, ◌≤◌, ◌↔◌, IsTrue, ℕ};
 ghost use Rattle.std.specs.Prelude.{List, length, min, Some, Err, true, false, IfOk, IfErr, OnOk};
 ghost use Rattle.relations_spec.specs.Sets.{In};
 ghost use Rattle.prima_io.specs.Causes.{Rose};
@@ -8,11 +8,10 @@ ghost use Rattle.smo_ops_types.specs.Commands.{command_of};
 ghost use Rattle.smo_ops_spec.specs.Past.{Past};
 ghost use Rattle.command_codec_spec.specs.Valid.{IsCommand};
 ghost use Rattle.temporal_lang_types.specs.Queries.{query_of};
-ghost use Rattle.rewrite.specs.Books.{meaning_of};
+ghost use Rattle.rewrite.specs.Books.{book_meaning};
 ghost use Rattle.journal.specs.Mounting.{IsNotSynced, KeepsFile};
-ghost use Rattle.journal.specs.Puts.{Puts, Acknowledges};
 ghost use Rattle.journal.specs.Records.{Record, StandsFor, opened_file};
-ghost use Rattle.journal.specs.JournalFiles.{Stands, needs, sealed_record, with_record};
+ghost use Rattle.journal.specs.JournalFiles.{Stands, sealed_record};
 ghost use Rattle.archive_core_file_spec.specs.LogRecords.{LogRecord, logged, record_of, records_of};
 ghost use Rattle.archive_core_file_spec.specs.LogRecords.{replayed_of};
 ghost use Rattle.archive_core_file_spec.specs.Opening.{Opens, Damages};
@@ -63,6 +62,9 @@ impl<D: Disk> Archive<D> {
     ghost use Rattle.archive_core.specs.Fields.{is_broken};
     ghost use Rattle.archive_core.specs.Committing.{Commits, IsPut};
     ghost use Rattle.archive_core.specs.Holding.{HoldsAt};
+    ghost use Rattle.archive_core.specs.Putting.{PutsRecord, LeavesDisk, MovesGate, WritesRecord};
+    ghost use Rattle.archive_core.specs.Putting.{HoldsRecord, KeepsRecord, IsDisksFault};
+    ghost use Rattle.archive_core.specs.Putting.{IsUnfailed};
     ghost use Rattle.archive_core.specs.Checkpointing.{Checkpoints, image_of_archive};
     ghost use Rattle.archive_core.specs.Checkpointing.{checkpoint_of};
     ghost use Rattle.archive_core.specs.Mounting.{IsMounted};
@@ -153,28 +155,21 @@ impl<D: Disk> Archive<D> {
             (standing_of self.old) result (standing_of self.new) }
         ensures represents { RepresentsSome (standing_of self.old)
             × RepresentsSome (standing_of self.new) }
-        ensures untouched { IfErr result (λ e. (e ≡ fault.Disk → ⊥)
-            → (disk_of self.new ≡ disk_of self.old) × (place_of self.new ≡ place_of self.old)) }
+        ensures untouched { LeavesDisk result self.old self.new }
         ensures limit { limit_of self.new ≡ limit_of self.old }
-        ensures place { OnOk result (place_of self.new + 1
-            ≡ place_of self.old + needs (record_of (logged (command_of command)))) }
-        ensures written { OnOk result (Told (λ old new.
-            new ≡ with_record old (place_of self.old) (record_of (logged (command_of command))))
-            (below self.old).seen (below self.new).seen) }
-        ensures holds { OnOk result ((rs : List Record)
-            → HoldsAt (below self.old) (place_of self.old) rs
-            → HoldsAt (below self.new) (place_of self.new)
-            (rs ++ record_of (logged (command_of command)) ∷ [])) }
+        ensures place { MovesGate (record_of (logged (command_of command)))
+            result self.old self.new }
+        ensures written { WritesRecord (record_of (logged (command_of command)))
+            result self.old self.new }
+        ensures holds { HoldsRecord (record_of (logged (command_of command)))
+            result self.old self.new }
         ensures spelled { OnOk result (IsCommand (command_of command)) }
         ensures spelled_so_far { result ≡ Err fault.Disk → IsCommand (command_of command) }
-        ensures cause { result ≡ Err fault.Disk
-            → Rose (below self.old).faults (below self.new).faults }
-        ensures unfailed { (result ≡ Err fault.Disk → ⊥)
-            → (below self.new).faults ≡ (below self.old).faults }
-        ensures puts { Puts (below self.old) (below self.new) (place_of self.old)
-            (record_of (logged (command_of command))) }
-        ensures acknowledged { OnOk result (Acknowledges (below self.old) (below self.new)
-            (place_of self.old) (place_of self.new) (record_of (logged (command_of command)))) }
+        ensures cause { IsDisksFault result self.old self.new }
+        ensures unfailed { IsUnfailed result self.old self.new }
+        ensures puts { PutsRecord (record_of (logged (command_of command))) self.old self.new }
+        ensures acknowledged { KeepsRecord (record_of (logged (command_of command)))
+            result self.old self.new }
     {
         if self.broken {
             // what stands in memory represents a past all the same
@@ -218,28 +213,20 @@ impl<D: Disk> Archive<D> {
             → RepresentsPast (standing_of self.old) past
             → IsImageOf past (image_of_archive (standing_of self.old)) }
         ensures same { standing_of self.new ≡ standing_of self.old }
-        ensures untouched { IfErr result (λ e. (e ≡ fault.Disk → ⊥)
-            → (disk_of self.new ≡ disk_of self.old) × (place_of self.new ≡ place_of self.old)) }
+        ensures untouched { LeavesDisk result self.old self.new }
         ensures limit { limit_of self.new ≡ limit_of self.old }
-        ensures place { OnOk result (place_of self.new + 1
-            ≡ place_of self.old + needs (record_of (checkpoint_of (standing_of self.old)))) }
-        ensures written { OnOk result (Told (λ old new.
-            new ≡ with_record old (place_of self.old)
-            (record_of (checkpoint_of (standing_of self.old)))) (below self.old).seen
-            (below self.new).seen) }
-        ensures holds { OnOk result ((rs : List Record)
-            → HoldsAt (below self.old) (place_of self.old) rs
-            → HoldsAt (below self.new) (place_of self.new)
-            (rs ++ record_of (checkpoint_of (standing_of self.old)) ∷ [])) }
-        ensures cause { result ≡ Err fault.Disk
-            → Rose (below self.old).faults (below self.new).faults }
-        ensures unfailed { (result ≡ Err fault.Disk → ⊥)
-            → (below self.new).faults ≡ (below self.old).faults }
-        ensures puts { Puts (below self.old) (below self.new) (place_of self.old)
-            (record_of (checkpoint_of (standing_of self.old))) }
-        ensures acknowledged { OnOk result (Acknowledges (below self.old) (below self.new)
-            (place_of self.old) (place_of self.new)
-            (record_of (checkpoint_of (standing_of self.old)))) }
+        ensures place { MovesGate (record_of (checkpoint_of (standing_of self.old)))
+            result self.old self.new }
+        ensures written { WritesRecord (record_of (checkpoint_of (standing_of self.old))) result
+            self.old self.new }
+        ensures holds { HoldsRecord (record_of (checkpoint_of (standing_of self.old))) result
+            self.old self.new }
+        ensures cause { IsDisksFault result self.old self.new }
+        ensures unfailed { IsUnfailed result self.old self.new }
+        ensures puts { PutsRecord (record_of (checkpoint_of (standing_of self.old))) self.old
+            self.new }
+        ensures acknowledged { KeepsRecord (record_of (checkpoint_of (standing_of self.old)))
+            result self.old self.new }
     {
         an_image_shows_its_archive();
         if self.broken {
@@ -265,21 +252,18 @@ impl<D: Disk> Archive<D> {
         ensures represents { RepresentsSome (standing_of self.now) }
         ensures borrowed { (past : Past) → RepresentsPast (standing_of self.now) past
             → (pieces : List PlainExplained)
-            → ArePiecesOf (meaning_of book.now.rules.items R.handles R.answers) past
-            (query_of query.now) pieces
+            → ArePiecesOf (book_meaning R.Rule book.now) past (query_of query.now) pieces
             → (by_branch : BorrowedByBranch)
             → AreSpared (standing_of self.now).groups by_branch pieces
             → IfOk result (λ listing. AreBorrowedBy past
             (query_asked past (query_of query.now)) by_branch listing.rows.items) }
         ensures cost { (past : Past) → RepresentsPast (standing_of self.now) past
             → (pieces : List PlainExplained)
-            → ArePiecesOf (meaning_of book.now.rules.items R.handles R.answers) past
-            (query_of query.now) pieces
+            → ArePiecesOf (book_meaning R.Rule book.now) past (query_of query.now) pieces
             → steps.new ≤ steps.old + reads_of (standing_of self.now).groups pieces }
         ensures least { (past : Past) → RepresentsPast (standing_of self.now) past
             → (pieces : List PlainExplained)
-            → ArePiecesOf (meaning_of book.now.rules.items R.handles R.answers) past
-            (query_of query.now) pieces
+            → ArePiecesOf (book_meaning R.Rule book.now) past (query_of query.now) pieces
             → (e : PlainExplained) → In e pieces
             → IfOk result (λ _. steps.old + explained_read (standing_of self.now).groups e ≤
             steps.new) }
@@ -297,8 +281,7 @@ impl<D: Disk> Archive<D> {
         query: &Query,
     ) -> Result<Vec<Explained>, AskFault>
         ensures explained { (past : Past) → RepresentsPast (standing_of self.now) past
-            → IsExplained (meaning_of book.now.rules.items R.handles R.answers) past
-            (query_of query.now) result }
+            → IsExplained (book_meaning R.Rule book.now) past (query_of query.now) result }
         ensures represents { RepresentsSome (standing_of self.now) }
     {
         self.state.explain(book, query)
@@ -331,25 +314,15 @@ impl<D: Disk> Archive<D> {
             → Commits past (judged_command judged.entry) (place_of self.old) (limit_of self.old)
             (standing_of self.old) result (standing_of self.new) }
         ensures represents { RepresentsSome (standing_of self.new) }
-        ensures untouched { IfErr result (λ e. (e ≡ fault.Disk → ⊥)
-            → (disk_of self.new ≡ disk_of self.old) × (place_of self.new ≡ place_of self.old)) }
+        ensures untouched { LeavesDisk result self.old self.new }
         ensures limit { limit_of self.new ≡ limit_of self.old }
-        ensures place { OnOk result (place_of self.new + 1
-            ≡ place_of self.old + needs (sealed_record sealed.now)) }
-        ensures written { OnOk result (Told (λ old new.
-            new ≡ with_record old (place_of self.old) (sealed_record sealed.now))
-            (below self.old).seen (below self.new).seen) }
-        ensures holds { OnOk result ((rs : List Record)
-            → HoldsAt (below self.old) (place_of self.old) rs
-            → HoldsAt (below self.new) (place_of self.new) (rs ++ sealed_record sealed.now ∷ [])) }
-        ensures cause { result ≡ Err fault.Disk
-            → Rose (below self.old).faults (below self.new).faults }
-        ensures unfailed { (result ≡ Err fault.Disk → ⊥)
-            → (below self.new).faults ≡ (below self.old).faults }
-        ensures puts { Puts (below self.old) (below self.new) (place_of self.old)
-            (sealed_record sealed.now) }
-        ensures acknowledged { OnOk result (Acknowledges (below self.old) (below self.new)
-            (place_of self.old) (place_of self.new) (sealed_record sealed.now)) }
+        ensures place { MovesGate (sealed_record sealed.now) result self.old self.new }
+        ensures written { WritesRecord (sealed_record sealed.now) result self.old self.new }
+        ensures holds { HoldsRecord (sealed_record sealed.now) result self.old self.new }
+        ensures cause { IsDisksFault result self.old self.new }
+        ensures unfailed { IsUnfailed result self.old self.new }
+        ensures puts { PutsRecord (sealed_record sealed.now) self.old self.new }
+        ensures acknowledged { KeepsRecord (sealed_record sealed.now) result self.old self.new }
     {
         let prepared = self.state.prepare(judged)?;
         self.put(sealed)?;
@@ -363,25 +336,15 @@ impl<D: Disk> Archive<D> {
         ensures is_put { IsPut (sealed_record sealed.now) (place_of self.old) (limit_of self.old)
             result }
         ensures same { standing_of self.new ≡ standing_of self.old }
-        ensures untouched { IfErr result (λ e. (e ≡ fault.Disk → ⊥)
-            → (disk_of self.new ≡ disk_of self.old) × (place_of self.new ≡ place_of self.old)) }
+        ensures untouched { LeavesDisk result self.old self.new }
         ensures limit { limit_of self.new ≡ limit_of self.old }
-        ensures place { OnOk result (place_of self.new + 1
-            ≡ place_of self.old + needs (sealed_record sealed.now)) }
-        ensures written { OnOk result (Told (λ old new.
-            new ≡ with_record old (place_of self.old) (sealed_record sealed.now))
-            (below self.old).seen (below self.new).seen) }
-        ensures holds { OnOk result ((rs : List Record)
-            → HoldsAt (below self.old) (place_of self.old) rs
-            → HoldsAt (below self.new) (place_of self.new) (rs ++ sealed_record sealed.now ∷ [])) }
-        ensures cause { result ≡ Err fault.Disk
-            → Rose (below self.old).faults (below self.new).faults }
-        ensures unfailed { (result ≡ Err fault.Disk → ⊥)
-            → (below self.new).faults ≡ (below self.old).faults }
-        ensures puts { Puts (below self.old) (below self.new) (place_of self.old)
-            (sealed_record sealed.now) }
-        ensures acknowledged { OnOk result (Acknowledges (below self.old) (below self.new)
-            (place_of self.old) (place_of self.new) (sealed_record sealed.now)) }
+        ensures place { MovesGate (sealed_record sealed.now) result self.old self.new }
+        ensures written { WritesRecord (sealed_record sealed.now) result self.old self.new }
+        ensures holds { HoldsRecord (sealed_record sealed.now) result self.old self.new }
+        ensures cause { IsDisksFault result self.old self.new }
+        ensures unfailed { IsUnfailed result self.old self.new }
+        ensures puts { PutsRecord (sealed_record sealed.now) self.old self.new }
+        ensures acknowledged { KeepsRecord (sealed_record sealed.now) result self.old self.new }
     {
         match self.journal.put(sealed) {
             Ok(()) => Ok(()),

@@ -71,7 +71,7 @@ impl ArchiveState {
     ghost use Rattle.temporal_lang_types.specs.Queries.{query_of};
     ghost use Rattle.archive_core_state.specs.AcceptedCommands.{accepted_command, IsAcceptedAfter};
     ghost use Rattle.archive_core_state.specs.Committing.{IsAsBefore, IsDone, Accepts};
-    ghost use Rattle.rewrite.specs.Books.{meaning_of};
+    ghost use Rattle.rewrite.specs.Books.{book_meaning};
     ghost use Rattle.piece_ir.specs.ExplainedPieces.{PlainExplained};
     ghost use Rattle.query_exec.specs.Borrowed.{BorrowedByBranch, AreSpared, AreBorrowedBy};
     ghost use Rattle.query_exec.specs.Reads.{explained_read, reads_of};
@@ -228,19 +228,16 @@ impl ArchiveState {
         ensures represents { RepresentsSome self.now }
         ensures borrowed { (past : Past) → RepresentsPast self.now past
             → (pieces : List PlainExplained)
-            → ArePiecesOf (meaning_of book.now.rules.items R.handles R.answers) past
-            (query_of query.now) pieces
+            → ArePiecesOf (book_meaning R.Rule book.now) past (query_of query.now) pieces
             → (by_branch : BorrowedByBranch) → AreSpared self.now.groups by_branch pieces
             → IfOk result (λ listing. AreBorrowedBy past
             (query_asked past (query_of query.now)) by_branch listing.rows.items) }
         ensures cost { (past : Past) → RepresentsPast self.now past → (pieces : List PlainExplained)
-            → ArePiecesOf (meaning_of book.now.rules.items R.handles R.answers) past
-            (query_of query.now) pieces
+            → ArePiecesOf (book_meaning R.Rule book.now) past (query_of query.now) pieces
             → steps.new ≤ steps.old + reads_of self.now.groups pieces }
         ensures least { (past : Past) → RepresentsPast self.now past
             → (pieces : List PlainExplained)
-            → ArePiecesOf (meaning_of book.now.rules.items R.handles R.answers) past
-            (query_of query.now) pieces
+            → ArePiecesOf (book_meaning R.Rule book.now) past (query_of query.now) pieces
             → (e : PlainExplained) → In e pieces
             → IfOk result (λ _. steps.old + explained_read self.now.groups e ≤ steps.new) }
         ensures rises { steps.old ≤ steps.new }
@@ -259,8 +256,7 @@ impl ArchiveState {
         query: &Query,
     ) -> Result<Vec<Explained>, AskFault>
         ensures explained { (past : Past) → RepresentsPast self.now past
-            → IsExplained (meaning_of book.now.rules.items R.handles R.answers) past
-            (query_of query.now) result }
+            → IsExplained (book_meaning R.Rule book.now) past (query_of query.now) result }
         ensures represents { RepresentsSome self.now }
     {
         explain_query(self.alloc, &self.groups, book, query)

@@ -10,7 +10,7 @@ ghost use Rattle.query_exec.specs.Borrowed.{BorrowedByBranch, AreSpared, AreBorr
 ghost use Rattle.relations_spec.specs.Sets.{In};
 ghost use Rattle.query_exec.specs.Reads.{explained_read, reads_of};
 ghost use Rattle.version_groups.specs.Representation.{Represents};
-ghost use Rattle.rewrite.specs.Books.{meaning_of};
+ghost use Rattle.rewrite.specs.Books.{book_meaning};
 ghost use Rattle.archive_core_state.specs.Asking.{tells_periods, ArePiecesOf, IsAsked, IsExplained};
 ghost use Rattle.archive_core_state.specs.Asking.{query_asked};
 ghost use Rattle.archive_core_state.specs.Asking.{IsWrong, IsAskedSchema, IsChecked, IsQueryReady};
@@ -123,18 +123,16 @@ pub(crate) fn ask<'a, L: Ledger, R: Rule>(
     ensures asked { (past : Past) → Represents groups.now past
         → IsAsked past (query_of query.now) result }
     ensures borrowed { (past : Past) → Represents groups.now past → (pieces : List PlainExplained)
-        → ArePiecesOf (meaning_of book.now.rules.items R.handles R.answers) past
-        (query_of query.now) pieces
+        → ArePiecesOf (book_meaning R.Rule book.now) past (query_of query.now) pieces
         → (by_branch : BorrowedByBranch) → AreSpared groups.now by_branch pieces
         → IfOk result (λ listing. AreBorrowedBy past (query_asked past (query_of query.now))
         by_branch
         listing.rows.items) }
     ensures cost { (past : Past) → Represents groups.now past → (pieces : List PlainExplained)
-        → ArePiecesOf (meaning_of book.now.rules.items R.handles R.answers) past
-        (query_of query.now) pieces
+        → ArePiecesOf (book_meaning R.Rule book.now) past (query_of query.now) pieces
         → steps.new ≤ steps.old + reads_of groups.now pieces }
     ensures least { (past : Past) → Represents groups.now past → (pieces : List PlainExplained)
-        → ArePiecesOf (meaning_of book.now.rules.items R.handles R.answers) past
+        → ArePiecesOf (book_meaning R.Rule book.now) past
         (query_of query.now) pieces → (e : PlainExplained)
         → In e pieces
         → IfOk result (λ _. steps.old + explained_read groups.now e ≤ steps.new) }
@@ -158,8 +156,7 @@ pub(crate) fn explain_query<R: Rule>(
 ) -> Result<Vec<Explained>, AskFault>
     requires represents { (past : Past) × Represents groups.now past }
     ensures { (past : Past) → Represents groups.now past
-        → IsExplained (meaning_of book.now.rules.items R.handles R.answers) past
-        (query_of query.now) result }
+        → IsExplained (book_meaning R.Rule book.now) past (query_of query.now) result }
 {
     let atoms = judged(alloc, groups, query)?;
     let pieces = explain(alloc, groups, book, &atoms)?;

@@ -14,7 +14,7 @@ ghost use Rattle.version_groups.specs.Groups.{versions_in};
 ghost use Rattle.version_groups.specs.Representation.{Represents};
 ghost use Rattle.plain_answers_spec.specs.Branches.{branch_answers, plain};
 ghost use Rattle.temporal_lang_types.specs.Branches.{branch_of, branches_of};
-ghost use Rattle.rewrite.specs.Books.{meaning_of};
+ghost use Rattle.rewrite.specs.Books.{book_meaning};
 ghost use Rattle.query_exec.specs.Accepted.{MayItems, MayBranch, MayBranches, AreRead};
 ghost use Rattle.query_exec.specs.Routes.{IsRoute};
 ghost use Rattle.piece_ir.specs.ExplainedPieces.{PlainExplained};
@@ -63,16 +63,16 @@ fn read_items<'a, L: Ledger, R: Rule>(
         from.now atoms.items) }
     ensures borrowed { (branch : ℕ) → (by_branch : BorrowedByBranch)
         → AllSpare groups.now by_branch (items_pieces
-        (meaning_of book.now.rules.items R.handles R.answers) (versions_in groups.now)
+        (book_meaning R.Rule book.now) (versions_in groups.now)
         route.now.asked route.now.parts.items (borrowed references.now) (test cond.now) branch 0
         from.now)
         → IfOk result (λ atoms. AtomsBorrow (by_branch branch) atoms.items) }
     ensures cost { (branch : ℕ) → steps.new ≤ steps.old + reads_of groups.now (alive_of
-        (items_pieces (meaning_of book.now.rules.items R.handles R.answers) (versions_in groups.now)
+        (items_pieces (book_meaning R.Rule book.now) (versions_in groups.now)
         route.now.asked route.now.parts.items (borrowed references.now) (test cond.now) branch 0
         from.now)) }
     ensures least { (branch : ℕ) → (e : PlainExplained) → In e (alive_of
-        (items_pieces (meaning_of book.now.rules.items R.handles R.answers) (versions_in groups.now)
+        (items_pieces (book_meaning R.Rule book.now) (versions_in groups.now)
         route.now.asked route.now.parts.items (borrowed references.now) (test cond.now) branch 0
         from.now))
         → IfOk result (λ _. steps.old + explained_read groups.now e ≤ steps.new) }
@@ -113,16 +113,16 @@ fn answer_branch<'a, L: Ledger, R: Rule>(
         → IfOk result (λ rows. rows_at rows.items m ≡ []) }
     ensures borrowed { (number : ℕ) → (by_branch : BorrowedByBranch)
         → AllSpare groups.now by_branch (branch_pieces
-        (meaning_of book.now.rules.items R.handles R.answers) (versions_in groups.now)
+        (book_meaning R.Rule book.now) (versions_in groups.now)
         route.now.asked route.now.parts.items number (branch_of branch.now))
         → IfOk result (λ rows. AllStayBorrowed (by_branch number) (branch_of branch.now).outs
         rows.items) }
     ensures cost { (number : ℕ) → steps.new ≤ steps.old + reads_of groups.now (alive_of
-        (branch_pieces (meaning_of book.now.rules.items R.handles R.answers)
+        (branch_pieces (book_meaning R.Rule book.now)
         (versions_in groups.now) route.now.asked route.now.parts.items number
         (branch_of branch.now))) }
     ensures least { (number : ℕ) → (e : PlainExplained) → In e (alive_of
-        (branch_pieces (meaning_of book.now.rules.items R.handles R.answers)
+        (branch_pieces (book_meaning R.Rule book.now)
         (versions_in groups.now) route.now.asked route.now.parts.items number
         (branch_of branch.now)))
         → IfOk result (λ _. steps.old + explained_read groups.now e ≤ steps.new) }
@@ -165,17 +165,17 @@ pub(crate) fn answer_branches<'a, L: Ledger, R: Rule>(
         (migrated past m route.now.asked)) }
     ensures borrowed { (past : Past) → Represents groups.now past → (number : ℕ)
         → (by_branch : BorrowedByBranch) → AllSpare groups.now by_branch
-        (branches_pieces (meaning_of book.now.rules.items R.handles R.answers)
+        (branches_pieces (book_meaning R.Rule book.now)
         (versions_in groups.now) route.now.asked route.now.parts.items number
         (branches_of branches.now))
         → IfOk result (λ rows. AlwaysBorrowedBy past route.now.asked by_branch number
         (branches_of branches.now) rows.items) }
     ensures cost { (number : ℕ) → steps.new ≤ steps.old + reads_of groups.now (alive_of
-        (branches_pieces (meaning_of book.now.rules.items R.handles R.answers)
+        (branches_pieces (book_meaning R.Rule book.now)
         (versions_in groups.now) route.now.asked route.now.parts.items number
         (branches_of branches.now))) }
     ensures least { (number : ℕ) → (e : PlainExplained) → In e (alive_of
-        (branches_pieces (meaning_of book.now.rules.items R.handles R.answers)
+        (branches_pieces (book_meaning R.Rule book.now)
         (versions_in groups.now) route.now.asked route.now.parts.items number
         (branches_of branches.now)))
         → IfOk result (λ _. steps.old + explained_read groups.now e ≤ steps.new) }

@@ -10,7 +10,7 @@ ghost use Rattle.temporal_lang_types.specs.Branches.{branch_of, branches_of};
 ghost use Rattle.temporal_lang_types.specs.Queries.{PlainQuery, query_of, IsLasting};
 ghost use Rattle.version_groups.specs.Groups.{versions_in};
 ghost use Rattle.version_groups.specs.Representation.{Represents};
-ghost use Rattle.rewrite.specs.Books.{meaning_of};
+ghost use Rattle.rewrite.specs.Books.{book_meaning};
 ghost use Rattle.query_exec.specs.Accepted.{MayItems, MayBranch, MayBranches, IsAnswerable};
 ghost use Rattle.query_exec.specs.Accepted.{IsQueryAccepted};
 ghost use Rattle.query_exec.specs.ToldMeanings.{MeanWhatIsAsked};
@@ -104,7 +104,7 @@ fn explain_item<R: Rule>(
     ensures { (before : List PlainExplained) → AreLeft (versions_in groups.now) before
         (all_explained into.old.items)
         → OnOk result (AreLeft (versions_in groups.now)
-        (before ++ table_pieces (meaning_of book.now.rules.items R.handles R.answers)
+        (before ++ table_pieces (book_meaning R.Rule book.now)
         (versions_in groups.now) route.now.asked table.now
         (own_read place (borrowed references.now) (test cond.now)) branch atom
         route.now.parts.items) (all_explained into.new.items)) }
@@ -135,7 +135,7 @@ fn explain_items<R: Rule>(
     ensures { (before : List PlainExplained) → AreLeft (versions_in groups.now) before
         (all_explained into.old.items)
         → OnOk result (AreLeft (versions_in groups.now)
-        (before ++ items_pieces (meaning_of book.now.rules.items R.handles R.answers)
+        (before ++ items_pieces (book_meaning R.Rule book.now)
         (versions_in groups.now) route.now.asked route.now.parts.items (borrowed references.now)
         (test cond.now) branch 0 from.now) (all_explained into.new.items)) }
 {
@@ -166,7 +166,7 @@ fn explain_branch<R: Rule>(
     ensures { (before : List PlainExplained) → AreLeft (versions_in groups.now) before
         (all_explained into.old.items)
         → OnOk result (AreLeft (versions_in groups.now)
-        (before ++ branch_pieces (meaning_of book.now.rules.items R.handles R.answers)
+        (before ++ branch_pieces (book_meaning R.Rule book.now)
         (versions_in groups.now) route.now.asked route.now.parts.items number
         (branch_of branch.now)) (all_explained into.new.items)) }
 {
@@ -199,7 +199,7 @@ fn explain_branches<R: Rule>(
     requires read { MayBranches (versions_in groups.now) route.now (branches_of branches.now) }
     requires few { length branches.now ≤ 16 }
     ensures { IfOk result (λ v. AreLeft (versions_in groups.now)
-        (branches_pieces (meaning_of book.now.rules.items R.handles R.answers)
+        (branches_pieces (book_meaning R.Rule book.now)
         (versions_in groups.now) route.now.asked route.now.parts.items 1 (branches_of branches.now))
         (all_explained v.items)) }
 {
@@ -228,10 +228,10 @@ pub fn explain<R: Rule>(
     requires answerable { IsAnswerable groups.now (query_of query.now) }
     requires there { query.now.version ≤ length groups.now.versions }
     requires lasting { IsLasting query.now.when }
-    ensures are { IfOk result (λ v. ArePieces (meaning_of book.now.rules.items R.handles R.answers)
+    ensures are { IfOk result (λ v. ArePieces (book_meaning R.Rule book.now)
         (versions_in groups.now) (query_of query.now) (all_explained v.items)) }
     ensures told { IfOk result (λ v. all_explained v.items
-        ≡ living_pieces (meaning_of book.now.rules.items R.handles R.answers)
+        ≡ living_pieces (book_meaning R.Rule book.now)
         (versions_in groups.now) (query_of query.now)) }
     ensures meant { (past : Past) → (asked : PlainQuery) → Represents groups.now past
         → IsQueryAccepted past asked (query_of query.now)

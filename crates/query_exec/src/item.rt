@@ -10,7 +10,7 @@ ghost use Rattle.smo_ops_spec.specs.Past.{Past, no_tables, tables_from};
 ghost use Rattle.version_groups.specs.Groups.{versions_in};
 ghost use Rattle.version_groups.specs.Representation.{Represents};
 ghost use Rattle.cond_expr.specs.AtomColumns.{columns_at};
-ghost use Rattle.rewrite.specs.Books.{meaning_of};
+ghost use Rattle.rewrite.specs.Books.{book_meaning};
 ghost use Rattle.query_exec.specs.Accepted.{IsRead};
 ghost use Rattle.query_exec.specs.Questions.{own_read};
 ghost use Rattle.piece_ir.specs.ExplainedPieces.{PlainExplained};
@@ -77,16 +77,16 @@ pub(crate) fn read_item<'a, L: Ledger, R: Rule>(
         (own_read place (borrowed references.now) (test cond.now)) a) }
     ensures borrowed { (branch : ℕ) → (by_branch : BorrowedByBranch)
         → AllSpare groups.now by_branch
-        (table_pieces (meaning_of book.now.rules.items R.handles R.answers) (versions_in groups.now)
+        (table_pieces (book_meaning R.Rule book.now) (versions_in groups.now)
         route.now.asked table.now (own_read place (borrowed references.now) (test cond.now))
         branch (place + 1) route.now.parts.items)
         → IfOk result (λ a. RowsBorrow (by_branch branch) a.columns.items a.rows.items) }
     ensures cost { (branch : ℕ) → (atom : ℕ) → steps.new ≤ steps.old + reads_of groups.now (alive_of
-        (table_pieces (meaning_of book.now.rules.items R.handles R.answers) (versions_in groups.now)
+        (table_pieces (book_meaning R.Rule book.now) (versions_in groups.now)
         route.now.asked table.now (own_read place (borrowed references.now) (test cond.now))
         branch atom route.now.parts.items)) }
     ensures least { (branch : ℕ) → (atom : ℕ) → (e : PlainExplained) → In e (alive_of
-        (table_pieces (meaning_of book.now.rules.items R.handles R.answers) (versions_in groups.now)
+        (table_pieces (book_meaning R.Rule book.now) (versions_in groups.now)
         route.now.asked table.now (own_read place (borrowed references.now) (test cond.now))
         branch atom route.now.parts.items))
         → IfOk result (λ _. steps.old + explained_read groups.now e ≤ steps.new) }

@@ -11,7 +11,7 @@ ghost use Rattle.temporal_lang_spec.specs.Answers.{asked_at, answer};
 ghost use Rattle.temporal_lang_types.specs.Queries.{PlainQuery, query_of, slice_of, IsLasting};
 ghost use Rattle.version_groups.specs.Groups.{versions_in};
 ghost use Rattle.version_groups.specs.Representation.{Represents};
-ghost use Rattle.rewrite.specs.Books.{meaning_of};
+ghost use Rattle.rewrite.specs.Books.{book_meaning};
 ghost use Rattle.query_exec.specs.Accepted.{IsQueryAccepted, IsAnswerable};
 ghost use Rattle.piece_ir.specs.ExplainedPieces.{PlainExplained};
 ghost use Rattle.query_exec.specs.Borrowed.{BorrowedByBranch, AreSpared, AreBorrowedBy};
@@ -60,15 +60,15 @@ pub fn answer<'a, L: Ledger, R: Rule>(
         → IsQueryAccepted past asked (query_of query.now)
         → IfOk result (λ rows. kept asked.keep (entries_of rows.items) ≡ answer past asked) }
     ensures borrowed { (past : Past) → Represents groups.now past → (pieces : List PlainExplained)
-        → ArePieces (meaning_of book.now.rules.items R.handles R.answers) (versions_in groups.now)
+        → ArePieces (book_meaning R.Rule book.now) (versions_in groups.now)
         (query_of query.now) pieces
         → (by_branch : BorrowedByBranch) → AreSpared groups.now by_branch pieces
         → IfOk result (λ rows. AreBorrowedBy past (query_of query.now) by_branch rows.items) }
     ensures cost { steps.new ≤ steps.old + reads_of groups.now (living_pieces
-        (meaning_of book.now.rules.items R.handles R.answers) (versions_in groups.now)
+        (book_meaning R.Rule book.now) (versions_in groups.now)
         (query_of query.now)) }
     ensures least { (e : PlainExplained) → In e (living_pieces
-        (meaning_of book.now.rules.items R.handles R.answers) (versions_in groups.now)
+        (book_meaning R.Rule book.now) (versions_in groups.now)
         (query_of query.now))
         → IfOk result (λ _. steps.old + explained_read groups.now e ≤ steps.new) }
     ensures rises { steps.old ≤ steps.new }

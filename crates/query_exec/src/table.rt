@@ -14,7 +14,7 @@ ghost use Rattle.version_groups.specs.Representation.{Represents};
 ghost use Rattle.piece_ir_spec.specs.Pieces.{all_mean};
 ghost use Rattle.piece_ir_spec.specs.Typed.{AllTyped};
 ghost use Rattle.piece_ir.specs.Shown.{shown_pieces};
-ghost use Rattle.rewrite.specs.Books.{meaning_of};
+ghost use Rattle.rewrite.specs.Books.{book_meaning};
 ghost use Rattle.query_pieces_spec.specs.Gathering.{IsGathered};
 ghost use Rattle.query_exec.specs.Asked.{read_asked};
 ghost use Rattle.query_exec.specs.Questions.{table_read};
@@ -57,7 +57,7 @@ pub(crate) fn table_pieces<R: Rule>(
     requires route { IsRoute (versions_in groups.now) route.now }
     requires read { MayBeRead (versions_in groups.now) route.now table.now (read_asked
         question.now) }
-    ensures { IfOk result (λ v. ArePlanned (meaning_of book.now.rules.items R.handles R.answers)
+    ensures { IfOk result (λ v. ArePlanned (book_meaning R.Rule book.now)
         (versions_in groups.now) route.now.asked table.now (read_asked question.now)
         route.now.parts.items v.items) }
 {
@@ -151,15 +151,15 @@ pub(crate) fn read_table<'a, L: Ledger, R: Rule>(
     ensures borrowed { (branch : ℕ) → (atom : ℕ) → (which : BorrowedValues)
         → (columns : List AtomColumn)
         → ((e : PlainExplained) → IsAlive (versions_in groups.now)
-        (table_pieces (meaning_of book.now.rules.items R.handles R.answers) (versions_in groups.now)
+        (table_pieces (book_meaning R.Rule book.now) (versions_in groups.now)
         route.now.asked table.now (read_asked question.now) branch atom route.now.parts.items) e
         → IsPlainIn groups.now which columns e)
         → IfOk result (λ rows. RowsBorrow which columns rows.items) }
     ensures cost { (branch : ℕ) → (atom : ℕ) → steps.new ≤ steps.old + reads_of groups.now (alive_of
-        (table_pieces (meaning_of book.now.rules.items R.handles R.answers) (versions_in groups.now)
+        (table_pieces (book_meaning R.Rule book.now) (versions_in groups.now)
         route.now.asked table.now (read_asked question.now) branch atom route.now.parts.items)) }
     ensures least { (branch : ℕ) → (atom : ℕ) → (e : PlainExplained) → In e (alive_of
-        (table_pieces (meaning_of book.now.rules.items R.handles R.answers) (versions_in groups.now)
+        (table_pieces (book_meaning R.Rule book.now) (versions_in groups.now)
         route.now.asked table.now (read_asked question.now) branch atom route.now.parts.items))
         → IfOk result (λ _. steps.old + explained_read groups.now e ≤ steps.new) }
     ensures rises { steps.old ≤ steps.new }

@@ -4,7 +4,7 @@ ghost use Rattle.std.specs.Prelude.{IfOk};
 ghost use Rattle.smo_ops_spec.specs.Past.{Past};
 ghost use Rattle.version_groups.specs.Groups.{versions_in};
 ghost use Rattle.version_groups.specs.Representation.{Represents};
-ghost use Rattle.rewrite.specs.Books.{meaning_of};
+ghost use Rattle.rewrite.specs.Books.{book_meaning};
 ghost use Rattle.query_exec.specs.Asked.{read_asked};
 ghost use Rattle.query_exec.specs.Planned.{ArePlanned};
 ghost use Rattle.query_exec.specs.Routes.{AreAlong};
@@ -31,7 +31,7 @@ pub(crate) fn pieces_along<R: Rule>(
     requires represents { (past : Past) × Represents groups.now past }
     requires along { AreAlong (versions_in groups.now) asked table.now (read_asked question.now)
         parts.now }
-    ensures { IfOk result (λ v. ArePlanned (meaning_of book.now.rules.items R.handles R.answers)
+    ensures { IfOk result (λ v. ArePlanned (book_meaning R.Rule book.now)
         (versions_in groups.now) asked table.now (read_asked question.now) parts.now v.items) }
 {
     book.known();

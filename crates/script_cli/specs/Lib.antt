@@ -7,3 +7,5 @@ pub mod Runs
 pub mod Driving
 pub mod Kept
 pub mod Sampling
+pub mod Promises
+pub mod Laws

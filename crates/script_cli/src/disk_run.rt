@@ -2,7 +2,7 @@
 
 ghost use Rattle.std.specs.Prelude.{◌≡◌, ◌<◌, IfOk, IfErr};
 ghost use Rattle.disk_model.specs.Moments.{GoesOn};
-ghost use Rattle.rewrite.specs.Books.{meaning_of};
+ghost use Rattle.rewrite.specs.Books.{book_meaning};
 ghost use Rattle.script_cli.specs.Driving.{HasOpened, HasNotOpened, CountsOpening, PutsUnopened};
 ghost use Rattle.script_cli.specs.Driving.{status_of_fault};
 ghost use Rattle.script_cli.specs.Runs.{RunsOver, given_by, SourceCounted, SinkCounted};
@@ -70,7 +70,7 @@ pub(crate) fn run_over<S: Source, K: Sink, D: Disk, R: Rule>(
     disk: D,
 ) -> (Status, D)
     ensures goes { GoesOn (D.meaning disk) (D.meaning result.1) }
-    ensures runs { RunsOver (given_by limit (meaning_of book.now.rules.items R.handles R.answers))
+    ensures runs { RunsOver (given_by limit (book_meaning R.Rule book.now))
         result.0 (S.left source.old) (S.left source.new) (K.written sink.old) (K.written sink.new)
         (K.faults sink.old) (K.faults sink.new) (D.meaning disk) (D.meaning result.1) }
     ensures source { SourceCounted result.0 (S.faults source.old) (S.faults source.new) }

@@ -3,7 +3,7 @@
 ghost use Rattle.std.specs.Prelude.{◌≡◌, ◌+◌, ◌<◌, ◌≤◌, ℕ, length, take, false, IfOk, MatchResult};
 ghost use Rattle.std.specs.Io.KnownBytes.{Consumes, IsAtEnd, Keeps};
 ghost use Rattle.prima_io.specs.Causes.{HasCause};
-ghost use Rattle.rewrite.specs.Books.{meaning_of};
+ghost use Rattle.rewrite.specs.Books.{book_meaning};
 ghost use Rattle.archive_core.specs.Fields.{below, place_of};
 ghost use Rattle.script_cli_statement.specs.Given.{Given};
 ghost use Rattle.script_cli_statement.specs.Replies.{Recorded};
@@ -94,13 +94,13 @@ pub(crate) fn drive<S: Source, K: Sink, D: Disk, R: Rule>(
 ) -> Driven
     requires takes { TakesRecords archive.old }
     ensures drove { (limit : Given) → limit.book
-        ≡ meaning_of book.now.rules.items R.handles R.answers → (start : Recorded)
+        ≡ book_meaning R.Rule book.now → (start : Recorded)
         → RepresentsAt archive.old limit start
         → Drove limit start result.status (S.left source.old) (S.left source.new)
         (K.written sink.old) (K.written sink.new) (below archive.old) (below archive.new)
         (place_of archive.old) }
     ensures counted { (limit : Given) → limit.book
-        ≡ meaning_of book.now.rules.items R.handles R.answers → (start : Recorded)
+        ≡ book_meaning R.Rule book.now → (start : Recorded)
         → RepresentsAt archive.old limit start
         → CountsPuts result.status limit start (S.left source.old) result.puts }
     ensures source { SourceCounted result.status (S.faults source.old) (S.faults source.new) }

@@ -10,10 +10,10 @@ use disk_model::Disk;
 
 /// A run or a sample may follow another, wherever the first was stopped: where each file that a
 /// crash may have left at its start opens as some records, so does each that a crash may leave at
-/// any moment from its start to its end, by its clause `crash` or `sample_crash`. So of a list of
-/// them the records of the last file are those of the first and, run after run, a prefix of those
-/// of what was accepted. And where each file at the start is sound, so is each that is left, by the
-/// clauses `sound` and `sample_sound`.
+/// any moment from its start to its end, by the field `crash` of `RunOutcome` or `SampleOutcome`.
+/// So of a list of them the records of the last file are those of the first and, run after run, a
+/// prefix of those of what was accepted. And where each file at the start is sound, so is each that
+/// is left, by the field `sound`.
 pub fn a_run_follows_a_run<D: Disk>()
     ensures opens { (old : D) → (new : D) → (opening : List LogRecord) → (due : List Due)
         → ((file : List ℕ) → (D.meaning old).may_leave file → CanBeRun file)

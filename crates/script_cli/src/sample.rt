@@ -3,7 +3,7 @@
 
 ghost use Rattle.std.specs.Prelude.{◌≡◌, ◌+◌, ℕ, List, Option};
 ghost use Rattle.disk_model.specs.Moments.{GoesOn};
-ghost use Rattle.rewrite.specs.Books.{meaning_of};
+ghost use Rattle.rewrite.specs.Books.{book_meaning};
 ghost use Rattle.archive_core.specs.Fields.{below, place_of};
 ghost use Rattle.script_cli_sample.specs.Statements.{sample_script};
 ghost use Rattle.script_cli_sample.specs.Summary as spec;
@@ -89,7 +89,7 @@ fn sample<K: Sink, D: Disk, R: Rule>(
 ) -> Status
     requires takes { TakesRecords archive.old }
     ensures drove { (limit : Given) → limit.book
-        ≡ meaning_of book.now.rules.items R.handles R.answers → (start : Recorded)
+        ≡ book_meaning R.Rule book.now → (start : Recorded)
         → RepresentsAt archive.old limit start
         → DroveSample size limit (sample_script size) start commands result (K.written sink.old)
         (K.written sink.new) (below archive.old) (below archive.new) (place_of archive.old) }
@@ -121,7 +121,7 @@ pub(crate) fn sample_over<K: Sink, D: Disk, R: Rule>(
 ) -> (Status, D)
     ensures goes { GoesOn (D.meaning disk) (D.meaning result.1) }
     ensures samples { (left : Option (List ℕ))
-        → SamplesOver size (given_by limit (meaning_of book.now.rules.items R.handles R.answers))
+        → SamplesOver size (given_by limit (book_meaning R.Rule book.now))
         result.0 left left (K.written sink.old) (K.written sink.new) (K.faults sink.old)
         (K.faults sink.new)
         (D.meaning disk) (D.meaning result.1) }

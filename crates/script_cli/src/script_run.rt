@@ -7,7 +7,7 @@ ghost use Rattle.prima_io.specs.Causes.{HasCause};
 ghost use Rattle.prima_io.specs.Moves.{AppendsPrefix};
 ghost use Rattle.prima_base.specs.declared.refusal.Refusal.TheVariants as refusal;
 ghost use Rattle.script_parse.specs.Splitting.{fresh};
-ghost use Rattle.rewrite.specs.Books.{meaning_of};
+ghost use Rattle.rewrite.specs.Books.{book_meaning};
 ghost use Rattle.archive_core.specs.Fields.{below};
 ghost use Rattle.answer_text.specs.RefusalTexts.{refusal_text};
 ghost use Rattle.script_cli_statement.specs.Given.{Given};
@@ -69,12 +69,12 @@ impl ScriptRun {
         requires short { length text.now ≤ 1048576 }
         requires takes { TakesRecords archive.old }
         ensures answered { (limit : Given) → limit.book
-            ≡ meaning_of book.now.rules.items R.handles R.answers → (now : Recorded)
+            ≡ book_meaning R.Rule book.now → (now : Recorded)
             → RepresentsAt archive.old limit now
             → OnOk result (Answered limit (reply limit now text.now) self.old self.new archive.old
             archive.new (K.written sink.old) (K.written sink.new)) }
         ensures stopped { (limit : Given) → limit.book
-            ≡ meaning_of book.now.rules.items R.handles R.answers → (now : Recorded)
+            ≡ book_meaning R.Rule book.now → (now : Recorded)
             → RepresentsAt archive.old limit now
             → IfErr result (λ halt. StopsIn halt (reply limit now text.now) archive.old archive.new
             (K.written sink.old) (K.written sink.new)) }
@@ -130,7 +130,7 @@ impl ScriptRun {
         requires ready { self.old.splitter.spent ≡ false }
         requires takes { TakesRecords archive.old }
         ensures took { (limit : Given) → limit.book
-            ≡ meaning_of book.now.rules.items R.handles R.answers → (now : Recorded)
+            ≡ book_meaning R.Rule book.now → (now : Recorded)
             → RepresentsAt archive.old limit now
             → IfOk result (λ rest. MatchOption rest
             (Took limit now self.old self.new archive.old archive.new bytes.now []
@@ -138,7 +138,7 @@ impl ScriptRun {
             (λ rest. Took limit now self.old self.new archive.old archive.new bytes.now rest.now
             (K.written sink.old) (K.written sink.new))) }
         ensures halted { (limit : Given) → limit.book
-            ≡ meaning_of book.now.rules.items R.handles R.answers → (now : Recorded)
+            ≡ book_meaning R.Rule book.now → (now : Recorded)
             → RepresentsAt archive.old limit now
             → IfErr result (λ halt. Halted halt limit now (parts_after self.old bytes.now)
             archive.old archive.new (K.written sink.old) (K.written sink.new)) }
@@ -177,12 +177,12 @@ impl ScriptRun {
         requires ready { self.old.splitter.spent ≡ false }
         requires takes { TakesRecords archive.old }
         ensures took { (limit : Given) → limit.book
-            ≡ meaning_of book.now.rules.items R.handles R.answers → (now : Recorded)
+            ≡ book_meaning R.Rule book.now → (now : Recorded)
             → RepresentsAt archive.old limit now
             → OnOk result (Took limit now self.old self.new archive.old archive.new chunk.now []
             (K.written sink.old) (K.written sink.new)) }
         ensures halted { (limit : Given) → limit.book
-            ≡ meaning_of book.now.rules.items R.handles R.answers → (now : Recorded)
+            ≡ book_meaning R.Rule book.now → (now : Recorded)
             → RepresentsAt archive.old limit now
             → IfErr result (λ halt. Halted halt limit now (parts_after self.old chunk.now)
             archive.old archive.new (K.written sink.old) (K.written sink.new)) }

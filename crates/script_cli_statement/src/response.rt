@@ -14,7 +14,7 @@ ghost use Rattle.smo_ops_types.specs.Commands.{command_of};
 ghost use Rattle.smo_ops_spec.specs.Past.{Past};
 ghost use Rattle.temporal_lang_types.specs.Queries.{query_of};
 ghost use Rattle.script_parse.specs.Statements.{statement_of};
-ghost use Rattle.rewrite.specs.Books.{meaning_of};
+ghost use Rattle.rewrite.specs.Books.{book_meaning};
 ghost use Rattle.piece_ir.specs.ExplainedPieces.{all_explained};
 ghost use Rattle.version_groups.specs.Representation.{Represents};
 ghost use Rattle.archive_core_state.specs.Asking.{IsAsked};
@@ -186,7 +186,7 @@ fn respond_explain<K: Sink, D: Disk, R: Rule>(
     query: &Query,
 ) -> Result<Put, Halt>
     ensures says { (now : Recorded) → RepresentsPast (standing_of archive.now) now.past
-        → Says (explain_reply (meaning_of book.now.rules.items R.handles R.answers)
+        → Says (explain_reply (book_meaning R.Rule book.now)
         (query_of query.now) now) result (K.written sink.old) (K.written sink.new) }
     ensures counts { SaidCounted result (K.faults sink.old) (K.faults sink.new) }
 {
@@ -292,7 +292,7 @@ fn respond_statement<K: Sink, D: Disk, R: Rule>(
 ) -> Result<Put, Halt>
     requires takes { TakesRecords archive.old }
     ensures replies { (limit : Given) → limit.book
-        ≡ meaning_of book.now.rules.items R.handles R.answers → (now : Recorded)
+        ≡ book_meaning R.Rule book.now → (now : Recorded)
         → RepresentsAt archive.old limit now
         → Responds limit (statement_reply limit (statement_of statement) now) result archive.old
         archive.new (K.written sink.old) (K.written sink.new) }
@@ -323,7 +323,7 @@ pub fn respond<K: Sink, D: Disk, R: Rule>(
     requires short { length text.now ≤ 1048576 }
     requires takes { TakesRecords archive.old }
     ensures replies { (limit : Given) → limit.book
-        ≡ meaning_of book.now.rules.items R.handles R.answers → (now : Recorded)
+        ≡ book_meaning R.Rule book.now → (now : Recorded)
         → RepresentsAt archive.old limit now
         → Responds limit (reply limit now text.now) result archive.old archive.new
         (K.written sink.old) (K.written sink.new) }

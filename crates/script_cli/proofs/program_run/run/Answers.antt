@@ -75,169 +75,163 @@ returns-clause-damaged g c = λ place is.
     some)
     (asks (asked (map string_bytes c.args.words.now)))
 
-pub returns-clause-refuses : goal.returns-clause-refuses
-returns-clause-refuses g c = λ limit file place asked seen damages.
-    let M = g.D.Disk.meaning in
-    ⊎_elim
-    (λ untouched. refuses_untouched M _ _ _ _ _ _ _ untouched place)
-    (λ over. refuses_over (given_by limit
-    (book_of g.R.Rule.handles g.R.Rule.answers c.args.book.now.rules.items)) _
-    _ _ _ _ _ _ (M c.args.disk.now) (M c.judge_and_run.new.disk)
-    c.a_file_opens_or_is_damaged.ensures.place c.a_file_opens_or_is_damaged.ensures.apart file
-    place seen damages over)
-    (c.judge_and_run.ensures.runs limit asked)
+pub returns-clause-runs : goal.returns-clause-runs
+returns-clause-runs g c = λ limit asked. record {
+  runs = c.judge_and_run.ensures.runs limit asked;
+  refuses = λ file place seen damages.
+      let M = g.D.Disk.meaning in
+      ⊎_elim
+      (λ untouched. refuses_untouched M _ _ _ _ _ _ _ untouched place)
+      (λ over. refuses_over (given_by limit
+      (book_of g.R.Rule.handles g.R.Rule.answers c.args.book.now.rules.items)) _
+      _ _ _ _ _ _ (M c.args.disk.now) (M c.judge_and_run.new.disk)
+      c.a_file_opens_or_is_damaged.ensures.place c.a_file_opens_or_is_damaged.ensures.apart file
+      place seen damages over)
+      (c.judge_and_run.ensures.runs limit asked);
+  prefix = λ file opening seen opens.
+      let M = g.D.Disk.meaning in
+      ⊎_elim
+      (λ untouched. prefix_untouched M _ _ _ _ _ _ _ untouched
+      (given_by limit (book_of g.R.Rule.handles g.R.Rule.answers c.args.book.now.rules.items))
+      (recorded opening))
+      (λ over. prefix_over (given_by limit (book_of g.R.Rule.handles g.R.Rule.answers
+      c.args.book.now.rules.items)) _
+      _ _ _ _ _ _ (M c.args.disk.now) (M c.judge_and_run.new.disk)
+      c.a_file_opens_or_is_damaged.ensures.one c.a_file_opens_or_is_damaged.ensures.apart file
+      opening seen opens over)
+      (c.judge_and_run.ensures.runs limit asked);
+  whole = λ file opening seen opens is_whole.
+      let M = g.D.Disk.meaning in
+      ⊎_elim
+      (λ untouched. absurd (not_whole_untouched M _ _ _ _ _ _ _ untouched is_whole))
+      (λ over. whole_over (given_by limit (book_of g.R.Rule.handles g.R.Rule.answers
+      c.args.book.now.rules.items)) _
+      _ _ _ _ _ _ (M c.args.disk.now) (M c.judge_and_run.new.disk)
+      c.a_file_opens_or_is_damaged.ensures.one c.a_file_opens_or_is_damaged.ensures.apart file
+      opening seen opens is_whole over)
+      (c.judge_and_run.ensures.runs limit asked);
+  crash = λ file opening honest seen opens.
+      let M = g.D.Disk.meaning in
+      ⊎_elim
+      (λ untouched. crash_untouched M _ _ _ _ _ _ _ untouched (g.met.D.Disk.valid c.args.disk.now)
+      (given_by limit (book_of g.R.Rule.handles g.R.Rule.answers c.args.book.now.rules.items))
+      opening)
+      (λ over. crash_over (given_by limit (book_of g.R.Rule.handles g.R.Rule.answers
+      c.args.book.now.rules.items)) _
+      _ _ _ _ _ _ (M c.args.disk.now) (M c.judge_and_run.new.disk)
+      c.a_file_opens_or_is_damaged.ensures.one c.a_file_opens_or_is_damaged.ensures.apart file
+      opening seen opens honest over)
+      (c.judge_and_run.ensures.runs limit asked);
+  sound = λ file opening honest seen sound.
+      let M = g.D.Disk.meaning in
+      ⊎_elim
+      (λ untouched. untouched_leaves M _ _ _ _ _ _ _ untouched (g.met.D.Disk.valid c.args.disk.now)
+      IsSoundFile)
+      (λ over. sound_over (given_by limit (book_of g.R.Rule.handles g.R.Rule.answers
+      c.args.book.now.rules.items)) _
+      _ _ _ _ _ _ (M c.args.disk.now) (M c.judge_and_run.new.disk)
+      c.a_file_opens_or_is_damaged.ensures.one c.a_file_opens_or_is_damaged.ensures.apart file
+      opening seen (sound_opens file opening sound) honest sound.sound over)
+      (c.judge_and_run.ensures.runs limit asked);
+}
 
-pub returns-clause-prefix : goal.returns-clause-prefix
-returns-clause-prefix g c = λ limit file opening asked seen opens.
-    let M = g.D.Disk.meaning in
-    ⊎_elim
-    (λ untouched. prefix_untouched M _ _ _ _ _ _ _ untouched
-    (given_by limit (book_of g.R.Rule.handles g.R.Rule.answers c.args.book.now.rules.items))
-    (recorded opening))
-    (λ over. prefix_over (given_by limit (book_of g.R.Rule.handles g.R.Rule.answers
-    c.args.book.now.rules.items)) _
-    _ _ _ _ _ _ (M c.args.disk.now) (M c.judge_and_run.new.disk)
-    c.a_file_opens_or_is_damaged.ensures.one c.a_file_opens_or_is_damaged.ensures.apart file
-    opening seen opens over)
-    (c.judge_and_run.ensures.runs limit asked)
+pub returns-clause-samples : goal.returns-clause-samples
+returns-clause-samples g c = λ limit size for. record {
+  samples = c.judge_and_run.ensures.samples limit size for;
+  refuses = λ file place seen damages.
+      let M = g.D.Disk.meaning in
+      ⊎_elim
+      (λ untouched. refuses_untouched M _ _ _ _ _ _ _ untouched place)
+      (λ over. sample_refuses size (given_by limit
+      (book_of g.R.Rule.handles g.R.Rule.answers c.args.book.now.rules.items))
+      (sample_script size) _ _ _ _ _ _ _ (M c.args.disk.now) (M c.judge_and_run.new.disk) over
+      c.a_file_opens_or_is_damaged.ensures.place c.a_file_opens_or_is_damaged.ensures.apart file
+      place seen damages)
+      (c.judge_and_run.ensures.samples limit size for);
+  summary = λ file opening seen opens is_whole.
+      let M = g.D.Disk.meaning in
+      ⊎_elim
+      (λ untouched. absurd (not_whole_untouched M _ _ _ _ _ _ _ untouched is_whole))
+      (λ over. sample_whole size (given_by limit
+      (book_of g.R.Rule.handles g.R.Rule.answers c.args.book.now.rules.items))
+      (sample_script size) _ _ _ _ _ _ _ (M c.args.disk.now) (M c.judge_and_run.new.disk) over
+      c.a_file_opens_or_is_damaged.ensures.one file opening seen opens is_whole)
+      (c.judge_and_run.ensures.samples limit size for);
+  held = λ file opening honest seen opens is_whole.
+      let M = g.D.Disk.meaning in
+      ⊎_elim
+      (λ untouched. absurd (not_whole_untouched M _ _ _ _ _ _ _ untouched is_whole))
+      (λ over. sample_held size (given_by limit
+      (book_of g.R.Rule.handles g.R.Rule.answers c.args.book.now.rules.items))
+      (sample_script size) _ _ _ _ _ _ _ (M c.args.disk.now) (M c.judge_and_run.new.disk) over
+      c.a_file_opens_or_is_damaged.ensures.one file opening seen opens honest is_whole)
+      (c.judge_and_run.ensures.samples limit size for);
+  crash = λ file opening honest seen opens.
+      let M = g.D.Disk.meaning in
+      ⊎_elim
+      (λ untouched. (
+        [],
+        tt,
+        untouched_leaves M _ _ _ _ _ _ _ untouched
+            (g.met.D.Disk.valid c.args.disk.now) _,
+      ))
+      (λ over. sample_crash size (given_by limit
+      (book_of g.R.Rule.handles g.R.Rule.answers c.args.book.now.rules.items))
+      (sample_script size) _ _ _ _ _ _ _ (M c.args.disk.now) (M c.judge_and_run.new.disk) over
+      c.a_file_opens_or_is_damaged.ensures.one file opening seen opens honest)
+      (c.judge_and_run.ensures.samples limit size for);
+  sound = λ file opening honest seen sound.
+      let M = g.D.Disk.meaning in
+      ⊎_elim
+      (λ untouched. untouched_leaves M _ _ _ _ _ _ _ untouched (g.met.D.Disk.valid c.args.disk.now)
+      IsSoundFile)
+      (λ over. sample_sound size (given_by limit
+      (book_of g.R.Rule.handles g.R.Rule.answers c.args.book.now.rules.items))
+      (sample_script size) _ _ _ _ _ _ _ (M c.args.disk.now) (M c.judge_and_run.new.disk) over
+      c.a_file_opens_or_is_damaged.ensures.one file opening seen (sound_opens file opening sound)
+      honest sound.sound)
+      (c.judge_and_run.ensures.samples limit size for);
+}
 
-pub returns-clause-whole : goal.returns-clause-whole
-returns-clause-whole g c = λ limit file opening asked seen opens is_whole.
-    let M = g.D.Disk.meaning in
-    ⊎_elim
-    (λ untouched. absurd (not_whole_untouched M _ _ _ _ _ _ _ untouched is_whole))
-    (λ over. whole_over (given_by limit (book_of g.R.Rule.handles g.R.Rule.answers
-    c.args.book.now.rules.items)) _
-    _ _ _ _ _ _ (M c.args.disk.now) (M c.judge_and_run.new.disk)
-    c.a_file_opens_or_is_damaged.ensures.one c.a_file_opens_or_is_damaged.ensures.apart file
-    opening seen opens is_whole over)
-    (c.judge_and_run.ensures.runs limit asked)
-
-pub returns-clause-crash : goal.returns-clause-crash
-returns-clause-crash g c = λ limit file opening asked honest seen opens.
-    let M = g.D.Disk.meaning in
-    ⊎_elim
-    (λ untouched. crash_untouched M _ _ _ _ _ _ _ untouched (g.met.D.Disk.valid c.args.disk.now)
-    (given_by limit (book_of g.R.Rule.handles g.R.Rule.answers c.args.book.now.rules.items))
-    opening)
-    (λ over. crash_over (given_by limit (book_of g.R.Rule.handles g.R.Rule.answers
-    c.args.book.now.rules.items)) _
-    _ _ _ _ _ _ (M c.args.disk.now) (M c.judge_and_run.new.disk)
-    c.a_file_opens_or_is_damaged.ensures.one c.a_file_opens_or_is_damaged.ensures.apart file
-    opening seen opens honest over)
-    (c.judge_and_run.ensures.runs limit asked)
-
-pub returns-clause-sample_refuses : goal.returns-clause-sample_refuses
-returns-clause-sample_refuses g c = λ limit size file place for seen damages.
-    let M = g.D.Disk.meaning in
-    ⊎_elim
-    (λ untouched. refuses_untouched M _ _ _ _ _ _ _ untouched place)
-    (λ over. sample_refuses size (given_by limit
-    (book_of g.R.Rule.handles g.R.Rule.answers c.args.book.now.rules.items))
-    (sample_script size) _ _ _ _ _ _ _ (M c.args.disk.now) (M c.judge_and_run.new.disk) over
-    c.a_file_opens_or_is_damaged.ensures.place c.a_file_opens_or_is_damaged.ensures.apart file
-    place seen damages)
-    (c.judge_and_run.ensures.samples limit size for)
-
-pub returns-clause-summary : goal.returns-clause-summary
-returns-clause-summary g c = λ limit size file opening for seen opens is_whole.
-    let M = g.D.Disk.meaning in
-    ⊎_elim
-    (λ untouched. absurd (not_whole_untouched M _ _ _ _ _ _ _ untouched is_whole))
-    (λ over. sample_whole size (given_by limit
-    (book_of g.R.Rule.handles g.R.Rule.answers c.args.book.now.rules.items))
-    (sample_script size) _ _ _ _ _ _ _ (M c.args.disk.now) (M c.judge_and_run.new.disk) over
-    c.a_file_opens_or_is_damaged.ensures.one file opening seen opens is_whole)
-    (c.judge_and_run.ensures.samples limit size for)
-
-pub returns-clause-held : goal.returns-clause-held
-returns-clause-held g c = λ limit size file opening for honest seen opens is_whole.
-    let M = g.D.Disk.meaning in
-    ⊎_elim
-    (λ untouched. absurd (not_whole_untouched M _ _ _ _ _ _ _ untouched is_whole))
-    (λ over. sample_held size (given_by limit
-    (book_of g.R.Rule.handles g.R.Rule.answers c.args.book.now.rules.items))
-    (sample_script size) _ _ _ _ _ _ _ (M c.args.disk.now) (M c.judge_and_run.new.disk) over
-    c.a_file_opens_or_is_damaged.ensures.one file opening seen opens honest is_whole)
-    (c.judge_and_run.ensures.samples limit size for)
-
-pub returns-clause-sample_crash : goal.returns-clause-sample_crash
-returns-clause-sample_crash g c = λ limit size file opening for honest seen opens.
-    let M = g.D.Disk.meaning in
-    ⊎_elim
-    (λ untouched. (
-      [],
-      tt,
-      untouched_leaves M _ _ _ _ _ _ _ untouched
-          (g.met.D.Disk.valid c.args.disk.now) _,
-    ))
-    (λ over. sample_crash size (given_by limit
-    (book_of g.R.Rule.handles g.R.Rule.answers c.args.book.now.rules.items))
-    (sample_script size) _ _ _ _ _ _ _ (M c.args.disk.now) (M c.judge_and_run.new.disk) over
-    c.a_file_opens_or_is_damaged.ensures.one file opening seen opens honest)
-    (c.judge_and_run.ensures.samples limit size for)
-
-pub returns-clause-records : goal.returns-clause-records
-returns-clause-records g c = λ limit opening statements log are. (
-  recorded_is limit opening statements log are,
-  put_sound limit opening statements log are,
-  put_accepted limit opening statements log are,
-  still_sound limit opening statements log are,
-)
-
-pub returns-clause-sound : goal.returns-clause-sound
-returns-clause-sound g c = λ limit file opening asked honest seen sound.
-    let M = g.D.Disk.meaning in
-    ⊎_elim
-    (λ untouched. untouched_leaves M _ _ _ _ _ _ _ untouched (g.met.D.Disk.valid c.args.disk.now)
-    IsSoundFile)
-    (λ over. sound_over (given_by limit (book_of g.R.Rule.handles g.R.Rule.answers
-    c.args.book.now.rules.items)) _
-    _ _ _ _ _ _ (M c.args.disk.now) (M c.judge_and_run.new.disk)
-    c.a_file_opens_or_is_damaged.ensures.one c.a_file_opens_or_is_damaged.ensures.apart file
-    opening seen (sound_opens file opening sound) honest sound.sound over)
-    (c.judge_and_run.ensures.runs limit asked)
-
-pub returns-clause-sample_sound : goal.returns-clause-sample_sound
-returns-clause-sample_sound g c = λ limit size file opening for honest seen sound.
-    let M = g.D.Disk.meaning in
-    ⊎_elim
-    (λ untouched. untouched_leaves M _ _ _ _ _ _ _ untouched (g.met.D.Disk.valid c.args.disk.now)
-    IsSoundFile)
-    (λ over. sample_sound size (given_by limit
-    (book_of g.R.Rule.handles g.R.Rule.answers c.args.book.now.rules.items))
-    (sample_script size) _ _ _ _ _ _ _ (M c.args.disk.now) (M c.judge_and_run.new.disk) over
-    c.a_file_opens_or_is_damaged.ensures.one file opening seen (sound_opens file opening sound)
-    honest sound.sound)
-    (c.judge_and_run.ensures.samples limit size for)
-
-pub returns-clause-answers : goal.returns-clause-answers
-returns-clause-answers g c =
-    let one = c.listing_is_the_one_list.ensures.is in
-    let lasting = c.an_accepted_query_asks_questions.ensures.lasting in
-    λ limit opening statements query are history accepted to.
-    let past : Past = (recorded_after limit (recorded opening) statements).past in
-    let made = still_made c.an_image_shows_a_past.ensures.past limit opening statements are
-    history in
-    (one past query made.states made.begun (lasting past query accepted) to, refl)
-
-pub returns-clause-explains : goal.returns-clause-explains
-returns-clause-explains g c = λ limit opening statements text query are history read accepted.
-    let given = given_by limit (book_of g.R.Rule.handles g.R.Rule.answers
-    c.args.book.now.rules.items) in
-    tells_pieces given c.known.ensures (recorded_after given (recorded opening) statements)
-    (of_script c.an_image_shows_a_past.ensures.past given opening statements are history) text query
-    read accepted
-
-pub returns-clause-seen : goal.returns-clause-seen
-returns-clause-seen g c =
-    let law = c.a_command_is_seen_from_its_stamp_on.ensures in
-    λ limit opening statements command m are history accepted. (
-      λ l. law.before _ command m l,
-      λ l. law.from _ command m
-          (still_made c.an_image_shows_a_past.ensures.past limit opening statements are history)
-          accepted l,
-    )
-
-pub returns-clause-errors : goal.returns-clause-errors
-returns-clause-errors g c = error_told
+pub returns-clause-laws : goal.returns-clause-laws
+returns-clause-laws g c = record {
+  splits = c.a_script_is_read_in_one_way.ensures.read;
+  once = c.a_script_is_read_in_one_way.ensures.only;
+  closed = c.a_statement_has_no_open_text.ensures.faults;
+  lexes = c.texts_are_lexed.ensures;
+  reads = c.readings_are_of_the_grammar.ensures;
+  readable = c.statements_are_read.ensures;
+  only = c.readings_are_one.ensures;
+  limits = c.limits_are_kept.ensures;
+  records = λ limit opening statements log are. (
+    recorded_is limit opening statements log are,
+    put_sound limit opening statements log are,
+    put_accepted limit opening statements log are,
+    still_sound limit opening statements log are,
+  );
+  seen = let law = c.a_command_is_seen_from_its_stamp_on.ensures in
+      λ limit opening statements command m are history accepted. (
+        λ l. law.before _ command m l,
+        λ l. law.from _ command m
+            (still_made c.an_image_shows_a_past.ensures.past limit opening statements are history)
+            accepted l,
+      );
+  answers = let one = c.listing_is_the_one_list.ensures.is in
+      let lasting = c.an_accepted_query_asks_questions.ensures.lasting in
+      λ limit opening statements query are history accepted to.
+      let past : Past = (recorded_after limit (recorded opening) statements).past in
+      let made = still_made c.an_image_shows_a_past.ensures.past limit opening statements are
+      history in
+      (one past query made.states made.begun (lasting past query accepted) to, refl);
+  explains = λ limit opening statements text query are history read accepted.
+      let given = given_by limit (book_of g.R.Rule.handles g.R.Rule.answers
+      c.args.book.now.rules.items) in
+      tells_pieces given c.known.ensures (recorded_after given (recorded opening) statements)
+      (of_script c.an_image_shows_a_past.ensures.past given opening statements are history) text
+      query
+      read accepted;
+  inverse = λ limit opening statements query k kind told.
+      c.a_query_is_refused_for_want_of_a_named_inverse_alone.ensures
+      (recorded_after limit (recorded opening) statements).past query k kind told;
+  errors = error_told;
+}
