@@ -36,6 +36,11 @@ pub data Index : Type 0 where
   Whole : (ids : List ℕ) → Index
   Moved : (from : List ℕ) (to : List (ℕ × ℕ)) → Index
 
+-- the places alone are kept, and no copy of the index
+abbrev pub IsMoved : Index → Type 0
+IsMoved (Whole ids) = ⊥
+IsMoved (Moved from to) = ⊤
+
 abbrev pub index_of : After → Index
 index_of (given.Whole index) = Whole index.ids
 index_of (given.Moved from to) = Moved from.items to.items

@@ -17,6 +17,7 @@ ghost use Rattle.history_store_row_order.specs.Splices.{IsSplit, IsJoined, IsSpl
 ghost use Rattle.history_store_row_order.specs.Indexes.{without, with_each, place_without};
 ghost use Rattle.history_store_row_order.specs.Indexes.{AreAmong, AreAlong};
 ghost use Rattle.history_store_row_order.specs.Indexes.{index_of, later_ids, more_ids, IsPlaced};
+ghost use Rattle.history_store_row_order.specs.Indexes.{IsMoved};
 
 use crate::walk::{handed_id, place_in, place_of};
 use history_store_columns::Column;
@@ -291,6 +292,7 @@ fn splice_few(
         (later_ids (index_of after) live.now.ids)) }
     ensures placed { IfOk result (λ (_found, after). IsPlaced (index_of after) live.now.ids) }
     ensures more { IfOk result (λ (_found, after). more_ids (index_of after) ≤ length gained.now) }
+    ensures moved { IfOk result (λ (_found, after). IsMoved (index_of after)) }
 {
     let (found, from) = lost_places(alloc, columns, live, lost)?;
     let to = gained_places(alloc, columns, live, &from, &found, next, gained)?;
@@ -324,6 +326,8 @@ pub fn splice(
         (later_ids (index_of after) live.now.ids)) }
     ensures placed { IfOk result (λ (_found, after). IsPlaced (index_of after) live.now.ids) }
     ensures more { IfOk result (λ (_found, after). more_ids (index_of after) ≤ length gained.now) }
+    ensures moved { length lost.now ≤ few_changed_rows → length gained.now ≤ few_changed_rows
+        → IfOk result (λ (_found, after). IsMoved (index_of after)) }
 {
     if lost.len() <= FEW_CHANGED_ROWS && gained.len() <= FEW_CHANGED_ROWS {
         return splice_few(alloc, columns, live, lost, next, gained);
@@ -404,6 +408,8 @@ pub fn splice_fresh<'a>(
     ensures placed { IfOk result (λ (_gained, after). IsPlaced (index_of after) live.now.ids) }
     ensures more { IfOk result (λ (gained, after). more_ids (index_of after)
         ≤ length gained.items) }
+    ensures moved { IfOk result (λ (gained, after). length gained.items ≤ few_changed_rows
+        → IsMoved (index_of after)) }
 {
     let (gained, to) = fresh_places(alloc, columns, live, next, rows)?;
     if to.len() <= FEW_CHANGED_ROWS {
