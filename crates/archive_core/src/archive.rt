@@ -18,7 +18,8 @@ ghost use Rattle.archive_core_file_spec.specs.Opening.{Opens, Damages};
 ghost use Rattle.archive_core_state.specs.ArchiveContents.{RepresentsPast, RepresentsSome};
 ghost use Rattle.version_groups.specs.Judged.{judged_command, IsCommandAccepted};
 ghost use Rattle.archive_core_state.specs.Asking.{IsAsked, IsExplained, TellsWayBack, ArePiecesOf};
-ghost use Rattle.archive_core_state.specs.Asking.{query_asked};
+ghost use Rattle.archive_core_state.specs.Asking.{query_asked, pieces_told, IsKeptOfList};
+ghost use Rattle.archive_core_state.specs.Asking.{IsNotRefused};
 ghost use Rattle.piece_ir.specs.ExplainedPieces.{PlainExplained};
 ghost use Rattle.query_exec.specs.Borrowed.{BorrowedByBranch, AreSpared, AreBorrowedBy};
 ghost use Rattle.query_exec.specs.Reads.{explained_read, reads_of};
@@ -247,6 +248,8 @@ impl<D: Disk> Archive<D> {
     ) -> Result<Listing<'a>, AskFault>
         ensures asked { (past : Past) → RepresentsPast (standing_of self.now) past
             → IsAsked past (query_of query.now) result }
+        ensures listed { (past : Past) → RepresentsPast (standing_of self.now) past
+            → IfOk result (λ listing. IsKeptOfList past (query_of query.now) listing) }
         ensures way_back { (past : Past) → RepresentsPast (standing_of self.now) past
             → TellsWayBack past (query_of query.now) result }
         ensures represents { RepresentsSome (standing_of self.now) }
@@ -258,13 +261,15 @@ impl<D: Disk> Archive<D> {
             → IfOk result (λ listing. AreBorrowedBy past
             (query_asked past (query_of query.now)) by_branch listing.rows.items) }
         ensures cost { (past : Past) → RepresentsPast (standing_of self.now) past
-            → (pieces : List PlainExplained)
-            → ArePiecesOf (book_meaning R.Rule book.now) past (query_of query.now) pieces
-            → steps.new ≤ steps.old + reads_of (standing_of self.now).groups pieces }
+            → IsNotRefused past (query_of query.now)
+            → steps.new ≤ steps.old + reads_of (standing_of self.now).groups (pieces_told
+            (book_meaning R.Rule book.now) past (query_of query.now)) }
+        ensures unread { (past : Past) → RepresentsPast (standing_of self.now) past
+            → ¬ IsNotRefused past (query_of query.now) → steps.new ≡ steps.old }
         ensures least { (past : Past) → RepresentsPast (standing_of self.now) past
-            → (pieces : List PlainExplained)
-            → ArePiecesOf (book_meaning R.Rule book.now) past (query_of query.now) pieces
-            → (e : PlainExplained) → In e pieces
+            → (e : PlainExplained)
+            → In e (pieces_told (book_meaning R.Rule book.now) past
+            (query_of query.now))
             → IfOk result (λ _. steps.old + explained_read (standing_of self.now).groups e ≤
             steps.new) }
         ensures rises { steps.old ≤ steps.new }

@@ -18,7 +18,10 @@ use Rattle.temporal_lang_types.specs.declared.when.When.{When}
 use Rattle.temporal_lang_types.specs.declared.when.When.TheVariants.{Always, AsOf, During}
 use Rattle.temporal_lang_types.specs.declared.query.Query.{Query}
 use Rattle.temporal_lang_types.specs.Queries.{PlainQuery, query_of, IsLasting}
-use Rattle.temporal_lang_spec.specs.Answers.{answer}
+use Rattle.relations_spec.specs.Timed.{Entry}
+use Rattle.prima_base.specs.Keeping.{kept}
+use Rattle.smo_ops_spec.specs.OneRow.{Row}
+use Rattle.temporal_lang_spec.specs.Answers.{answer, IsListingOf}
 use Rattle.prima_base.specs.declared.refusal.OpKind.{OpKind}
 use Rattle.prima_base.specs.declared.refusal.Refusal.TheVariants.{NoInverse}
 use Rattle.temporal_lang_spec.specs.Accepted.{fault_of_query, HasNoWayBack}
@@ -27,12 +30,17 @@ use Rattle.temporal_lang_spec.specs.Checking.{excess_of, query_tests}
 use Rattle.piece_ir.specs.ExplainedPieces.{PlainExplained, all_explained}
 use Rattle.piece_ir.specs.declared.explained.Explained.{Explained}
 use Rattle.query_exec.specs.QueryPieces.{ArePieces, living_pieces}
+use Rattle.query_exec.specs.ToldMeanings.{MeanWhatIsAsked}
 
 -- the periods of the entries are told, but where one moment is asked of
 abbrev pub tells_periods : When → Bool
 tells_periods Always = true
 tells_periods (AsOf m) = false
 tells_periods (During a b) = true
+
+-- none of the causes of a refusal is there
+abbrev pub IsNotRefused : Past → PlainQuery → Type 0
+IsNotRefused past query = fault_of_query past query ≡ None
 
 -- why a query is not answered: its first refusal; that memory runs out is free
 abbrev pub IsWrong : Past → PlainQuery → CallFault Refusal → Type 0
@@ -43,6 +51,15 @@ pub record IsListed (past : Past) (query : PlainQuery) (listing : Listing) : Typ
   pub accepted : fault_of_query past query ≡ None
   pub rows : entries_of listing.rows.items ≡ answer past query
   pub periods : listing.periods ≡ tells_periods query.when
+
+-- the same without the listing's function: what KEEP keeps of entries that are the one list of what
+-- is asked. Each entry's row holds at each moment of its period, which lies in the slice and is as
+-- long as it can be; each row that holds at a moment of the slice has an entry there; and the
+-- entries ascend, strictly, by row, then start
+pub record IsKeptOfList (past : Past) (query : PlainQuery) (listing : Listing) : Type 0 where
+  pub entries : List (Entry Row)
+  pub list : IsListingOf past query entries
+  pub keeps : entries_of listing.rows.items ≡ kept query.keep entries
 
 -- what an archive answers to a query
 abbrev pub IsAsked : Past → PlainQuery → Result Listing (CallFault Refusal) → Type 0
@@ -77,12 +94,14 @@ abbrev pub pieces_told : Book → Past → PlainQuery → List PlainExplained
 pieces_told book past query = living_pieces book past.versions
     (query_asked past query)
 
--- the pieces of a query that is not refused, told
+-- the pieces of a query that is not refused, told; over every valid database of their versions they
+-- mean what is asked of its items' tables
 pub record AreTold (book : Book) (past : Past) (query : PlainQuery) (pieces : List PlainExplained) :
     Type 0 where
   pub accepted : fault_of_query past query ≡ None
   pub are : ArePieces book past.versions (query_asked past query) pieces
   pub told : pieces ≡ pieces_told book past query
+  pub meant : MeanWhatIsAsked past.versions (query_asked past query) pieces
 
 -- what an archive tells of a query: its pieces, or why it is refused
 abbrev pub IsExplained : Book → Past → PlainQuery

@@ -77,7 +77,8 @@ impl ArchiveState {
     ghost use Rattle.query_exec.specs.Reads.{explained_read, reads_of};
     ghost use Rattle.archive_core_state.specs.Asking.{IsAsked, IsExplained, TellsWayBack};
     ghost use Rattle.archive_core_state.specs.Asking.{ArePiecesOf};
-    ghost use Rattle.archive_core_state.specs.Asking.{query_asked};
+    ghost use Rattle.archive_core_state.specs.Asking.{query_asked, pieces_told, IsKeptOfList};
+    ghost use Rattle.archive_core_state.specs.Asking.{IsNotRefused};
 
     /// An archive that has accepted nothing. It takes no memory.
     pub fn new(alloc: Global) -> ArchiveState
@@ -206,7 +207,8 @@ impl ArchiveState {
     /// and last (33), where by names alone a table of the query is lost on the way from a version
     /// in force in its slice: only where at the least such moment the version that is told is gone
     /// back over, names no inverse, and loses a table of the query. Of the entries those stay that
-    /// meet every condition of KEEP.
+    /// meet every condition of KEEP. Clause `asked` says this by the function of the listing,
+    /// `listed` by what its entries are.
     ///
     /// It takes at most as many steps as there are, for each of the query's pieces, which are those
     /// that `explain` tells, keys of the piece's tables and entries of the columns that it names of
@@ -223,6 +225,8 @@ impl ArchiveState {
     ) -> Result<Listing<'a>, AskFault>
         ensures asked { (past : Past) → RepresentsPast self.now past
             → IsAsked past (query_of query.now) result }
+        ensures listed { (past : Past) → RepresentsPast self.now past
+            → IfOk result (λ listing. IsKeptOfList past (query_of query.now) listing) }
         ensures way_back { (past : Past) → RepresentsPast self.now past
             → TellsWayBack past (query_of query.now) result }
         ensures represents { RepresentsSome self.now }
@@ -232,13 +236,15 @@ impl ArchiveState {
             → (by_branch : BorrowedByBranch) → AreSpared self.now.groups by_branch pieces
             → IfOk result (λ listing. AreBorrowedBy past
             (query_asked past (query_of query.now)) by_branch listing.rows.items) }
-        ensures cost { (past : Past) → RepresentsPast self.now past → (pieces : List PlainExplained)
-            → ArePiecesOf (book_meaning R.Rule book.now) past (query_of query.now) pieces
-            → steps.new ≤ steps.old + reads_of self.now.groups pieces }
-        ensures least { (past : Past) → RepresentsPast self.now past
-            → (pieces : List PlainExplained)
-            → ArePiecesOf (book_meaning R.Rule book.now) past (query_of query.now) pieces
-            → (e : PlainExplained) → In e pieces
+        ensures cost { (past : Past) → RepresentsPast self.now past
+            → IsNotRefused past (query_of query.now)
+            → steps.new ≤ steps.old + reads_of self.now.groups (pieces_told
+            (book_meaning R.Rule book.now) past (query_of query.now)) }
+        ensures unread { (past : Past) → RepresentsPast self.now past
+            → ¬ IsNotRefused past (query_of query.now) → steps.new ≡ steps.old }
+        ensures least { (past : Past) → RepresentsPast self.now past → (e : PlainExplained)
+            → In e (pieces_told (book_meaning R.Rule book.now) past
+            (query_of query.now))
             → IfOk result (λ _. steps.old + explained_read self.now.groups e ≤ steps.new) }
         ensures rises { steps.old ≤ steps.new }
     {

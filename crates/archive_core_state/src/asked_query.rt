@@ -12,7 +12,8 @@ ghost use Rattle.query_exec.specs.Reads.{explained_read, reads_of};
 ghost use Rattle.version_groups.specs.Representation.{Represents};
 ghost use Rattle.rewrite.specs.Books.{book_meaning};
 ghost use Rattle.archive_core_state.specs.Asking.{tells_periods, ArePiecesOf, IsAsked, IsExplained};
-ghost use Rattle.archive_core_state.specs.Asking.{query_asked};
+ghost use Rattle.archive_core_state.specs.Asking.{query_asked, pieces_told, IsKeptOfList};
+ghost use Rattle.archive_core_state.specs.Asking.{IsNotRefused};
 ghost use Rattle.archive_core_state.specs.Asking.{IsWrong, IsAskedSchema, IsChecked, IsQueryReady};
 
 use crate::AskFault;
@@ -122,19 +123,23 @@ pub(crate) fn ask<'a, L: Ledger, R: Rule>(
     requires represents { (past : Past) × Represents groups.now past }
     ensures asked { (past : Past) → Represents groups.now past
         → IsAsked past (query_of query.now) result }
+    ensures listed { (past : Past) → Represents groups.now past
+        → IfOk result (λ listing. IsKeptOfList past (query_of query.now) listing) }
     ensures borrowed { (past : Past) → Represents groups.now past → (pieces : List PlainExplained)
         → ArePiecesOf (book_meaning R.Rule book.now) past (query_of query.now) pieces
         → (by_branch : BorrowedByBranch) → AreSpared groups.now by_branch pieces
         → IfOk result (λ listing. AreBorrowedBy past (query_asked past (query_of query.now))
         by_branch
         listing.rows.items) }
-    ensures cost { (past : Past) → Represents groups.now past → (pieces : List PlainExplained)
-        → ArePiecesOf (book_meaning R.Rule book.now) past (query_of query.now) pieces
-        → steps.new ≤ steps.old + reads_of groups.now pieces }
-    ensures least { (past : Past) → Represents groups.now past → (pieces : List PlainExplained)
-        → ArePiecesOf (book_meaning R.Rule book.now) past
-        (query_of query.now) pieces → (e : PlainExplained)
-        → In e pieces
+    ensures cost { (past : Past) → Represents groups.now past
+        → IsNotRefused past (query_of query.now)
+        → steps.new ≤ steps.old + reads_of groups.now (pieces_told
+        (book_meaning R.Rule book.now) past (query_of query.now)) }
+    ensures unread { (past : Past) → Represents groups.now past
+        → ¬ IsNotRefused past (query_of query.now) → steps.new ≡ steps.old }
+    ensures least { (past : Past) → Represents groups.now past → (e : PlainExplained)
+        → In e (pieces_told (book_meaning R.Rule book.now) past
+        (query_of query.now))
         → IfOk result (λ _. steps.old + explained_read groups.now e ≤ steps.new) }
     ensures rises { steps.old ≤ steps.new }
 {

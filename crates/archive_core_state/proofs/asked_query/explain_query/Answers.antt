@@ -7,6 +7,7 @@ use Rattle.version_groups.specs.Groups.{versions_in}
 use Rattle.piece_ir_spec.specs.Books.{book_of}
 use Rattle.piece_ir.specs.ExplainedPieces.{all_explained}
 use Rattle.query_exec.specs.QueryPieces.{ArePieces, living_pieces}
+use Rattle.query_exec.specs.ToldMeanings.{MeanWhatIsAsked}
 use Rattle.archive_core_state.specs.Asking.{IsQueryReady}
 use Rattle.archive_core_state.proofs.asked_query.explain_query.Goals as goal
 
@@ -46,4 +47,8 @@ returns g c = λ past represents.
           (book_of g.R.Rule.handles g.R.Rule.answers c.args.book.now.rules.items) vs
           (with_atoms (tables_of past query.version) query))
           represents.versions;
+      meant = subst (λ (q : PlainQuery). MeanWhatIsAsked past.versions q
+          (all_explained c.in_ok-pieces.pieces.items)) h.atoms
+          (c.in_ok-pieces.ensures.meant past query represents
+          (record { accepted = h.accepted; atoms = h.atoms }));
     }
