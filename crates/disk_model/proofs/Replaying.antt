@@ -1,15 +1,13 @@
 -- The list of writes and syncs, followed anew.
-use Rattle.std.proofs.Common.{◌≡◌, ◌⊎◌, inl, inr, ℕ, zero, suc, ◌+◌, ◌-◌, ◌<◌, ◌≤◌, List, [], ◌∷◌}
-use Rattle.std.proofs.Common.{◌++◌, length, get_or, take, drop, refl, sym, ◌∙◌, ap, subst, arith}
+use Rattle.std.proofs.Common.{◌≡◌, ℕ, suc, ◌+◌, ◌<◌, ◌≤◌, List, [], ◌∷◌}
+use Rattle.std.proofs.Common.{length, get_or, take, drop, refl, sym, ◌∙◌, ap, subst, arith}
 use Rattle.std.proofs.Common.{true, false, Bool, IsTrue, drop-drop, drop-cons}
-use Rattle.std.specs.Prelude.{Some, None, nat_le, ◌&&◌, ◌||◌}
+use Rattle.std.specs.Prelude.{Some, None, nat_le, ◌&&◌}
 use Rattle.std.proofs.lemmas.Bool.{both_ways}
 use Rattle.std.proofs.lemmas.Bool.Decides.{nat_tests}
-use Rattle.std.proofs.lemmas.List.{length-take, length-drop}
 use Rattle.disk_model.specs.DeviceCalls.{with_bytes}
-use Rattle.disk_model.specs.Images.{Step, State, begun, after, run, fits, all_fit}
-use Rattle.disk_model.specs.Calls.{total, steps_of, are_writes, has_written, LastIsSync}
-use Rattle.disk_model.specs.CrashImages.{is_within, is_written}
+use Rattle.disk_model.specs.Images.{Step, State, begun, after, run, all_fit}
+use Rattle.disk_model.specs.Calls.{total, steps_of}
 use Rattle.disk_model.specs.declared.call.Call.{Call}
 use Rattle.disk_model.specs.declared.call.Call.TheVariants as call
 

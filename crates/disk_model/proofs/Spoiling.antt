@@ -5,7 +5,7 @@ use Rattle.std.proofs.Common.{true, false, Bool, drop-drop}
 use Rattle.std.specs.Prelude.{◌||◌, nat_le, if◌then◌else◌}
 use Rattle.std.proofs.lemmas.Bool.{cases_lt}
 use Rattle.std.proofs.lemmas.Bool.Decides.{nat_tests}
-use Rattle.std.proofs.lemmas.List.{length-append, length-take, length-drop, get_or_append_left}
+use Rattle.std.proofs.lemmas.List.{length-append, length-take, get_or_append_left}
 use Rattle.std.proofs.lemmas.List.{get_or-append_right, get_or-take, get_or-drop, get_or-replicate}
 use Rattle.std.proofs.lemmas.List.{length-replicate}
 use Rattle.disk_model.specs.Calls.{has_written}

@@ -1,4 +1,4 @@
-use Rattle.std.proofs.Common.{◌≡◌, [], sym, ◌∙◌}
+use Rattle.std.proofs.Common.{[], sym, ◌∙◌}
 use Rattle.disk_model.specs.Calls.{steps_of}
 use Rattle.disk_model.specs.Images.{State, begun, run}
 use Rattle.disk_model.proofs.ImagesAfter.{total_front, fit_front, used_within, left_is, total_back}

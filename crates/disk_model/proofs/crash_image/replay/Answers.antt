@@ -1,4 +1,4 @@
-use Rattle.std.proofs.Common.{◌≡◌, ◌+◌, ◌-◌, ◌≤◌, IsTrue, length, take, drop, ◌∙◌, ap, subst, sym, arith}
+use Rattle.std.proofs.Common.{◌≡◌, ◌+◌, ◌-◌, IsTrue, take, drop, ◌∙◌, ap, subst, sym, arith}
 use Rattle.disk_model.specs.Calls.{total, steps_of}
 use Rattle.disk_model.specs.DeviceCalls.{with_bytes}
 use Rattle.disk_model.specs.Images.{begun, run, all_fit}

@@ -1,4 +1,4 @@
-use Rattle.std.proofs.Common.{◌≡◌, ◌+◌, ◌≤◌, IsTrue, length, drop}
+use Rattle.std.proofs.Common.{◌≡◌, ◌+◌, IsTrue, drop}
 use Rattle.disk_model.specs.Calls.{total, steps_of}
 use Rattle.disk_model.specs.Images.{begun, run, all_fit}
 use Rattle.disk_model.proofs.crash_image.replay.Given as goal
