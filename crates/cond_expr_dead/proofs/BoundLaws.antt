@@ -24,7 +24,7 @@ pub data IsBound : Test → Bound → Type 0 where
       → IsBound (compared o (constant v) (column (Atom i) n))
       (record { atom = i; name = n; op = turned o; limit = v })
 
-some_same : {A : Type 0} (a b : A) → Some a ≡ Some b → a ≡ b
+pub some_same : {A : Type 0} (a b : A) → Some a ≡ Some b → a ≡ b
 some_same a b e = cc
 
 left_bound : (o : CmpOp) (a : Tree) (v : Value) (b : Bound) → column_with o a v ≡ Some b

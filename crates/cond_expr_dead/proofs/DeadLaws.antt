@@ -36,13 +36,13 @@ use Rattle.cond_expr_dead.proofs.Thresholds.{thresholds, Thresholds, IsTriedOf}
 
 -- ---- lists of parts
 
-any_from : {X : Type 0} (p : X → Bool) (x : X) (xs : List X) → In x xs → p x ≡ true
+pub any_from : {X : Type 0} (p : X → Bool) (x : X) (xs : List X) → In x xs → p x ≡ true
     → list_any p xs ≡ true
 any_from p x [] m h = absurd m
 any_from p x (y ∷ ys) (inl e) h = or_left (p y) (list_any p ys) (ap p e ∙ h)
 any_from p x (y ∷ ys) (inr m) h = or_right (p y) (list_any p ys) (any_from p x ys m h)
 
-any_of : {X : Type 0} (p : X → Bool) (xs : List X) → list_any p xs ≡ true → (x : X) × In x xs
+pub any_of : {X : Type 0} (p : X → Bool) (xs : List X) → list_any p xs ≡ true → (x : X) × In x xs
     × (p x ≡ true)
 any_of p [] h = absurd (cc)
 any_of p (y ∷ ys) h = elim (or_cases (p y) (list_any p ys) h) [
@@ -50,7 +50,7 @@ any_of p (y ∷ ys) h = elim (or_cases (p y) (list_any p ys) h) [
   | inr r ↦ let k = any_of p ys r in (k.0, inr k.1, k.2)
 ]
 
-all_at : {X : Type 0} (p : X → Bool) (x : X) (xs : List X) → In x xs → list_all p xs ≡ true
+pub all_at : {X : Type 0} (p : X → Bool) (x : X) (xs : List X) → In x xs → list_all p xs ≡ true
     → p x ≡ true
 all_at p x [] m h = absurd m
 all_at p x (y ∷ ys) (inl e) h = ap p (sym e) ∙ (and_parts (p y) (list_all p ys) h).0
@@ -79,7 +79,7 @@ next_begins k c v i e = elim (cases_Bool (has_next c)) [
 ]
 
 -- a value at which a comparison with a value of the type begins to hold is one of the type
-begins_of : (k : ColType) (o : CmpOp) (c v : Value) → IsOf k c → beginning o c ≡ Some v → IsOf k v
+pub begins_of : (k : ColType) (o : CmpOp) (c v : Value) → IsOf k c → beginning o c ≡ Some v → IsOf k v
 begins_of k Eq c v i e = (let q : c ≡ v = cc in subst (IsOf k) q i)
 begins_of k Ne c v i e = next_begins k c v i e
 begins_of k Lt c v i e = absurd (cc)

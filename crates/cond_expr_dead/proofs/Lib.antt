@@ -4,5 +4,8 @@ pub mod LongerTexts
 pub mod BoundLaws
 pub mod Thresholds
 pub mod DeadLaws
+pub mod LowerBoundLaws
+pub mod EarlierLaws
 pub mod PartLists
+pub mod PartSteps
 mod WorkedRows

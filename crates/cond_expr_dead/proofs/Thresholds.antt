@@ -25,16 +25,16 @@ use Rattle.cond_expr_dead.proofs.BoundLaws.{lets_bound, lets_other}
 
 -- ---- the order of values
 
-abbrev UpTo : Value → Value → Type 0
+abbrev pub UpTo : Value → Value → Type 0
 UpTo a b = is_gt (value_cmp a b) ≡ false
 
-up_along : (a b c : Value) → UpTo a b → UpTo b c → UpTo a c
+pub up_along : (a b c : Value) → UpTo a b → UpTo b c → UpTo a c
 up_along a b c p q = upto value_total a b c p q
 
-up_itself : (a : Value) → UpTo a a
+pub up_itself : (a : Value) → UpTo a a
 up_itself a = ap is_gt (tied_itself value_total a)
 
-reversed : (a b : Value) → value_cmp a b ≡ ordering_reverse (value_cmp b a)
+pub reversed : (a b : Value) → value_cmp a b ≡ ordering_reverse (value_cmp b a)
 reversed a b = value_total.antisymm a b
 
 -- of two values, one is up to the other
@@ -46,7 +46,7 @@ up_or a b = step (value_cmp a b) refl
     step Equal e = inl (ap is_gt e)
     step Greater e = inr (ap is_gt (reversed b a ∙ ap ordering_reverse e))
 
-not_back : (a b : Value) → UpTo a b → value_cmp b a ≡ Less → ⊥
+pub not_back : (a b : Value) → UpTo a b → value_cmp b a ≡ Less → ⊥
 not_back a b u l = let k : true ≡ false = sym (ap is_gt (reversed a b ∙ ap ordering_reverse l))
     ∙ u in cc
 

@@ -1,3 +1,5 @@
 pub mod Steps
 pub mod Tried
 pub mod Shown
+pub mod LowerBounds
+pub mod Earlier

@@ -6,7 +6,9 @@
 mod bound;
 mod column;
 mod condition;
+mod earlier;
 mod laws;
+mod lower_bound;
 mod part;
 mod trial;
 

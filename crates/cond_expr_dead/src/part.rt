@@ -34,9 +34,10 @@ pub(crate) fn some_part<T: PartTest>(by: &T, cond: &Cond) -> bool
     }
 }
 
+/// Whether a top-level part of one of the members passes.
 #[cycle(parts)]
 #[tactic(auto, using(crate::proofs::PartLists::any_one, crate::proofs::PartLists::valid_one, crate::proofs::PartLists::any_more, crate::proofs::PartLists::any_none, crate::proofs::PartLists::valid_more, crate::proofs::PartLists::valid_none, cond_expr::proofs::SeenLaws::test_of_and, cond_expr::proofs::SeenLaws::test_of_or, cond_expr::proofs::SeenLaws::test_of_cmp))]
-fn some_part_of<T: PartTest>(by: &T, members: &[Cond]) -> bool
+pub(crate) fn some_part_of<T: PartTest>(by: &T, members: &[Cond]) -> bool
     ensures value { result ≡ list_any (T.passes by.now)
         (all_parts (tests_of (map test members.now))) }
     ensures valid { result ≡ false → HaveValidLimits (all_parts (tests_of (map test members.now))) }

@@ -2,10 +2,8 @@ ghost use Rattle.std.specs.Prelude.{◌≡◌, ◌++◌, [], ◌∷◌, true, fa
 ghost use Rattle.std.specs.Prelude.{◌<◌, ◌+◌, ◌==◌, ℕ, MatchOption};
 ghost use Rattle.prima_base.specs.Order.{value_cmp, bytes_cmp};
 ghost use Rattle.cond_expr_dead.specs.Steps.{least, all_top, raised, following, following_text};
-ghost use Rattle.cond_expr_dead.specs.Tried.{beginning};
 ghost use Rattle.cond_expr_dead.specs.Shown.{tried_value, tried_values};
 
-use cond_expr::CmpOp;
 use prima_base::limits::MAX_TEXT;
 use prima_base::{ColType, Value};
 use std::cmp::Ordering;
@@ -73,7 +71,7 @@ fn next_text(bytes: &[u8]) -> Option<Tried<'_>>
 
 /// The next value after a constant.
 #[tactic(auto, using(crate::proofs::LongerTexts::number_follows, crate::proofs::LongerTexts::no_number_follows))]
-fn next(limit: &Value) -> Option<Tried<'_>>
+pub(crate) fn next(limit: &Value) -> Option<Tried<'_>>
     ensures { tried_values result ≡ following limit.now }
 {
     match limit {
@@ -88,24 +86,12 @@ fn next(limit: &Value) -> Option<Tried<'_>>
 }
 
 /// The constant itself.
-fn same(limit: &Value) -> Tried<'_>
+pub(crate) fn same(limit: &Value) -> Tried<'_>
     ensures { tried_value result ≡ limit.now }
 {
     match limit {
         Value::Int(n) => Tried::Number(*n),
         Value::Text(text) => Tried::Bytes(text.bytes()),
-    }
-}
-
-/// The value at which a comparison with a constant begins to hold. None where it holds from the
-/// least value on, or for none.
-pub(crate) fn beginning(op: CmpOp, limit: &Value) -> Option<Tried<'_>>
-    ensures { tried_values result ≡ beginning op limit.now }
-{
-    match op {
-        CmpOp::Eq | CmpOp::Ge => Some(same(limit)),
-        CmpOp::Ne | CmpOp::Gt => next(limit),
-        CmpOp::Lt | CmpOp::Le => None,
     }
 }
 
