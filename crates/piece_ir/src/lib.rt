@@ -19,7 +19,7 @@ pub use atom_fill::column_of;
 pub use choice::unfold_by;
 pub use explained::Explained;
 pub use laws::{substitution_puts_a_value, the_same_pieces_are_equal};
-pub use piece::Piece;
+pub use piece::{Piece, copy_pieces};
 pub use sameness::same_pieces;
 pub use substitution::{needs, substitute};
 pub use unfolded::append_parts;

@@ -1,3 +1,6 @@
+ghost use Rattle.std.specs.Prelude.{◌≡◌, IfOk};
+ghost use Rattle.piece_ir.specs.Shown.{shown_pieces};
+
 use crate::name::copy_names;
 use cond_expr::{Cond, Expr};
 use prima_base::{Name, NoMemory};
@@ -33,4 +36,15 @@ impl Piece {
             outs: copy_sets(alloc, &self.outs)?,
         })
     }
+}
+
+/// Equal pieces, in their order. The one error is `NoMemory`, where memory runs out.
+pub fn copy_pieces(alloc: Global, pieces: &[Piece]) -> Result<Vec<Piece>, NoMemory>
+    ensures { IfOk result (λ v. shown_pieces v.items ≡ shown_pieces pieces.now) }
+{
+    let mut copied = Vec::with_capacity(alloc, pieces.len())?;
+    for piece in pieces {
+        copied.push(piece.copy(alloc)?)?;
+    }
+    Ok(copied)
 }

@@ -1,8 +1,13 @@
 ghost use Rattle.std.specs.Prelude.{◌≡◌, ◌↔◌, IfOk, IsTrue};
+ghost use Rattle.schema_catalog.specs.Tables.{Tables};
+ghost use Rattle.schema_catalog.specs.Databases.{Database};
 ghost use Rattle.cond_expr.specs.Seen.{tree};
+ghost use Rattle.cond_expr.specs.Trees.{Within};
 ghost use Rattle.plain_answers_spec.specs.Naming.{IsNamed};
 ghost use Rattle.piece_ir.specs.Shown.{piece_of};
+ghost use Rattle.piece_ir_spec.specs.Pieces.{means};
 ghost use Rattle.piece_ir.specs.Substituting.{substituted, names_column, piece_references};
+ghost use Rattle.piece_ir.specs.Substituting.{IsOwn, means_with_value};
 
 use crate::Piece;
 use crate::atom_fill::PutColumn;
@@ -13,10 +18,8 @@ use cond_expr::{Expr, fill_cond};
 use prima_base::{Name, NoMemory};
 use std::alloc::Global;
 
-/// The piece in which the expression stands for a column of an atom. The references of the
-/// expression are to atom 0, and become references to that atom. The one error is `NoMemory`, where
-/// memory runs out.
-pub fn substitute(
+// The piece in which the expression stands for the column.
+fn substituted(
     alloc: Global,
     piece: &Piece,
     atom: u32,
@@ -32,6 +35,28 @@ pub fn substitute(
         cond: fill_cond(&by, alloc, &piece.cond)?,
         outs: fill_outputs(&by, alloc, &piece.outs)?,
     })
+}
+
+/// The piece in which the expression stands for a column of an atom. The references of the
+/// expression are to atom 0, and become references to that atom: over each database the piece
+/// answers what the given one does where the column holds, in each row of the atom, the value of
+/// the expression over that row. The one error is `NoMemory`, where memory runs out.
+pub fn substitute(
+    alloc: Global,
+    piece: &Piece,
+    atom: u32,
+    column: &Name,
+    expr: &Expr,
+) -> Result<Piece, NoMemory>
+    ensures is { IfOk result (λ p. piece_of p ≡ substituted (piece_of piece.now) atom column.now
+        (tree expr.now)) }
+    ensures means { IfOk result (λ p. (tables : Tables) → (db : Database)
+        → Within IsOwn (tree expr.now)
+        → means tables db (piece_of p)
+        ≡ means_with_value tables db (piece_of piece.now) atom column.now (tree expr.now)) }
+{
+    let put = substituted(alloc, piece, atom, column, expr)?;
+    Ok(put)
 }
 
 #[tactic(auto, using(crate::proofs::ReferenceLists::names_append))]

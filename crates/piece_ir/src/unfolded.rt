@@ -85,8 +85,8 @@ fn append_filled<F: Fill>(
 #[cycle(parts)]
 #[tactic(auto, using(cond_expr::proofs::SeenLaws::test_of_and, cond_expr::proofs::SeenLaws::test_of_or, cond_expr::proofs::SeenLaws::test_of_cmp))]
 pub fn append_parts<F: Fill>(
-    by: &F,
     alloc: Global,
+    by: &F,
     cond: &Cond,
     parts: &mut Vec<Cond>,
 ) -> Result<(), NoMemory>
@@ -115,7 +115,7 @@ fn append_lists<F: Fill>(
         ++ all_parts_of (fill_tests (F.puts by.now) (tests_of (map test list.now)))) }
 {
     for cond in list {
-        append_parts(by, alloc, cond, parts)?;
+        append_parts(alloc, by, cond, parts)?;
     }
     Ok(())
 }
@@ -136,7 +136,7 @@ fn add_parts<F: Fill>(
     }
     let mut added = added;
     let mut parts = Vec::new(alloc);
-    append_parts(by, alloc, cond, &mut parts)?;
+    append_parts(alloc, by, cond, &mut parts)?;
     parts.append(&mut added)?;
     Ok(Cond::and(parts))
 }

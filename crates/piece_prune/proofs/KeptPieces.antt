@@ -22,17 +22,17 @@ module _ {F : Type 0} (R : F → Piece → Bool → F → Type 0) (f : F)
       ∙ ap (kept x xs) e
   one_kept x xs bs false e more = more ∙ ap (kept x xs) e
 
-  kept_live : (bs : List Bool) (xs : List Piece) (q : F) → length bs ≡ length xs
+  kept_told : (bs : List Bool) (xs : List Piece) (q : F) → length bs ≡ length xs
       → ReturnsInTurn R f bs xs q
       → shown_pieces (items_where_true bs xs) ≡ filter lives (shown_pieces xs)
-  kept_live [] [] q e r = refl
-  kept_live [] (x ∷ xs) q e r = absurd (omega arith)
-  kept_live (b ∷ bs) [] q e r = absurd r
-  kept_live (b ∷ bs) (x ∷ xs) q e r =
+  kept_told [] [] q e r = refl
+  kept_told [] (x ∷ xs) q e r = absurd (omega arith)
+  kept_told (b ∷ bs) [] q e r = absurd r
+  kept_told (b ∷ bs) (x ∷ xs) q e r =
       let one = h x b r.0 r.1 in
-      one_kept x xs bs b one.0 (kept_live bs xs q (omega arith)
+      one_kept x xs bs b one.0 (kept_told bs xs q (omega arith)
       (subst (λ (y : F). ReturnsInTurn R y bs xs q) one.1 r.2))
 
-  pub filtered_live : (xs ys : List Piece) → IsFiltered R f xs ys
+  pub filtered_told : (xs ys : List Piece) → IsFiltered R f xs ys
       → shown_pieces ys ≡ filter lives (shown_pieces xs)
-  filtered_live xs ys k = ap shown_pieces k.4 ∙ kept_live k.0 xs k.1 k.2 k.3
+  filtered_told xs ys k = ap shown_pieces k.4 ∙ kept_told k.0 xs k.1 k.2 k.3

@@ -1,4 +1,5 @@
 pub mod ValidCells
 pub mod Pruned
+pub mod KeptPieces
 pub mod PushedTypes
 pub mod PartSteps

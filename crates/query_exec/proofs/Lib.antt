@@ -7,7 +7,6 @@ pub mod FirstLosses
 pub mod AliveLaws
 pub mod WalkSteps
 pub mod PlanLaws
-pub mod LivingLaws
 pub mod BranchRows
 pub mod ItemAtoms
 pub mod WholeAnswers

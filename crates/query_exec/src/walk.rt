@@ -40,7 +40,7 @@ pub(crate) fn pieces_along<R: Rule>(
     let mut walk = start;
     let mut plan = Vec::new(alloc);
     for part in parts {
-        walk = walk.to(book, alloc, versions, part.1)?;
+        walk = walk.to(alloc, book, versions, part.1)?;
         plan.push(part_pieces(alloc, groups, *part, &walk.pieces)?)?;
     }
     Ok(plan)

@@ -1,3 +1,2 @@
 pub mod RuleLaw
 pub mod PairSteps
-pub mod LivingPieces

@@ -19,6 +19,7 @@ use Rattle.cond_expr_dead.specs.Tried.{is_killed}
 use Rattle.cond_expr_dead.proofs.DeadLaws.{killed_is_dead}
 use Rattle.piece_ir_spec.specs.Pieces.{PlainPiece, piece_answers}
 use Rattle.piece_ir_spec.specs.Typed.{IsTyped, AllTyped, atom_kinds}
+use Rattle.piece_ir_spec.specs.Unfolding.{unfoldings}
 use Rattle.piece_ir_spec.specs.Rules.{IsValidRule, KeepsMeaning}
 use Rattle.piece_ir_spec.proofs.ViewsLaw.{views_valid}
 use Rattle.piece_prune.specs.DeadPieces.{IsDeadPiece, lives}
@@ -80,3 +81,10 @@ pub kept : (tables : Tables) (op : Operator) (p : PlainPiece) (news : List Plain
     → news ≡ living_by_views operator_views op tables p → KeepsMeaning tables op p news
 kept tables op p news h e t is = subst (KeepsMeaning tables op p) (sym is)
     ((valid (operator_kind op)).keeps tables op p refl h e t)
+
+-- the unfoldings that are looked at are well-typed
+pub all_typed : (tables : Tables) (op : Operator) (p : PlainPiece) → IsValid tables
+    → op_fault tables op ≡ None → IsTyped (schema_after tables op) p
+    → AllTyped tables (unfoldings (operator_views tables op) p)
+all_typed tables op p h e t = ((views_valid (operator_kind op) operator_views
+    (kind_views (operator_kind op))).keeps tables op p refl h e t).typed

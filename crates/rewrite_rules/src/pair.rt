@@ -102,7 +102,7 @@ fn pair_parts(alloc: Global, pair: &Pair<'_>, cond: &Cond) -> Result<Vec<Cond>, 
         (second_names pair.now.first.now pair.now.second.now)) (test cond.now))) }
 {
     let mut tests = common_parts(alloc, pair.first, pair.second)?;
-    append_parts(pair, alloc, cond, &mut tests)?;
+    append_parts(alloc, pair, cond, &mut tests)?;
     Ok(tests)
 }
 

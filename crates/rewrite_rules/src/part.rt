@@ -13,7 +13,7 @@ pub(crate) fn parts_of(alloc: Global, cond: &Cond) -> Result<Vec<Cond>, NoMemory
     ensures { IfOk result (λ v. map test v.items ≡ parts_but_true (test cond.now)) }
 {
     let mut parts = Vec::new(alloc);
-    append_parts(&Itself, alloc, cond, &mut parts)?;
+    append_parts(alloc, &Itself, cond, &mut parts)?;
     Ok(parts)
 }
 

@@ -1,37 +1,19 @@
 ghost use Rattle.std.specs.Prelude.{◌≡◌, None, IfOk};
-ghost use Rattle.std.specs.List.{filter};
 ghost use Rattle.smo_ops_types.specs.Operators.{operator_of};
 ghost use Rattle.smo_ops_spec.specs.After.{op_fault, schema_after, IsValid};
 ghost use Rattle.piece_ir_spec.specs.Typed.{IsTyped};
 ghost use Rattle.piece_ir_spec.specs.Rules.{KeepsMeaning};
 ghost use Rattle.piece_ir.specs.Shown.{piece_of, shown_pieces};
-ghost use Rattle.piece_prune.specs.DeadPieces.{lives};
 ghost use Rattle.piece_ir_spec.specs.OperatorViews.{operator_views};
 ghost use Rattle.rewrite_rules.specs.LivingUnfoldings.{living_by_views};
 
 use crate::made_table::made_tables;
-use cond_expr_dead::is_dead;
 use piece_ir::{Piece, unfold_by};
+use piece_prune::living;
 use prima_base::NoMemory;
 use schema_catalog::Schema;
 use smo_ops_types::Op;
 use std::alloc::Global;
-
-// Whether the piece is not found dead.
-fn lives(piece: &Piece) -> bool
-    ensures { result ≡ lives (piece_of piece.now) }
-{
-    !is_dead(&piece.cond)
-}
-
-// The pieces that live, in their order.
-fn living(pieces: Vec<Piece>) -> Vec<Piece>
-    ensures { shown_pieces result.items ≡ filter lives (shown_pieces pieces.items) }
-{
-    let mut left = pieces;
-    left.retain(lives);
-    left
-}
 
 /// The piece, unfolded by the views of the tables that the operator makes, without the pieces that
 /// are found dead: what each rule answers. What is made is asked of the operator itself, whichever
@@ -52,5 +34,5 @@ pub(crate) fn unfolded(
 {
     let made = made_tables(alloc, op, before)?;
     let news = unfold_by(alloc, &made, piece)?;
-    Ok(living(news))
+    Ok(living(news, before))
 }

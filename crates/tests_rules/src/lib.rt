@@ -9,6 +9,8 @@ mod expression;
 #[cfg(test)]
 mod inverse;
 #[cfg(test)]
+mod meaning;
+#[cfg(test)]
 mod operator;
 #[cfg(test)]
 mod piece;

@@ -52,8 +52,8 @@ pub(crate) fn are_small(ops: &[Op]) -> bool
     }
 }
 
-// The schema with no table.
-fn nothing(alloc: Global) -> Schema
+/// The schema with no table.
+pub(crate) fn nothing(alloc: Global) -> Schema
     ensures { IsValid result }
 {
     Schema::empty(alloc)
@@ -74,8 +74,8 @@ pub(crate) fn next(alloc: Global, before: &Schema, op: &Op) -> Option<Schema>
     }
 }
 
-// The schema after the operator that the text spells.
-fn with(alloc: Global, before: &Schema, text: &[u8]) -> Option<Schema>
+/// The schema after the operator that the text spells.
+pub(crate) fn with(alloc: Global, before: &Schema, text: &[u8]) -> Option<Schema>
     requires { IsValid before.now }
     ensures { MatchOption result ⊤ (λ s. IsValid s) }
 {

@@ -6,11 +6,12 @@ ghost use Rattle.smo_ops_spec.specs.After.{op_fault, schema_after, IsValid};
 ghost use Rattle.piece_ir_spec.specs.Typed.{IsTyped};
 ghost use Rattle.piece_ir.specs.Shown.{piece_of};
 
-use crate::operator::{next, operator, two_tables};
-use cond_expr::Cond;
+use crate::meaning::{PlainTable, push_answers};
+use crate::operator::{next, nothing, operator, two_tables, with};
+use cond_expr::{ColRef, Cond, Expr, Whose, columns_at, typed_expr};
 use piece_ir::Piece;
-use prima_base::{Name, NoMemory, OpKind};
-use rewrite_rules::{BookFault, RenameColumnRule, Rule, RuleBook, push_every_rule};
+use prima_base::{ColType, Name, NoMemory, OpKind, Txt, Value};
+use rewrite_rules::{BookFault, NopRule, Rule, RuleBook, push_every_rule};
 use schema_catalog::Schema;
 use smo_ops::Op;
 use std::alloc::Global;
@@ -175,18 +176,179 @@ fn each_rule_answers(rt: HostRuntime) -> Result<(), Fail> {
     Ok(())
 }
 
+// The column of atom 0, shown of the table where TRUE holds; none where the table has no such
+// column.
+#[tactic(auto, using(crate::proofs::ShownColumns::typed_piece))]
+fn piece_showing(
+    alloc: Global,
+    schema: &Schema,
+    table: &Name,
+    column: &Name,
+) -> Result<Option<Piece>, NoMemory>
+    ensures { IfOk result (λ o. MatchOption o ⊤ (λ p. IsTyped schema.now (piece_of p))) }
+{
+    let Some(there) = schema.table(table) else {
+        return Ok(None);
+    };
+    let columns = columns_at(alloc, 0, there.columns())?;
+    let shown = Expr::Col(ColRef {
+        whose: Whose::Atom(0),
+        name: column.copy()?,
+    });
+    if typed_expr(&shown, &columns).is_err() {
+        return Ok(None);
+    }
+    let mut atoms = Vec::new(alloc);
+    atoms.push(table.copy()?)?;
+    let mut outs = Vec::new(alloc);
+    outs.push((column.copy()?, shown))?;
+    Ok(Some(Piece {
+        atoms,
+        cond: Cond::True,
+        outs,
+    }))
+}
+
+// What the book of all rules answers to the operator and the piece that shows the column of a table
+// after it.
+fn showing_answered(
+    alloc: Global,
+    before: &Schema,
+    op: &Op,
+    table: &Name,
+    column: &Name,
+) -> Result<Option<Vec<Piece>>, NoMemory>
+    requires { IsValid before.now }
+{
+    let Some(schema_after) = next(alloc, before, op) else {
+        return Ok(None);
+    };
+    let Some(piece) = piece_showing(alloc, &schema_after, table, column)? else {
+        return Ok(None);
+    };
+    rewritten_by_all(alloc, before, op, &piece)
+}
+
+// What these pieces answer over the database, one after the other.
+fn meaning(
+    alloc: Global,
+    before: &Schema,
+    text: &[u8],
+    table: &[u8],
+    column: &[u8],
+    database: &[PlainTable],
+) -> Result<Vec<Value>, Fail>
+    requires { IsValid before.now }
+{
+    let Some(op) = operator(alloc, text) else {
+        return Err(Fail::new("each text is an operator"));
+    };
+    let table = Name::new(alloc, table)?;
+    let column = Name::new(alloc, column)?;
+    let Some(pieces) = showing_answered(alloc, before, &op, &table, &column)? else {
+        return Err(Fail::new("each operator is accepted, and makes the table"));
+    };
+    let mut values = Vec::new(alloc);
+    for piece in &pieces {
+        push_answers(alloc, piece, database, &mut values)?;
+    }
+    Ok(values)
+}
+
+// A table of two columns, the second of which may be a text.
+macro_rules! a_table {
+    ($alloc:expr, $name:expr, $columns:expr, $rows:expr) => {
+        PlainTable {
+            name: Name::new($alloc, $name)?,
+            columns: $columns,
+            rows: $rows,
+        }
+    };
+}
+
+fn pairs(
+    alloc: Global,
+    first: &[u8],
+    second: &[u8],
+    kind: ColType,
+) -> Result<Vec<(Name, ColType)>, Fail> {
+    let mut columns = Vec::new(alloc);
+    columns.push((Name::new(alloc, first)?, ColType::Int))?;
+    columns.push((Name::new(alloc, second)?, kind))?;
+    Ok(columns)
+}
+
+fn row_of(alloc: Global, first: i64, second: Value) -> Result<Vec<Value>, NoMemory> {
+    let mut row = Vec::new(alloc);
+    row.push(Value::Int(first))?;
+    row.push(second)?;
+    Ok(row)
+}
+
+#[test]
+fn a_partition_shows_the_rows_of_its_condition(rt: HostRuntime) -> Result<(), Fail> {
+    let alloc = rt.alloc();
+    let Some(before) = with(alloc, &nothing(alloc), b"CREATE TABLE t (a INT)") else {
+        return Err(Fail::new("a table is made"));
+    };
+    let mut columns = Vec::new(alloc);
+    columns.push((Name::new(alloc, b"a")?, ColType::Int))?;
+    let mut rows = Vec::new(alloc);
+    for number in [5, 20] {
+        let mut row = Vec::new(alloc);
+        row.push(Value::Int(number))?;
+        rows.push(row)?;
+    }
+    let mut database = Vec::new(alloc);
+    database.push(a_table!(alloc, b"t", columns, rows))?;
+    let partition = b"PARTITION TABLE t INTO low WITH a < 10, high";
+    let low = meaning(alloc, &before, partition, b"low", b"a", &database)?;
+    // The one row 5.
+    assert!(rt; low.len() == 1 && low.first() == Some(&Value::Int(5)));
+    Ok(())
+}
+
+#[test]
+fn a_join_shows_the_rows_that_agree(rt: HostRuntime) -> Result<(), Fail> {
+    let alloc = rt.alloc();
+    let Some(one) = with(alloc, &nothing(alloc), b"CREATE TABLE r (k INT, x TEXT)") else {
+        return Err(Fail::new("a table is made"));
+    };
+    let Some(before) = with(alloc, &one, b"CREATE TABLE s (k INT, y INT)") else {
+        return Err(Fail::new("a second table is made"));
+    };
+    let mut of_r = Vec::new(alloc);
+    of_r.push(row_of(alloc, 1, Value::Text(Txt::new(alloc, b"a")?))?)?;
+    of_r.push(row_of(alloc, 2, Value::Text(Txt::new(alloc, b"b")?))?)?;
+    let mut of_s = Vec::new(alloc);
+    of_s.push(row_of(alloc, 1, Value::Int(5))?)?;
+    let mut database = Vec::new(alloc);
+    let r_columns = pairs(alloc, b"k", b"x", ColType::Text)?;
+    database.push(a_table!(alloc, b"r", r_columns, of_r))?;
+    let s_columns = pairs(alloc, b"k", b"y", ColType::Int)?;
+    database.push(a_table!(alloc, b"s", s_columns, of_s))?;
+    let join = b"JOIN TABLE r, s INTO t WHERE y > 0";
+    let joined = meaning(alloc, &before, join, b"t", b"x", &database)?;
+    // The one row 'a'.
+    let a = Value::Text(Txt::new(alloc, b"a")?);
+    assert!(rt; joined.len() == 1 && joined.first() == Some(&a));
+    Ok(())
+}
+
 #[test]
 fn a_book_has_each_rule_once(rt: HostRuntime) -> Result<(), Fail> {
     let alloc = rt.alloc();
     let mut others: Vec<Box<dyn Rule>> = Vec::new(alloc);
     push_every_rule!(alloc, others);
-    let Some(last) = others.pop() else {
+    if others.len() != 12 {
         return Err(Fail::new("there are twelve rules"));
-    };
-    assert!(rt; is_missing(alloc, others, OpKind::RenameColumn));
-    let mut twice: Vec<Box<dyn Rule>> = Vec::new(alloc);
-    twice.push(last)?;
-    twice.push(Box::new(alloc, RenameColumnRule)?)?;
-    assert!(rt; is_twice(alloc, twice, OpKind::RenameColumn));
+    }
+    // That of NOP is the first.
+    let _nop = others.remove(0);
+    assert!(rt; is_missing(alloc, others, OpKind::Nop));
+    let mut thirteen: Vec<Box<dyn Rule>> = Vec::new(alloc);
+    push_every_rule!(alloc, thirteen);
+    thirteen.push(Box::new(alloc, NopRule)?)?;
+    assert!(rt; is_twice(alloc, thirteen, OpKind::Nop));
     Ok(())
 }
