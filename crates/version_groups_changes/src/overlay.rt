@@ -34,11 +34,9 @@ use crate::known_row::KnownRows;
 use crate::row_value::copy_values;
 use cond_expr::{CmpOp, Cond, Expr, pinned};
 use history_store::{BorrowedRows, GivenRow, StoredTable};
-use prima_base::{ColType, Name, NoMemory, Row, Steps, Val, Value};
+use prima_base::{ColType, Name, NoMemory, Row, Val, Value};
 use smo_ops::{Change, OwnColumns, inserted_row, row_meets, row_with_sets};
 use std::alloc::Global;
-use std::marker::Brand;
-use std::sync::ledger::{Blank, Ledger};
 use version_groups_candidates::{
     filter_for, high_cut, hits_are_between_the_cuts, hits_have_pinned_values, hits_pass_filters,
     lend_rows, low_cut, passes,
@@ -84,14 +82,13 @@ fn put_stored<'a>(
 
 // Puts copies of those of the stored rows that meet the condition and that no change has lost after
 // the hits. A row is looked at whole where it passes a filter of the condition.
-fn put_stored_hits<'a, L: Ledger>(
+fn put_stored_hits<'a>(
     alloc: Global,
     rows: &mut BorrowedRows<'_>,
     overlay: &KnownRows<'a>,
     own: &OwnColumns<'_>,
     cond: &Cond,
     hits: &mut Vec<GivenRow<'a>>,
-    steps: &mut Steps<L>,
 ) -> Result<(), NoMemory>
     requires columns { AreColumns own.now }
     ensures { ((row : OneRow) → In row rows.old → IsRow own.now row)
@@ -103,30 +100,25 @@ fn put_stored_hits<'a, L: Ledger>(
     let tests = filter_for(alloc, cond, own.atoms(), rows.len())?;
     let mut values = Vec::with_capacity(alloc, own.columns().len())?;
     for at in 0..rows.len() {
-        if !passes(&tests, rows, at, steps) {
+        if !passes(&tests, rows, at) {
             continue;
         }
-        rows.lend(at, &mut values, steps)?;
+        rows.lend(at, &mut values)?;
         put_stored(alloc, overlay, own, cond, &values, hits)?;
     }
     Ok(())
 }
 
-// The rows that the table has now and that meet the condition, in any order. What is looked at for
-// it is counted by a counter of the ledger, which nobody asks.
-fn find_hits<'a, L: Ledger>(
+// The rows that the table has now and that meet the condition, in any order.
+fn find_hits<'a>(
     alloc: Global,
     store: &StoredTable,
     overlay: &KnownRows<'a>,
     own: &OwnColumns<'_>,
     cond: &Cond,
-    blank: Blank,
 ) -> Result<Vec<GivenRow<'a>>, NoMemory>
     requires columns { AreColumns own.now }
     requires same { store.now.columns ≡ own.now }
-    requires name { blank.name ≡ L.name }
-    requires parts { blank.parts ≡ L.parts }
-    requires some { 0 < blank.parts }
     ensures { (m : ℕ) (now : Relation) → m < forever → AllBefore store.now (m + 1)
         → IsRelation own.now now → LeadsTo overlay.now (relation_at store.now m) now
         → IfOk result (λ v. AreHits (meets own.now (test cond.now)) now v.items) }
@@ -138,8 +130,7 @@ fn find_hits<'a, L: Ledger>(
     let to = high_cut(alloc, cond, own.atoms())?;
     let mut rows = lend_rows(store, own, cond, &from, &to);
     let mut hits = overlay.hits(alloc, own, cond, from, to)?;
-    let mut steps: Steps<L> = Steps::new(blank);
-    put_stored_hits(alloc, &mut rows, overlay, own, cond, &mut hits, &mut steps)?;
+    put_stored_hits(alloc, &mut rows, overlay, own, cond, &mut hits)?;
     Ok(hits)
 }
 
@@ -235,11 +226,11 @@ fn apply<'a>(
             set_row(store, overlay, row, true)
         }
         Change::Delete { cond, .. } => {
-            let lost = find_hits::<Brand>(alloc, store, overlay, own, cond, Blank::new(1))?;
+            let lost = find_hits(alloc, store, overlay, own, cond)?;
             set_each(store, overlay, lost, false)
         }
         Change::Update { sets, cond, .. } => {
-            let lost = find_hits::<Brand>(alloc, store, overlay, own, cond, Blank::new(1))?;
+            let lost = find_hits(alloc, store, overlay, own, cond)?;
             let gained = images(alloc, own, sets, &lost)?;
             set_each(store, overlay, lost, false)?;
             set_each(store, overlay, gained, true)

@@ -9,7 +9,7 @@ use Rattle.version_groups_changes.specs.Overlay.{is_kept}
 use Rattle.version_groups_changes.proofs.overlay.put_stored_hits.Given as goal
 
 abbrev pub invariant-loop-at : goal.invariant-loop-at
-invariant-loop-at g l = record {
+invariant-loop-at l = record {
   same : l.rows ≡ l.fn.rows;
   hits : ((row : Row) → In row l.fn.rows → IsRow l.own row)
       → l.hits.items ≡ l.fn.hits.items ++ filter
