@@ -1,6 +1,6 @@
-//! What a piece answers over a small database: for each choice of one row per atom that meets its
-//! condition, the outputs.
-use cond_expr::{Column, eval, holds, lend_row, push_columns_at};
+//! What a piece without outputs means over a small database: the choices of one row per atom that
+//! meet its condition.
+use cond_expr::{Column, holds, lend_row, push_columns_at};
 use piece_ir::Piece;
 use prima_base::{ColType, Name, NoMemory, Value};
 use std::alloc::Global;
@@ -60,8 +60,8 @@ fn with_rows(
     Ok(longer)
 }
 
-// Puts the outputs after the others, where the choice meets the condition.
-fn push_answer(
+// Puts the values of the choice after the others, where it meets the condition.
+fn push_met(
     alloc: Global,
     piece: &Piece,
     columns: &[Column],
@@ -72,15 +72,12 @@ fn push_answer(
     if !holds(alloc, &piece.cond, columns, &values)? {
         return Ok(());
     }
-    for (_, expr) in &piece.outs {
-        let value = eval(alloc, expr, columns, &values)?;
-        into.push(value.into_value(alloc)?)?;
-    }
-    Ok(())
+    append_copies(into, choice)
 }
 
-/// Puts what the piece answers over the database after the others, output by output.
-pub(crate) fn push_answers(
+/// Puts the choices that meet the condition of the piece over the database after the others, value
+/// by value.
+pub(crate) fn push_choices(
     alloc: Global,
     piece: &Piece,
     database: &[PlainTable],
@@ -98,7 +95,7 @@ pub(crate) fn push_answers(
         atom = atom.wrapping_add(1);
     }
     for choice in &choices {
-        push_answer(alloc, piece, &columns, choice, into)?;
+        push_met(alloc, piece, &columns, choice, into)?;
     }
     Ok(())
 }

@@ -6,9 +6,9 @@ ghost use Rattle.smo_ops_spec.specs.After.{op_fault, schema_after, IsValid};
 ghost use Rattle.piece_ir_spec.specs.Typed.{IsTyped};
 ghost use Rattle.piece_ir.specs.Shown.{piece_of};
 
-use crate::meaning::{PlainTable, push_answers};
+use crate::meaning::{PlainTable, push_choices};
 use crate::operator::{next, nothing, operator, two_tables, with};
-use cond_expr::{ColRef, Cond, Expr, Whose, columns_at, typed_expr};
+use cond_expr::Cond;
 use piece_ir::Piece;
 use prima_base::{ColType, Name, NoMemory, OpKind, Txt, Value};
 use rewrite_rules::{BookFault, NopRule, Rule, RuleBook, push_every_rule};
@@ -176,66 +176,13 @@ fn each_rule_answers(rt: HostRuntime) -> Result<(), Fail> {
     Ok(())
 }
 
-// The column of atom 0, shown of the table where TRUE holds; none where the table has no such
-// column.
-#[tactic(auto, using(crate::proofs::ShownColumns::typed_piece))]
-fn piece_showing(
-    alloc: Global,
-    schema: &Schema,
-    table: &Name,
-    column: &Name,
-) -> Result<Option<Piece>, NoMemory>
-    ensures { IfOk result (λ o. MatchOption o ⊤ (λ p. IsTyped schema.now (piece_of p))) }
-{
-    let Some(there) = schema.table(table) else {
-        return Ok(None);
-    };
-    let columns = columns_at(alloc, 0, there.columns())?;
-    let shown = Expr::Col(ColRef {
-        whose: Whose::Atom(0),
-        name: column.copy()?,
-    });
-    if typed_expr(&shown, &columns).is_err() {
-        return Ok(None);
-    }
-    let mut atoms = Vec::new(alloc);
-    atoms.push(table.copy()?)?;
-    let mut outs = Vec::new(alloc);
-    outs.push((column.copy()?, shown))?;
-    Ok(Some(Piece {
-        atoms,
-        cond: Cond::True,
-        outs,
-    }))
-}
-
-// What the book of all rules answers to the operator and the piece that shows the column of a table
-// after it.
-fn showing_answered(
-    alloc: Global,
-    before: &Schema,
-    op: &Op,
-    table: &Name,
-    column: &Name,
-) -> Result<Option<Vec<Piece>>, NoMemory>
-    requires { IsValid before.now }
-{
-    let Some(schema_after) = next(alloc, before, op) else {
-        return Ok(None);
-    };
-    let Some(piece) = piece_showing(alloc, &schema_after, table, column)? else {
-        return Ok(None);
-    };
-    rewritten_by_all(alloc, before, op, &piece)
-}
-
-// What these pieces answer over the database, one after the other.
+// The rows of the database that stand for the rows of a table after the operator of this text: what
+// the answer to the piece on the table means, one choice after the other.
 fn meaning(
     alloc: Global,
     before: &Schema,
     text: &[u8],
     table: &[u8],
-    column: &[u8],
     database: &[PlainTable],
 ) -> Result<Vec<Value>, Fail>
     requires { IsValid before.now }
@@ -244,18 +191,17 @@ fn meaning(
         return Err(Fail::new("each text is an operator"));
     };
     let table = Name::new(alloc, table)?;
-    let column = Name::new(alloc, column)?;
-    let Some(pieces) = showing_answered(alloc, before, &op, &table, &column)? else {
+    let Some(pieces) = answered(alloc, before, &op, &table)? else {
         return Err(Fail::new("each operator is accepted, and makes the table"));
     };
     let mut values = Vec::new(alloc);
     for piece in &pieces {
-        push_answers(alloc, piece, database, &mut values)?;
+        push_choices(alloc, piece, database, &mut values)?;
     }
     Ok(values)
 }
 
-// A table of two columns, the second of which may be a text.
+// A table of the database.
 macro_rules! a_table {
     ($alloc:expr, $name:expr, $columns:expr, $rows:expr) => {
         PlainTable {
@@ -302,7 +248,7 @@ fn a_partition_shows_the_rows_of_its_condition(rt: HostRuntime) -> Result<(), Fa
     let mut database = Vec::new(alloc);
     database.push(a_table!(alloc, b"t", columns, rows))?;
     let partition = b"PARTITION TABLE t INTO low WITH a < 10, high";
-    let low = meaning(alloc, &before, partition, b"low", b"a", &database)?;
+    let low = meaning(alloc, &before, partition, b"low", &database)?;
     // The one row 5.
     assert!(rt; low.len() == 1 && low.first() == Some(&Value::Int(5)));
     Ok(())
@@ -328,10 +274,11 @@ fn a_join_shows_the_rows_that_agree(rt: HostRuntime) -> Result<(), Fail> {
     let s_columns = pairs(alloc, b"k", b"y", ColType::Int)?;
     database.push(a_table!(alloc, b"s", s_columns, of_s))?;
     let join = b"JOIN TABLE r, s INTO t WHERE y > 0";
-    let joined = meaning(alloc, &before, join, b"t", b"x", &database)?;
-    // The one row 'a'.
+    let joined = meaning(alloc, &before, join, b"t", &database)?;
+    // The one row 'a': k and x of r, and k and y of s.
     let a = Value::Text(Txt::new(alloc, b"a")?);
-    assert!(rt; joined.len() == 1 && joined.first() == Some(&a));
+    assert!(rt; joined.len() == 4 && joined.first() == Some(&Value::Int(1)));
+    assert!(rt; joined.get(1) == Some(&a) && joined.last() == Some(&Value::Int(5)));
     Ok(())
 }
 

@@ -9,7 +9,7 @@ use Rattle.query_exec.proofs.part_piece.part_pieces.Goals as goal
 
 pub living-requires : goal.living-requires
 living-requires c =
-    subst (λ (ps : List PlainPiece). AllTyped c.schema_of-schema.schema.now ps)
+    subst (λ (ps : List PlainPiece). AllTyped c.schema_of-schema.result.now ps)
     (sym c.in_ok-copy_pieces.ensures)
     (subst (λ (t : Tables). AllTyped t (shown_pieces c.args.pieces.now))
     (sym c.schema_of-schema.ensures) c.requires.typed)
@@ -17,9 +17,9 @@ living-requires c =
 pub returns-clause-living : goal.returns-clause-living
 returns-clause-living c =
     subst (λ (t : Tables). AreLiving t (shown_pieces c.args.pieces.now)
-    (shown_pieces c.living-pieces.pieces.items)) c.schema_of-schema.ensures
-    (subst (λ (ps : List PlainPiece). AreLiving c.schema_of-schema.schema.now ps
-    (shown_pieces c.living-pieces.pieces.items)) c.in_ok-copy_pieces.ensures
+    (shown_pieces c.living-pieces.result.items)) c.schema_of-schema.ensures
+    (subst (λ (ps : List PlainPiece). AreLiving c.schema_of-schema.result.now ps
+    (shown_pieces c.living-pieces.result.items)) c.in_ok-copy_pieces.ensures
     c.living-pieces.ensures.living)
 
 pub returns-clause-told : goal.returns-clause-told
