@@ -7,8 +7,8 @@ use Rattle.piece_ir.specs.Shown.{shown_pieces}
 use Rattle.piece_prune.specs.DeadPieces.{AreLiving, lives}
 use Rattle.query_exec.proofs.part_piece.part_pieces.Goals as goal
 
-pub living-requires : goal.living-requires
-living-requires c =
+pub living-pieces-requires : goal.living-pieces-requires
+living-pieces-requires c =
     subst (λ (ps : List PlainPiece). AllTyped c.schema_of-schema.result.now ps)
     (sym c.in_ok-copy_pieces.ensures)
     (subst (λ (t : Tables). AllTyped t (shown_pieces c.args.pieces.now))
