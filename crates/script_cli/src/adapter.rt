@@ -1,6 +1,8 @@
 //! The program's edge: a source over a reader of the system, and a sink over a writer. They tell
 //! what the reader and the writer tell, which for a file or a terminal is nothing.
 
+ghost use Rattle.std.specs.Prelude.{◌≡◌};
+
 use prima_base::Failed;
 use prima_io::{Sink, Source};
 use std::io::{Read, Write};
@@ -13,8 +15,11 @@ pub struct ReaderSource<R: Read + Drop> {
 }
 
 impl<R: Read + Drop> ReaderSource<R> {
-    /// A source that has not failed.
-    pub fn new(reader: R) -> ReaderSource<R> {
+    /// A source that has not failed. What is left in it is what is left in the reader.
+    pub fn new(reader: R) -> ReaderSource<R>
+        ensures left { R.remaining result.reader ≡ R.remaining reader }
+        ensures faults { result.faults ≡ 0 }
+    {
         ReaderSource { reader, faults: 0 }
     }
 }
@@ -44,8 +49,11 @@ pub struct WriterSink<W: Write + Drop> {
 }
 
 impl<W: Write + Drop> WriterSink<W> {
-    /// A sink that has not failed.
-    pub fn new(writer: W) -> WriterSink<W> {
+    /// A sink that has not failed. It has been given what the writer has been given.
+    pub fn new(writer: W) -> WriterSink<W>
+        ensures written { W.contents result.writer ≡ W.contents writer }
+        ensures faults { result.faults ≡ 0 }
+    {
         WriterSink { writer, faults: 0 }
     }
 }

@@ -22,7 +22,10 @@ impl FileDisk {
 
     /// The file of this name in the current folder, made empty where it is missing. Where it is
     /// empty the folder is synced, so that the file is not lost after something has been written.
-    pub fn open<R: Files<File = File>>(files: &R, name: &str) -> io::Result<FileDisk> {
+    /// The disk has not failed.
+    pub fn open<R: Files<File = File>>(files: &R, name: &str) -> io::Result<FileDisk>
+        ensures faults { IfOk result (λ disk. disk.faults ≡ 0) }
+    {
         let opened = OpenOptions::new()
             .read(true)
             .write(true)
