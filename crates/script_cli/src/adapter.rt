@@ -1,13 +1,47 @@
 //! The program's edge: a source over a reader of the system, and a sink over a writer. They tell
 //! what the reader and the writer tell, which for a file or a terminal is nothing.
 
-ghost use Rattle.std.specs.Prelude.{◌≡◌};
+ghost use Rattle.std.specs.Prelude.{◌≡◌, length};
+ghost use Rattle.std.specs.Io.{ReadsAtMost, WritesAtMost};
+ghost use Rattle.std.specs.Io.KnownBytes.{ReadConsumes, WriteAppends};
 
 use prima_base::Failed;
 use prima_io::{Sink, Source};
-use std::io::{Read, Write};
+use std::io;
+use std::io::{ErrorKind, Read, Write};
 
-/// A source over a reader. Each error of the reader counts as a fault.
+// Reads as the reader does. A read that a signal interrupted has moved no byte, and is tried again.
+fn read_uninterrupted<R: Read>(reader: &mut R, buf: &mut [u8]) -> io::Result<usize>
+    ensures bound { ReadsAtMost result buf.new }
+    ensures bytes { ReadConsumes (R.remaining reader.old) (R.remaining reader.new) result buf.new }
+    ensures len { length buf.new ≡ length buf.old }
+{
+    'tries: for _ in 0..u64::MAX {
+        match reader.read(buf) {
+            Err(error) if error.kind() == ErrorKind::Interrupted => {}
+            answer => return answer,
+        }
+    }
+    Err(io::Error::from(ErrorKind::Interrupted))
+}
+
+// Writes as the writer does. A write that a signal interrupted has taken no byte, and is tried
+// again.
+fn write_uninterrupted<W: Write>(writer: &mut W, piece: &[u8]) -> io::Result<usize>
+    ensures bound { WritesAtMost result piece.now }
+    ensures bytes { WriteAppends (W.contents writer.old) (W.contents writer.new) result piece.now }
+{
+    'tries: for _ in 0..u64::MAX {
+        match writer.write(piece) {
+            Err(error) if error.kind() == ErrorKind::Interrupted => {}
+            answer => return answer,
+        }
+    }
+    Err(io::Error::from(ErrorKind::Interrupted))
+}
+
+/// A source over a reader. Each error of the reader counts as a fault, except that a read which a
+/// signal interrupts is tried again.
 #[derive(Drop)]
 pub struct ReaderSource<R: Read + Drop> {
     reader: R,
@@ -30,7 +64,7 @@ impl<R: Read + Drop> Source for ReaderSource<R> {
     ghost faults = { λ s. s.faults };
 
     fn take(&mut self, buf: &mut [u8]) -> Result<usize, Failed> {
-        match self.reader.read(buf) {
+        match read_uninterrupted(&mut self.reader, buf) {
             Ok(count) => Ok(count),
             Err(_) => {
                 self.faults = self.faults.saturating_add(1);
@@ -40,8 +74,9 @@ impl<R: Read + Drop> Source for ReaderSource<R> {
     }
 }
 
-/// A sink over a writer. Each error of the writer counts as a fault, and so does a writer that
-/// takes nothing of a piece that is not empty.
+/// A sink over a writer. Each error of the writer counts as a fault, except that a write which a
+/// signal interrupts is tried again; and so does a writer that takes nothing of a piece that is not
+/// empty.
 #[derive(Drop)]
 pub struct WriterSink<W: Write + Drop> {
     writer: W,
@@ -64,7 +99,7 @@ impl<W: Write + Drop> Sink for WriterSink<W> {
     ghost faults = { λ s. s.faults };
 
     fn put(&mut self, piece: &[u8]) -> Result<usize, Failed> {
-        match self.writer.write(piece) {
+        match write_uninterrupted(&mut self.writer, piece) {
             Ok(count) if count > 0 || piece.is_empty() => Ok(count),
             _ => {
                 self.faults = self.faults.saturating_add(1);
