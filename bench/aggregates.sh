@@ -22,8 +22,12 @@ if [ -z "${PROGRAM:-}" ]; then
     "$top/bench/libraries" "$scratch" cases_aggregates
     rm -r "$scratch/crates/cases_aggregates"
     sed -i 's/^cases_aggregates:/aggregates_timed:/' "$scratch/crates.txt"
-    mkdir -p "$scratch/crates/aggregates_timed"
-    cp -r "$top/bench/aggregates-timed/." "$scratch/crates/aggregates_timed"
+    mkdir -p "$scratch/crates/aggregates_timed/src"
+    cp "$top/bench/aggregates-timed/stdin" "$top/bench/aggregates-timed/stdout" \
+        "$scratch/crates/aggregates_timed"
+    for part in "$top"/bench/aggregates-timed/*.txt; do
+        cp "$part" "$scratch/crates/aggregates_timed/src/$(basename "$part" .txt).rt"
+    done
     (cd "$scratch/crates/aggregates_timed" && rt run) >"$scratch/log" 2>&1 || {
         tail -n 20 "$scratch/log"
         exit 1
