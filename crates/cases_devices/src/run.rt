@@ -26,7 +26,7 @@ const CHUNK: usize = 7;
 const DISK_CALLS: u64 = 1 << 14;
 
 // How many bytes these may have.
-const DISK_ROOM: u64 = 1 << 20;
+const DISK_ROOM: u64 = 1 << 23;
 
 /// What is run: the words, the file that the disk has, and the script.
 #[derive(Clone, Copy)]
