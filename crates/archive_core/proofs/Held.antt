@@ -7,14 +7,14 @@ use Rattle.std.specs.Int.{w64, to_be_bytes}
 use Rattle.std.proofs.lemmas.Bool.{cases_lt}
 use Rattle.std.proofs.lemmas.Bool.Decides.{nat_tests}
 use Rattle.std.proofs.lemmas.List.{take_at}
-use Rattle.disk_model.specs.Meaning.{Meaning, Tells, Told}
+use Rattle.disk_model.specs.Meaning.{Meaning, IfKnown, BothKnown}
 use Rattle.disk_model.specs.DeviceCalls.{with_bytes}
 use Rattle.journal.specs.Records.{Record, Holds, StandsFor, IsKnown, before_gate, body}
 use Rattle.journal.specs.Records.{empty_journal, opened_file}
 use Rattle.journal.specs.RecordLaws.{none_in_nine}
 use Rattle.journal.specs.JournalFiles.{needs, with_record}
 use Rattle.journal.proofs.Putting.{before_gate-push, known-push}
-use Rattle.archive_core.specs.Holding.{HoldsAt}
+use Rattle.archive_core.specs.DiskReads.{HoldsAt}
 
 -- a record after an open gate, and a closed one after it
 opened : (rs : List Record) (r : Record) (rest : List ℕ)
@@ -59,17 +59,17 @@ next_gate at next rs r place is =
 
 -- what stands in a disk's file that is told
 told_file : (step : List ℕ → List ℕ → Type 0) (old new : Option (List ℕ)) (file : List ℕ)
-    → old ≡ Some file → Told step old new → (f : List ℕ) × (new ≡ Some f) × step file f
-told_file step old new file is told = go new (subst (λ o. Told step o new) is told)
+    → old ≡ Some file → BothKnown step old new → (f : List ℕ) × (new ≡ Some f) × step file f
+told_file step old new file is told = go new (subst (λ o. BothKnown step o new) is told)
   where
-    go : (new : Option (List ℕ)) → Told step (Some file) new → (f : List ℕ) × (new ≡ Some f)
+    go : (new : Option (List ℕ)) → BothKnown step (Some file) new → (f : List ℕ) × (new ≡ Some f)
         × step file f
     go None told = absurd told
     go (Some f) told = (f, refl, told)
 
 pub held_more : (old new : Meaning) (at next : ℕ) (rs : List Record) (r : Record) → IsKnown r.0
     → length r.1 < 2 ^ 64 → next + 1 ≡ at + needs r
-    → Told (λ o n. n ≡ with_record o at r) old.seen new.seen → HoldsAt old at rs
+    → BothKnown (λ o n. n ≡ with_record o at r) old.seen new.seen → HoldsAt old at rs
     → HoldsAt new next (rs ++ r ∷ [])
 held_more old new at next rs r known fits place told held =
     let file = told_file (λ o n. n ≡ with_record o at r) old.seen new.seen held.file held.seen
@@ -100,7 +100,7 @@ opened_holds file rs (inr holds) = ⊎_elim
     (cases_lt 9 (length file))
 
 pub held_opened : (old new : Meaning) (at : ℕ) (file : List ℕ) (rs : List Record)
-    → old.seen ≡ Some file → Told (λ o n. n ≡ opened_file o) old.seen new.seen
+    → old.seen ≡ Some file → BothKnown (λ o n. n ≡ opened_file o) old.seen new.seen
     → StandsFor file rs → at ≡ length (before_gate rs) → HoldsAt new at rs
 held_opened old new at file rs is told stands place =
     let there = told_file (λ o n. n ≡ opened_file o) old.seen new.seen file is told in

@@ -4,7 +4,7 @@ use Rattle.std.proofs.Common.{length, refl, sym, subst, ap, ◌∙◌, arith, So
 use Rattle.std.specs.Prelude.{Option, nat_le, false, if◌then◌else◌}
 use Rattle.std.proofs.lemmas.Bool.Decides.{nat_tests}
 use Rattle.std.proofs.lemmas.List.{length-map}
-use Rattle.disk_model.specs.Meaning.{Meaning, Tells, Told}
+use Rattle.disk_model.specs.Meaning.{Meaning, IfKnown, BothKnown}
 use Rattle.journal.specs.Records.{Record, StandsFor, before_gate, empty_journal, opened_file}
 use Rattle.journal.specs.Reading.{records_in, record_of as plain_record, IsOpened}
 use Rattle.journal.specs.MountLaws.{opened_stands, opened_records}
@@ -17,7 +17,7 @@ use Rattle.archive_core_state.specs.ArchiveContents.{ArchiveContent}
 use Rattle.archive_core_replay.specs.declared.opened.Opened.{Opened}
 use Rattle.archive_core_replay.specs.Restoring.{IsRestored}
 use Rattle.archive_core.specs.Mounting.{IsMounted}
-use Rattle.archive_core.specs.Holding.{HoldsAt}
+use Rattle.archive_core.specs.DiskReads.{HoldsAt}
 use Rattle.archive_core.proofs.Held.{held_opened}
 
 gate_is : (file : List ℕ) (recs : List Rec) (at : ℕ) (log : List LogRecord) → IsOpened file recs at
@@ -35,7 +35,7 @@ mounted file recs at archive opened is_opened made =
       log = made.log;
       opens = record {
         stands = subst (StandsFor file) made.records_are (opened_stands file recs at is_opened);
-        spelled = made.spelled;
+        encoded = made.encoded;
         accepted = made.accepted;
       };
       represents = made.represents;
@@ -66,16 +66,16 @@ kept_file file new recs at place (inr read) e fault =
 
 -- the same of what a disk tells
 pub tell_mounted : (seen : Option (List ℕ)) (recs : List Rec) (at : ℕ) (archive : ArchiveContent)
-    (opened : Opened) → Tells seen (λ file. IsOpened file recs at)
+    (opened : Opened) → IfKnown seen (λ file. IsOpened file recs at)
     → IsRestored (records_in recs) archive opened
-    → Tells seen (λ file. IsMounted file archive at opened)
+    → IfKnown seen (λ file. IsMounted file archive at opened)
 tell_mounted None recs at archive opened is_opened made = tt
 tell_mounted (Some file) recs at archive opened is_opened made =
     mounted file recs at archive opened is_opened made
 
 pub tell_damaged : (seen : Option (List ℕ)) (recs : List Rec) (at place : ℕ)
-    → Tells seen (λ file. IsOpened file recs at) → HasFaultAt (records_in recs) place
-    → Tells seen (λ file. Damages file place)
+    → IfKnown seen (λ file. IsOpened file recs at) → HasFaultAt (records_in recs) place
+    → IfKnown seen (λ file. Damages file place)
 tell_damaged None recs at place opened fault = tt
 tell_damaged (Some file) recs at place opened fault =
     inr (record {
@@ -85,18 +85,18 @@ tell_damaged (Some file) recs at place opened fault =
     })
 
 pub tell_frames : (seen : Option (List ℕ)) (P Q : List ℕ → Type 0)
-    → ((file : List ℕ) → P file → Q file) → Tells seen P → Tells seen Q
+    → ((file : List ℕ) → P file → Q file) → IfKnown seen P → IfKnown seen Q
 tell_frames None P Q weaker told = tt
 tell_frames (Some file) P Q weaker told = weaker file told
 
 pub tell_all : (seen : Option (List ℕ)) (P : List ℕ → Type 0) → ((file : List ℕ) → P file)
-    → Tells seen P
+    → IfKnown seen P
 tell_all None P all = tt
 tell_all (Some file) P all = all file
 
 pub tell_untouched : (old new : Option (List ℕ)) (recs : List Rec) (at place : ℕ)
-    → Tells old (λ file. IsOpened file recs at)
-    → Told (λ o n. n ≡ opened_file o) old new → HasFaultAt (records_in recs) place → new ≡ old
+    → IfKnown old (λ file. IsOpened file recs at)
+    → BothKnown (λ o n. n ≡ opened_file o) old new → HasFaultAt (records_in recs) place → new ≡ old
 tell_untouched None None recs at place opened told fault = refl
 tell_untouched None (Some new) recs at place opened told fault = absurd told
 tell_untouched (Some file) None recs at place opened told fault = absurd told
@@ -104,8 +104,8 @@ tell_untouched (Some file) (Some new) recs at place opened told fault =
     ap Some (kept_file file new recs at place opened told fault)
 
 pub tell_cost : (seen : Option (List ℕ)) (recs : List Rec) (at old new : ℕ)
-    → Tells seen (λ file. IsOpened file recs at) → new ≤ old + length recs
-    → Tells seen (λ file. (records : List Record) → StandsFor file records
+    → IfKnown seen (λ file. IsOpened file recs at) → new ≤ old + length recs
+    → IfKnown seen (λ file. (records : List Record) → StandsFor file records
     → new ≤ old + length records)
 tell_cost None recs at old new opened cost = tt
 tell_cost (Some file) recs at old new opened cost = λ records stands.
@@ -118,29 +118,29 @@ tell_cost (Some file) recs at old new opened cost = λ records stands.
     )
 
 pub tell_cost_open : (seen : Option (List ℕ)) (recs : List Rec) (at old new : ℕ)
-    → Tells seen (λ file. IsOpened file recs at)
+    → IfKnown seen (λ file. IsOpened file recs at)
     → ((log : List LogRecord) → records_in recs ≡ records_of log → new ≤ old + replayed_of log)
-    → Tells seen (λ file. (log : List LogRecord) → Opens file log → new ≤ old + replayed_of log)
+    → IfKnown seen (λ file. (log : List LogRecord) → Opens file log → new ≤ old + replayed_of log)
 tell_cost_open None recs at old new opened cost = tt
 tell_cost_open (Some file) recs at old new opened cost = λ log opens.
     cost log (sym (opened_records file (records_of log) recs at opens.stands opened))
 
 pub stands_as : (d : Meaning) (seen : Option (List ℕ)) (recs : List Rec) (at : ℕ) (file : List ℕ)
     (log : List LogRecord) → seen ≡ Some file
-    → Tells seen (λ f. IsOpened f recs at) → Opens file log → Stands d at (records_in recs)
+    → IfKnown seen (λ f. IsOpened f recs at) → Opens file log → Stands d at (records_in recs)
     → Stands d at (records_of log)
 stands_as d seen recs at file log is opened opens stands =
-    let here : IsOpened file recs at = subst (λ s. Tells s (λ f. IsOpened f recs at)) is opened in
+    let here : IsOpened file recs at = subst (λ s. IfKnown s (λ f. IsOpened f recs at)) is opened in
     subst (Stands d at) (sym (opened_records file (records_of log) recs at opens.stands here))
     stands
 
 -- what a read then gives holds these records
 pub holds_as : (old new : Meaning) (recs : List Rec) (at : ℕ) (file : List ℕ) (log : List LogRecord)
-    → old.seen ≡ Some file → Tells old.seen (λ f. IsOpened f recs at)
-    → Told (λ o n. n ≡ opened_file o) old.seen new.seen → Opens file log
+    → old.seen ≡ Some file → IfKnown old.seen (λ f. IsOpened f recs at)
+    → BothKnown (λ o n. n ≡ opened_file o) old.seen new.seen → Opens file log
     → HoldsAt new at (records_of log)
 holds_as old new recs at file log is opened told opens =
-    let here : IsOpened file recs at = subst (λ s. Tells s (λ f. IsOpened f recs at)) is opened in
+    let here : IsOpened file recs at = subst (λ s. IfKnown s (λ f. IsOpened f recs at)) is opened in
     held_opened old new at file (records_of log) is told opens.stands
     (gate_is file recs at log here (sym (opened_records file (records_of log) recs at opens.stands
     here)))

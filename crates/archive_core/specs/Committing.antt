@@ -53,15 +53,15 @@ Commits past command at limit old (Err Disk) new = (commit_fault past at limit c
 Commits past command at limit old (Err Broken) new = new ≡ old
 Commits past command at limit old (Err NoMemory) new = IsUnchanged past old new
 
--- a command that is accepted was judged, and this was found; another is refused by its first
+-- a command that is accepted was checked, and this was found; another is refused by its first
 -- refusal
-abbrev pub IsCommandJudged : Past → PlainCommand → Result (AcceptedCommand × Sealed) CommitFault
+abbrev pub IsCommandChecked : Past → PlainCommand → Result (AcceptedCommand × Sealed) CommitFault
     → Type 0
-IsCommandJudged past command (Ok it) = IsAcceptedAfter past it.0
-IsCommandJudged past command (Err (Refused r)) = command_fault past command ≡ Some r
-IsCommandJudged past command (Err Disk) = ⊥
-IsCommandJudged past command (Err Broken) = ⊥
-IsCommandJudged past command (Err NoMemory) = ⊤
+IsCommandChecked past command (Ok it) = IsAcceptedAfter past it.0
+IsCommandChecked past command (Err (Refused r)) = command_fault past command ≡ Some r
+IsCommandChecked past command (Err Disk) = ⊥
+IsCommandChecked past command (Err Broken) = ⊥
+IsCommandChecked past command (Err NoMemory) = ⊤
 
 -- a record that fits is put, or else the disk fails; another is refused
 abbrev pub IsPut : Record → ℕ → ℕ → Result (Unit {0}) CommitFault → Type 0

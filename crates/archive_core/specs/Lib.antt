@@ -1,6 +1,6 @@
-pub mod Readiness
+pub mod NextRecord
 pub mod Fields
-pub mod Holding
+pub mod DiskReads
 pub mod Putting
 pub mod Committing
 pub mod Checkpointing

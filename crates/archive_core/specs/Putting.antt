@@ -1,13 +1,13 @@
 -- What a call on an archive leaves on the disk that puts a record, by its answer.
 use Rattle.std.specs.Prelude.{◌≡◌, ℕ, ◌+◌, List, ◌++◌, ◌∷◌, [], IfErr, OnOk, Result, Err}
 use Rattle.prima_io.specs.Causes.{Rose}
-use Rattle.disk_model.specs.Meaning.{Told}
+use Rattle.disk_model.specs.Meaning.{BothKnown}
 use Rattle.disk_model.specs.declared.disk.Disk.{Ghosts}
 use Rattle.journal.specs.Puts.{Puts, Acknowledges}
 use Rattle.journal.specs.Records.{Record}
 use Rattle.journal.specs.JournalFiles.{needs, with_record}
 use Rattle.archive_core.specs.Fields.{disk_of, below, place_of}
-use Rattle.archive_core.specs.Holding.{HoldsAt}
+use Rattle.archive_core.specs.DiskReads.{HoldsAt}
 use Rattle.archive_core.specs.declared.archive.Archive.{Archive}
 use Rattle.archive_core.specs.declared.fault.CommitFault.{CommitFault}
 use Rattle.archive_core.specs.declared.fault.CommitFault.TheVariants.{Disk}
@@ -29,7 +29,7 @@ module _ {D : Type 0} {g : Ghosts D} where
 
     -- after Ok a read gives the file with the record, where the disk tells it
     abbrev pub WritesRecord : Record → Result T CommitFault → Archive D g → Archive D g → Type 0
-    WritesRecord r answer old new = OnOk answer (Told (λ before after.
+    WritesRecord r answer old new = OnOk answer (BothKnown (λ before after.
         after ≡ with_record before (place_of old) r) (below old).seen (below new).seen)
 
     -- after Ok a read gives the records before and this one

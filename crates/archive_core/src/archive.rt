@@ -2,7 +2,7 @@ ghost use Rattle.std.specs.Prelude.{◌≡◌, ◌⊎◌, ◌+◌, ◌-◌, ◌^
 ghost use Rattle.std.specs.Prelude.{List, length, min, Some, Err, true, false, IfOk, IfErr, OnOk};
 ghost use Rattle.relations_spec.specs.Sets.{In};
 ghost use Rattle.prima_io.specs.Causes.{Rose};
-ghost use Rattle.disk_model.specs.Meaning.{Tells, Told};
+ghost use Rattle.disk_model.specs.Meaning.{IfKnown, BothKnown};
 ghost use Rattle.disk_model.specs.Moments.{GoesOn};
 ghost use Rattle.smo_ops_types.specs.Commands.{command_of};
 ghost use Rattle.smo_ops_spec.specs.Past.{Past};
@@ -16,19 +16,19 @@ ghost use Rattle.archive_core_file_spec.specs.LogRecords.{LogRecord, logged, rec
 ghost use Rattle.archive_core_file_spec.specs.LogRecords.{replayed_of};
 ghost use Rattle.archive_core_file_spec.specs.Opening.{Opens, Damages};
 ghost use Rattle.archive_core_state.specs.ArchiveContents.{RepresentsPast, RepresentsSome};
-ghost use Rattle.version_groups.specs.Judged.{judged_command, IsCommandAccepted};
+ghost use Rattle.version_groups.specs.CheckedCommands.{checked_command, IsCommandAccepted};
 ghost use Rattle.archive_core_state.specs.Asking.{IsAsked, IsExplained, TellsWayBack, ArePiecesOf};
 ghost use Rattle.archive_core_state.specs.Asking.{query_asked, pieces_told, IsKeptOfList};
 ghost use Rattle.archive_core_state.specs.Asking.{IsNotRefused};
 ghost use Rattle.piece_ir.specs.ExplainedPieces.{PlainExplained};
 ghost use Rattle.query_exec.specs.Borrowed.{BorrowedByBranch, AreSpared, AreBorrowedBy};
 ghost use Rattle.query_exec.specs.Reads.{explained_read, reads_of};
-ghost use Rattle.archive_core.specs.Readiness.{HasGateUnless, gate_once};
+ghost use Rattle.archive_core.specs.NextRecord.{HasGateUnless, gate_once};
 ghost use Rattle.archive_core.specs.declared.fault.CommitFault.TheVariants as fault;
 ghost use Rattle.archive_core.specs.declared.fault.MountFault.TheVariants as mounting;
 
 use crate::fault::{fault_of_journal, fault_of_restoring};
-use crate::preparation::{judge_and_seal, seal_checkpoint};
+use crate::preparation::{check_and_seal, seal_checkpoint};
 use crate::{AskFault, CommitFault, MountFault};
 use answer_text::Listing;
 use archive_core_replay::{Opened, restore};
@@ -43,7 +43,7 @@ use std::alloc::Global;
 use std::sync::ledger::Ledger;
 use store_image::an_image_shows_its_archive;
 use temporal_lang::Query;
-use version_groups::{Groups, Judged};
+use version_groups::{CheckedCommand, Groups};
 
 /// An archive whose accepted commands stand as records in a journal on a disk, and in memory as the
 /// past that they make.
@@ -62,7 +62,7 @@ impl<D: Disk> Archive<D> {
     ghost use Rattle.archive_core.specs.Fields.{standing_of, disk_of, below, place_of, limit_of};
     ghost use Rattle.archive_core.specs.Fields.{is_broken};
     ghost use Rattle.archive_core.specs.Committing.{Commits, IsPut};
-    ghost use Rattle.archive_core.specs.Holding.{HoldsAt};
+    ghost use Rattle.archive_core.specs.DiskReads.{HoldsAt};
     ghost use Rattle.archive_core.specs.Putting.{PutsRecord, LeavesDisk, MovesGate, WritesRecord};
     ghost use Rattle.archive_core.specs.Putting.{HoldsRecord, KeepsRecord, IsDisksFault};
     ghost use Rattle.archive_core.specs.Putting.{IsUnfailed};
@@ -76,7 +76,7 @@ impl<D: Disk> Archive<D> {
     /// commands. It begins with a sync. A file of at most nine bytes is made the empty journal; any
     /// other is read alone. A limit of `u64::MAX` bytes counts as one less. `Disk` comes only where
     /// the disk's count of faults rose, and `Damaged` exactly where the file is damaged, with the
-    /// place: its frames are judged first, then each payload, then each command after the last
+    /// place: its frames are checked first, then each payload, then each command after the last
     /// image. A fault hands the disk back as it then stands. It takes at most one step for each
     /// command after the last image, whatever it answers; over a damaged file at most one for each
     /// record.
@@ -86,12 +86,12 @@ impl<D: Disk> Archive<D> {
         limit: u64,
         steps: &mut Steps<L>,
     ) -> Result<(Archive<D>, Opened), (D, MountFault)>
-        ensures opened { IfOk result (λ it. Tells (D.meaning disk).seen
+        ensures opened { IfOk result (λ it. IfKnown (D.meaning disk).seen
             (λ file. IsMounted file (standing_of it.0) (place_of it.0) it.1)) }
         ensures represents { IfOk result (λ it. RepresentsSome (standing_of it.0)) }
         ensures limit { IfOk result (λ it. limit_of it.0 ≡ min limit (2 ^ 64 - 2)) }
         ensures whole { IfOk result (λ it. is_broken it.0 ≡ false) }
-        ensures file { IfOk result (λ it. Told (λ old new. new ≡ opened_file old)
+        ensures file { IfOk result (λ it. BothKnown (λ old new. new ≡ opened_file old)
             (D.meaning disk).seen (below it.0).seen) }
         ensures stands { IfOk result (λ it. (file : List ℕ) (log : List LogRecord)
             → IsTrue (D.meaning disk).is_honest → (D.meaning disk).seen ≡ Some file
@@ -106,7 +106,7 @@ impl<D: Disk> Archive<D> {
             ((it.1 ≡ mounting.Disk) × IsNotSynced (D.meaning disk) (D.meaning it.0))
             ⊎ KeepsFile (D.meaning disk) (D.meaning it.0)) }
         ensures damaged { IfErr result (λ it. (place : ℕ) → it.1 ≡ mounting.Damaged place
-            → Tells (D.meaning disk).seen (λ file. Damages file place)) }
+            → IfKnown (D.meaning disk).seen (λ file. Damages file place)) }
         ensures untouched { IfErr result (λ it. (place : ℕ) → it.1 ≡ mounting.Damaged place
             → (D.meaning it.0).seen ≡ (D.meaning disk).seen) }
         ensures cause { IfErr result (λ it. it.1 ≡ mounting.Disk
@@ -114,9 +114,9 @@ impl<D: Disk> Archive<D> {
         ensures unfailed { IfOk result (λ it. (below it.0).faults ≡ (D.meaning disk).faults) }
         ensures unfailed_err { IfErr result (λ it. (it.1 ≡ mounting.Disk → ⊥)
             → (D.meaning it.0).faults ≡ (D.meaning disk).faults) }
-        ensures cost { Tells (D.meaning disk).seen (λ file. (records : List Record)
+        ensures cost { IfKnown (D.meaning disk).seen (λ file. (records : List Record)
             → StandsFor file records → steps.new ≤ steps.old + length records) }
-        ensures cost_open { Tells (D.meaning disk).seen (λ file. (log : List LogRecord)
+        ensures cost_open { IfKnown (D.meaning disk).seen (λ file. (log : List LogRecord)
             → Opens file log → steps.new ≤ steps.old + replayed_of log) }
         ensures steps { IfOk result (λ it. steps.new ≤ steps.old + it.1.replayed) }
     {
@@ -164,8 +164,8 @@ impl<D: Disk> Archive<D> {
             result self.old self.new }
         ensures holds { HoldsRecord (record_of (logged (command_of command)))
             result self.old self.new }
-        ensures spelled { OnOk result (IsCommand (command_of command)) }
-        ensures spelled_so_far { result ≡ Err fault.Disk → IsCommand (command_of command) }
+        ensures encoded { OnOk result (IsCommand (command_of command)) }
+        ensures encoded_so_far { result ≡ Err fault.Disk → IsCommand (command_of command) }
         ensures cause { IsDisksFault result self.old self.new }
         ensures unfailed { IsUnfailed result self.old self.new }
         ensures puts { PutsRecord (record_of (logged (command_of command))) self.old self.new }
@@ -177,21 +177,24 @@ impl<D: Disk> Archive<D> {
             let _last = self.state.last();
             return Err(CommitFault::Broken);
         }
-        let (accepted, sealed) = judge_and_seal(self.alloc, &self.state, command)?;
+        let (accepted, sealed) = check_and_seal(self.alloc, &self.state, command)?;
         match accepted {
             AcceptedCommand::Changes {
                 stamp,
                 changes,
                 places,
             } => {
-                let judged = Judged::Changes {
+                let checked = CheckedCommand::Changes {
                     stamp,
                     changes: &changes,
                     places,
                 };
-                self.accept(judged, &sealed)
+                self.accept(checked, &sealed)
             }
-            AcceptedCommand::Evolve(version) => self.accept(Judged::Evolve(version), &sealed),
+            AcceptedCommand::Evolve(version) => self.accept(
+                CheckedCommand::Evolve(version),
+                &sealed,
+            ),
         }
     }
 
@@ -306,17 +309,17 @@ impl<D: Disk> Archive<D> {
         self.journal.into_disk()
     }
 
-    // Makes a command ready that was judged and is accepted, puts its record, and carries it out.
-    fn accept(&mut self, judged: Judged<'_>, sealed: &Sealed) -> Result<Done, CommitFault>
+    // Makes a command ready that was checked and is accepted, puts its record, and carries it out.
+    fn accept(&mut self, checked: CheckedCommand<'_>, sealed: &Sealed) -> Result<Done, CommitFault>
         requires whole { is_broken self.old ≡ false }
         requires accepted { (past : Past) × RepresentsPast (standing_of self.old) past
-            × IsCommandAccepted past judged }
-        requires sealed { sealed_record sealed.now ≡ record_of (logged (judged_command judged)) }
+            × IsCommandAccepted past checked }
+        requires sealed { sealed_record sealed.now ≡ record_of (logged (checked_command checked)) }
         ensures breaks { (is_broken self.new ≡ true) ↔ (result ≡ Err fault.Disk) }
         ensures unbroken { result ≡ Err fault.Broken → ⊥ }
         ensures commits { (past : Past) → RepresentsPast (standing_of self.old) past
-            → IsCommandAccepted past judged.entry
-            → Commits past (judged_command judged.entry) (place_of self.old) (limit_of self.old)
+            → IsCommandAccepted past checked.entry
+            → Commits past (checked_command checked.entry) (place_of self.old) (limit_of self.old)
             (standing_of self.old) result (standing_of self.new) }
         ensures represents { RepresentsSome (standing_of self.new) }
         ensures untouched { LeavesDisk result self.old self.new }
@@ -329,9 +332,9 @@ impl<D: Disk> Archive<D> {
         ensures puts { PutsRecord (sealed_record sealed.now) self.old self.new }
         ensures acknowledged { KeepsRecord (sealed_record sealed.now) result self.old self.new }
     {
-        let prepared = self.state.prepare(judged)?;
+        let prepared = self.state.prepare(checked)?;
         self.put(sealed)?;
-        Ok(self.state.carry_out(prepared))
+        Ok(self.state.apply(prepared))
     }
 
     // Puts a record after the others. What stands in memory stays as it is.

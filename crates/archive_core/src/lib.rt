@@ -1,7 +1,7 @@
 //! The archive on a disk: what it has accepted stands in memory (archive_core_state), and as
 //! records in a journal that may stop at any moment (journal).
 //!
-//! A command is judged, made ready, written as bytes and sealed before the first call of the
+//! A command is checked, made ready, written as bytes and sealed before the first call of the
 //! device; then its record is put, and then it is carried out, which cannot fail. So the file and
 //! the memory go on together: what stands in memory is always the past of the file's records, or,
 //! after a disk failed, of these but for the last.

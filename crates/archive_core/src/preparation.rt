@@ -4,13 +4,13 @@ ghost use Rattle.std.specs.Prelude.{◌≡◌, ◌<◌, IfOk, OnOk};
 ghost use Rattle.relations_spec.specs.Spans.{forever};
 ghost use Rattle.smo_ops_types.specs.Commands.{command_of};
 ghost use Rattle.smo_ops_spec.specs.Past.{Past};
-ghost use Rattle.command_codec_spec.specs.Found.{Spells};
+ghost use Rattle.command_codec_spec.specs.Found.{Encodes};
 ghost use Rattle.command_codec_spec.specs.Valid.{IsCommand, IsWritable};
 ghost use Rattle.journal.specs.JournalFiles.{sealed_record};
 ghost use Rattle.archive_core_state.specs.AcceptedCommands.{accepted_command};
 ghost use Rattle.archive_core_state.specs.ArchiveContents.{RepresentsPast, RepresentsSome};
 ghost use Rattle.archive_core_file_spec.specs.LogRecords.{logged, record_of};
-ghost use Rattle.archive_core.specs.Committing.{IsCommandJudged};
+ghost use Rattle.archive_core.specs.Committing.{IsCommandChecked};
 ghost use Rattle.archive_core.specs.Checkpointing.{checkpoint_of};
 ghost use Rattle.store_image.specs.ImageIn.{GroupsHold};
 
@@ -25,10 +25,10 @@ use std::alloc::Global;
 use store_image::image_of;
 
 // The spelling of an accepted command.
-fn spelled(alloc: Global, accepted: &AcceptedCommand) -> Result<Vec<u8>, NoMemory>
+fn encoded(alloc: Global, accepted: &AcceptedCommand) -> Result<Vec<u8>, NoMemory>
     requires valid { (accepted_command accepted.now).stamp < forever }
     requires writable { IsWritable (accepted_command accepted.now) }
-    ensures { IfOk result (λ v. Spells (accepted_command accepted.now) v.items) }
+    ensures { IfOk result (λ v. Encodes (accepted_command accepted.now) v.items) }
 {
     match accepted {
         AcceptedCommand::Changes { stamp, changes, .. } => encode_changes(alloc, *stamp, changes),
@@ -44,28 +44,28 @@ fn seal(alloc: Global, accepted: &AcceptedCommand) -> Result<Sealed, NoMemory>
     requires writable { IsWritable (accepted_command accepted.now) }
     ensures sealed { IfOk result (λ s. sealed_record s
         ≡ record_of (logged (accepted_command accepted.now))) }
-    ensures spelled { OnOk result (IsCommand (accepted_command accepted.now)) }
+    ensures encoded { OnOk result (IsCommand (accepted_command accepted.now)) }
 {
-    let bytes = spelled(alloc, accepted)?;
+    let bytes = encoded(alloc, accepted)?;
     Sealed::new(alloc, COMMAND, &bytes)
 }
 
-/// Judges the command, and seals the record of an accepted one, which is answered with what judging
-/// found. No device is called, and what stands in memory stays as it is.
-pub(crate) fn judge_and_seal(
+/// Checks the command, and seals the record of an accepted one, which is answered with what
+/// checking found. No device is called, and what stands in memory stays as it is.
+pub(crate) fn check_and_seal(
     alloc: Global,
     state: &ArchiveState,
     command: Command,
 ) -> Result<(AcceptedCommand, Sealed), CommitFault>
     ensures same { IfOk result (λ it. accepted_command it.0 ≡ command_of command) }
-    ensures judged { (past : Past) → RepresentsPast state.now past
-        → IsCommandJudged past (command_of command) result }
+    ensures checked { (past : Past) → RepresentsPast state.now past
+        → IsCommandChecked past (command_of command) result }
     ensures sealed { IfOk result (λ it. sealed_record it.1
         ≡ record_of (logged (command_of command))) }
-    ensures spelled { OnOk result (IsCommand (command_of command)) }
+    ensures encoded { OnOk result (IsCommand (command_of command)) }
     ensures represents { RepresentsSome state.now }
 {
-    match state.judge(command) {
+    match state.check(command) {
         Ok(accepted) => {
             accepted_commands_can_be_written();
             let sealed = seal(alloc, &accepted)?;

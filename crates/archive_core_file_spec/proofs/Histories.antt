@@ -38,11 +38,11 @@ some_before a c xs none some prefix =
     let e : (has_image a || has_image xs) ≡ true = sym (images_append a (logged c ∷ xs)) ∙ some in
     let f : (has_image a || has_image xs) ≡ false = (λ i. prefix i || none i) in cc
 
-pub judged : (past : Past) (records : List LogRecord) → AreAccepted past records
+pub checked : (past : Past) (records : List LogRecord) → AreAccepted past records
     ⊎ Stops past records
-judged past [] = inl tt
-judged past (checkpointed i ∷ records) = ⊎_elim (λ all. inl all) (λ stops. inr (further stops))
-    (judged (image_past past.commands i) records)
+checked past [] = inl tt
+checked past (checkpointed i ∷ records) = ⊎_elim (λ all. inl all) (λ stops. inr (further stops))
+    (checked (image_past past.commands i) records)
   where
     further : Stops (image_past past.commands i) records → Stops past (checkpointed i ∷ records)
     further stops = record {
@@ -55,7 +55,8 @@ judged past (checkpointed i ∷ records) = ⊎_elim (λ all. inl all) (λ stops.
       refusal = stops.refusal;
       refused = stops.refused;
     }
-judged past (logged c ∷ records) = by_image (judged (past_with past c) records) (has_image records)
+checked past (logged c ∷ records) = by_image (checked (past_with past c) records)
+    (has_image records)
     refl
   where
     further : (stops : Stops (past_with past c) records)

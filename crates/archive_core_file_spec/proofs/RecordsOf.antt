@@ -3,17 +3,17 @@ use Rattle.std.proofs.Common.{◌≡◌, ◌⊎◌, inl, inr, ℕ, ◌-◌, List
 use Rattle.std.proofs.Common.{ap, ◌∙◌, arith, IsTrue}
 use Rattle.journal.specs.Records.{Record, is_known}
 use Rattle.smo_ops_types.specs.Commands.{PlainCommand}
-use Rattle.command_codec_spec.specs.Spelling.{command_bytes}
+use Rattle.command_codec_spec.specs.Encoding.{command_bytes}
 use Rattle.command_codec_spec.specs.Valid.{IsCommand}
 use Rattle.command_codec_spec.specs.Found.{Decoding, IsDecoding, bad_at, rest_at, whole}
 use Rattle.command_codec_spec.specs.Reading.{Out, Parsed, Unexpected}
 use Rattle.command_codec_spec.proofs.Deciding.{decoded, decoding_once, its_own}
 use Rattle.store_image_spec.specs.Images.{Image, IsImage}
-use Rattle.store_image_spec.specs.Spelling.{image_bytes}
+use Rattle.store_image_spec.specs.Encoding.{image_bytes}
 use Rattle.store_image_spec.specs.Reader as reader
 use Rattle.archive_core_file_spec.specs.LogRecords.{LogRecord, logged, checkpointed, record_of}
 use Rattle.archive_core_file_spec.specs.LogRecords.{records_of}
-use Rattle.archive_core_file_spec.specs.LogRecords.{IsSpelled, AreSpelled}
+use Rattle.archive_core_file_spec.specs.LogRecords.{IsEncoded, AreEncoded}
 use Rattle.archive_core_file_spec.specs.Opening.{IsNoCommandAt, IsNoImageAt, IsRefusedAt}
 
 -- what is read is an image, of just these bytes
@@ -94,7 +94,7 @@ tail_records r s xs ys e = cc
 
 module _ (reads : ReadsAll) where
   -- what is spelled is refused nowhere
-  pub never_refused : (l : LogRecord) (r : Record) (place : ℕ) → r ≡ record_of l → IsSpelled l
+  pub never_refused : (l : LogRecord) (r : Record) (place : ℕ) → r ≡ record_of l → IsEncoded l
       → IsRefusedAt r place → ⊥
   never_refused (logged c) r place e is (inl h) =
       no_command_refused c place r.1 (payload_is r (logged c) e) is h.1
@@ -110,7 +110,7 @@ module _ (reads : ReadsAll) where
       ∙ ap (λ (l : List ℕ). reader.image l) e ∙ reads j is_j)
 
   -- a record stands for one thing
-  one_record : (k l : LogRecord) → IsSpelled k → IsSpelled l → record_of k ≡ record_of l → k ≡ l
+  one_record : (k l : LogRecord) → IsEncoded k → IsEncoded l → record_of k ≡ record_of l → k ≡ l
   one_record (logged c) (logged d) is_k is_l e =
       let same : c ≡ d = its_own c d (command_bytes c) (is_k, refl)
       (is_l, ap (λ (r : Record). r.1) e) in ap logged same
@@ -122,7 +122,7 @@ module _ (reads : ReadsAll) where
       ap checkpointed (one_image i j is_k is_l (ap (λ (r : Record). r.1) e))
 
   -- records stand for one list of these
-  pub same_records : (a b : List LogRecord) → AreSpelled a → AreSpelled b
+  pub same_records : (a b : List LogRecord) → AreEncoded a → AreEncoded b
       → records_of a ≡ records_of b → a ≡ b
   same_records [] [] are_a are_b e = refl
   same_records [] (l ∷ b) are_a are_b e = absurd (cc)
@@ -136,7 +136,7 @@ module _ (reads : ReadsAll) where
 
   -- the first payload that is none of its kind is one, and so are the records before it
   pub one_payload : (a b : List LogRecord) (p q : Record) (xs ys : List Record) (i j : ℕ)
-      → AreSpelled a → AreSpelled b → IsRefusedAt p i → IsRefusedAt q j
+      → AreEncoded a → AreEncoded b → IsRefusedAt p i → IsRefusedAt q j
       → records_of a ++ p ∷ xs ≡ records_of b ++ q ∷ ys → (a ≡ b) × (p ≡ q)
   one_payload [] [] p q xs ys i j are_a are_b bad_p bad_q e = (refl, head_record p q xs ys e)
   one_payload [] (l ∷ b) p q xs ys i j are_a are_b bad_p bad_q e =
@@ -155,7 +155,7 @@ module _ (reads : ReadsAll) where
       ((λ i. first i ∷ others.0 i), others.1)
 
   -- where all are spelled, there is none such
-  pub no_payload : (a b : List LogRecord) (p : Record) (xs : List Record) (i : ℕ) → AreSpelled a
+  pub no_payload : (a b : List LogRecord) (p : Record) (xs : List Record) (i : ℕ) → AreEncoded a
       → IsRefusedAt p i → records_of a ≡ records_of b ++ p ∷ xs → ⊥
   no_payload [] [] p xs i are bad e = cc
   no_payload [] (l ∷ b) p xs i are bad e = cc
@@ -168,7 +168,7 @@ module _ (reads : ReadsAll) where
 -- ---- what a record stands for
 
 abbrev pub IsRead : Record → Type 0
-IsRead r = ((l : LogRecord) × IsSpelled l × (r ≡ record_of l)) ⊎ ((place : ℕ) × IsRefusedAt r place)
+IsRead r = ((l : LogRecord) × IsEncoded l × (r ≡ record_of l)) ⊎ ((place : ℕ) × IsRefusedAt r place)
 
 command_read : (r : Record) → r.0 ≡ 1 → (d : Decoding) → IsDecoding r.1 d → IsRead r
 command_read r kind (whole c) is = inl (logged c, is.0, λ i. (kind i, is.1 i))

@@ -6,10 +6,10 @@ use Rattle.std.specs.List.{AllByRecursion}
 use Rattle.smo_ops_types.specs.Commands.{PlainCommand}
 use Rattle.smo_ops_spec.specs.Accepts.{command_fault}
 use Rattle.smo_ops_spec.specs.Past.{Past, beginning, past_with}
-use Rattle.command_codec_spec.specs.Spelling.{command_bytes}
+use Rattle.command_codec_spec.specs.Encoding.{command_bytes}
 use Rattle.command_codec_spec.specs.Valid.{IsCommand}
 use Rattle.store_image_spec.specs.Images.{Image, IsImage}
-use Rattle.store_image_spec.specs.Spelling.{image_bytes}
+use Rattle.store_image_spec.specs.Encoding.{image_bytes}
 use Rattle.store_image_spec.specs.ShownPast.{image_past}
 use Rattle.journal.specs.Records.{Record, before_gate}
 
@@ -31,12 +31,12 @@ abbrev pub gate_after : List LogRecord → ℕ
 gate_after records = length (before_gate (records_of records))
 
 -- it has a spelling
-abbrev pub IsSpelled : LogRecord → Type 0
-IsSpelled (logged command) = IsCommand command
-IsSpelled (checkpointed image) = IsImage image
+abbrev pub IsEncoded : LogRecord → Type 0
+IsEncoded (logged command) = IsCommand command
+IsEncoded (checkpointed image) = IsImage image
 
-abbrev pub AreSpelled : List LogRecord → Type 0
-AreSpelled records = AllByRecursion IsSpelled records
+abbrev pub AreEncoded : List LogRecord → Type 0
+AreEncoded records = AllByRecursion IsEncoded records
 
 -- all commands, in order
 abbrev pub commands_in : List LogRecord → List PlainCommand

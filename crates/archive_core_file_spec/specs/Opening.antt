@@ -11,7 +11,7 @@ use Rattle.store_image_spec.specs.Reader as reader
 use Rattle.journal.specs.Records.{Record, StandsFor}
 use Rattle.journal.specs.Damage.{IsDamagedAt}
 use Rattle.archive_core_file_spec.specs.LogRecords.{LogRecord, logged, records_of, gate_after}
-use Rattle.archive_core_file_spec.specs.LogRecords.{AreSpelled}
+use Rattle.archive_core_file_spec.specs.LogRecords.{AreEncoded}
 use Rattle.archive_core_file_spec.specs.LogRecords.{has_image, past_recorded, AreAccepted, AreSound}
 
 -- the bytes are no command's, at this place in them
@@ -30,12 +30,12 @@ IsRefusedAt r place = ((r.0 ≡ 1) × IsNoCommandAt r.1 place) ⊎ ((r.0 ≡ 2) 
 
 -- after records that are spelled stands one whose payload is none of its kind: the file is damaged
 -- where this is refused
-pub record HasNoSpellingAt (records : List Record) (place : ℕ) : Type 0 where
+pub record HasNoEncodingAt (records : List Record) (place : ℕ) : Type 0 where
   pub before : List LogRecord
   pub refused : Record
   pub after : List Record
   pub records_are : records ≡ records_of before ++ refused ∷ after
-  pub spelled : AreSpelled before
+  pub encoded : AreEncoded before
   pub within : ℕ
   pub is_refused : IsRefusedAt refused within
   pub place_is : place ≡ gate_after before + 10 + within
@@ -47,7 +47,7 @@ pub record HasRefusedAt (records : List Record) (place : ℕ) : Type 0 where
   pub command : PlainCommand
   pub after : List LogRecord
   pub records_are : records ≡ records_of (before ++ logged command ∷ after)
-  pub spelled : AreSpelled (before ++ logged command ∷ after)
+  pub encoded : AreEncoded (before ++ logged command ∷ after)
   pub accepted : AreAccepted beginning before
   pub no_image : has_image after ≡ false
   pub refusal : Refusal
@@ -56,7 +56,7 @@ pub record HasRefusedAt (records : List Record) (place : ℕ) : Type 0 where
 
 -- a file of whole records is damaged by a payload, and where there is none such, by a command
 abbrev pub HasFaultAt : List Record → ℕ → Type 0
-HasFaultAt records place = HasNoSpellingAt records place ⊎ HasRefusedAt records place
+HasFaultAt records place = HasNoEncodingAt records place ⊎ HasRefusedAt records place
 
 pub record IsFaultyAt (file : List ℕ) (place : ℕ) : Type 0 where
   pub records : List Record
@@ -71,12 +71,12 @@ Damages file place = IsDamagedAt file place ⊎ IsFaultyAt file place
 -- those before it
 pub record Opens (file : List ℕ) (records : List LogRecord) : Type 0 where
   pub stands : StandsFor file (records_of records)
-  pub spelled : AreSpelled records
+  pub encoded : AreEncoded records
   pub accepted : AreAccepted beginning records
 
 -- it is sound where each command is accepted after those before it, and each image shows just the
 -- past of the commands before it
 pub record IsSound (file : List ℕ) (records : List LogRecord) : Type 0 where
   pub stands : StandsFor file (records_of records)
-  pub spelled : AreSpelled records
+  pub encoded : AreEncoded records
   pub sound : AreSound beginning records

@@ -19,10 +19,10 @@ use Rattle.journal.specs.Reading.{records_in, record_of as plain_record, AreInPl
 use Rattle.journal.specs.declared.rec.Rec.{Rec}
 use Rattle.archive_core_file_spec.specs.LogRecords.{LogRecord, logged, checkpointed, record_of}
 use Rattle.archive_core_file_spec.specs.LogRecords.{records_of}
-use Rattle.archive_core_file_spec.specs.LogRecords.{gate_after, IsSpelled, AreSpelled, commands_in}
+use Rattle.archive_core_file_spec.specs.LogRecords.{gate_after, IsEncoded, AreEncoded, commands_in}
 use Rattle.archive_core_file_spec.specs.LogRecords.{replayed_in, after_records, past_recorded}
 use Rattle.archive_core_file_spec.specs.LogRecords.{AreAccepted}
-use Rattle.archive_core_file_spec.specs.Opening.{HasNoSpellingAt}
+use Rattle.archive_core_file_spec.specs.Opening.{HasNoEncodingAt}
 use Rattle.archive_core_file_spec.proofs.Records.{after_append, after_commands, after_image}
 use Rattle.archive_core_file_spec.proofs.Records.{accepted_append}
 use Rattle.archive_core_file_spec.proofs.Records.{accepted_commands, accepted_image, no_images}
@@ -31,18 +31,18 @@ use Rattle.archive_core_file_spec.proofs.Records.{replayed_after}
 use Rattle.archive_core_state.specs.ArchiveContents.{ArchiveContent, RepresentsPast}
 use Rattle.archive_core_replay.specs.declared.record_reader.ReadRecords.{ReadRecords}
 use Rattle.archive_core_replay.specs.Reading.{IsRefusedIn, EndsWithImage, commands_kept}
-use Rattle.archive_core_replay.specs.Reading.{AreJudged, AreKept, IsRead}
+use Rattle.archive_core_replay.specs.Reading.{AreChecked, AreKept, IsRead}
 use Rattle.archive_core_replay.proofs.Gates.{gate_of, ends_before}
 
 -- ---- lists of records
 
-pub spelled_append : (a b : List LogRecord) → AreSpelled a → AreSpelled b → AreSpelled (a ++ b)
-spelled_append [] b are_a are_b = are_b
-spelled_append (r ∷ a) b are_a are_b = (are_a.0, spelled_append a b are_a.1 are_b)
+pub encoded_append : (a b : List LogRecord) → AreEncoded a → AreEncoded b → AreEncoded (a ++ b)
+encoded_append [] b are_a are_b = are_b
+encoded_append (r ∷ a) b are_a are_b = (are_a.0, encoded_append a b are_a.1 are_b)
 
-pub spelled_prefix : (a b : List LogRecord) → AreSpelled (a ++ b) → AreSpelled a
-spelled_prefix [] b are = tt
-spelled_prefix (r ∷ a) b are = (are.0, spelled_prefix a b are.1)
+pub encoded_prefix : (a b : List LogRecord) → AreEncoded (a ++ b) → AreEncoded a
+encoded_prefix [] b are = tt
+encoded_prefix (r ∷ a) b are = (are.0, encoded_prefix a b are.1)
 
 pub commands_append : (a b : List LogRecord) → commands_in (a ++ b) ≡ commands_in a ++ commands_in b
 commands_append [] b = refl
@@ -86,31 +86,31 @@ log_with : (records : List Record) (log : List LogRecord) → records ≡ record
     → records ++ r ∷ [] ≡ records_of (log ++ l ∷ [])
 log_with records log are r l e = (λ i. are i ++ e i ∷ []) ∙ sym (map-append record_of log (l ∷ []))
 
--- records that are kept were judged
-pub kept_judged : (records : List Record) (kept : ReadRecords) → AreKept records kept
-    → AreJudged records kept.count
-kept_judged records kept is = record {
+-- records that are kept were checked
+pub kept_checked : (records : List Record) (kept : ReadRecords) → AreKept records kept
+    → AreChecked records kept.count
+kept_checked records kept is = record {
   log = is.prefix ++ map logged (commands_kept kept);
-  spelled =
-      is.spelled;
+  encoded =
+      is.encoded;
   records_are = is.records_are;
   counted = is.counted;
 }
 
-pub none_judged : (count : ℕ) → count ≡ 0 → AreJudged [] count
-none_judged count is = record { log = []; spelled = tt; records_are = refl; counted = is }
+pub none_checked : (count : ℕ) → count ≡ 0 → AreChecked [] count
+none_checked count is = record { log = []; encoded = tt; records_are = refl; counted = is }
 
-module _ (records : List Record) (count : ℕ) (judged : AreJudged records count) where
+module _ (records : List Record) (count : ℕ) (checked : AreChecked records count) where
   -- a command is counted
-  pub command_judged : (r : Record) (c : PlainCommand) → r ≡ record_of (logged c) → IsCommand c
-      → AreJudged (records ++ r ∷ []) (count + 1)
-  command_judged r c e is = record {
-    log = judged.log ++ logged c ∷ [];
-    spelled = spelled_append judged.log (logged c ∷ []) judged.spelled (is, tt);
-    records_are = log_with records judged.log judged.records_are r (logged c) e;
-    counted = ap (λ n. n + 1) judged.counted ∙ sym
-        (ap (λ (l : List PlainCommand). length l) (commands_append judged.log (logged c ∷ []))
-        ∙ length-append (commands_in judged.log) (c ∷ []));
+  pub command_checked : (r : Record) (c : PlainCommand) → r ≡ record_of (logged c) → IsCommand c
+      → AreChecked (records ++ r ∷ []) (count + 1)
+  command_checked r c e is = record {
+    log = checked.log ++ logged c ∷ [];
+    encoded = encoded_append checked.log (logged c ∷ []) checked.encoded (is, tt);
+    records_are = log_with records checked.log checked.records_are r (logged c) e;
+    counted = ap (λ n. n + 1) checked.counted ∙ sym
+        (ap (λ (l : List PlainCommand). length l) (commands_append checked.log (logged c ∷ []))
+        ∙ length-append (commands_in checked.log) (c ∷ []));
   }
 
   -- an image takes the place of what was kept
@@ -118,22 +118,22 @@ module _ (records : List Record) (count : ℕ) (judged : AreJudged records count
       → IsImage i → ((n : ℕ) → RepresentsPast new.state (image_past n i)) → new.commands.items ≡ []
       → new.count ≡ count → AreKept (records ++ r ∷ []) new
   image_kept new r i e is represents items same =
-      let prefix : List LogRecord = judged.log ++ checkpointed i ∷ [] in
+      let prefix : List LogRecord = checked.log ++ checkpointed i ∷ [] in
       let log : prefix ++ map logged (commands_kept new) ≡ prefix =
       ap (λ (l : List (ℕ × Body)). prefix ++ map logged (map command_of l)) items
       ∙ append-nil prefix in
-      let all : commands_in prefix ≡ commands_in judged.log =
-      commands_append judged.log (checkpointed i ∷ []) ∙ append-nil (commands_in judged.log) in
+      let all : commands_in prefix ≡ commands_in checked.log =
+      commands_append checked.log (checkpointed i ∷ []) ∙ append-nil (commands_in checked.log) in
       record {
         prefix = prefix;
-        ends = inr (judged.log, i, refl);
-        spelled = subst AreSpelled (sym log) (spelled_append judged.log (checkpointed i ∷ [])
-            judged.spelled (is, tt));
-        records_are = log_with records judged.log judged.records_are r (checkpointed i) e
+        ends = inr (checked.log, i, refl);
+        encoded = subst AreEncoded (sym log) (encoded_append checked.log (checkpointed i ∷ [])
+            checked.encoded (is, tt));
+        records_are = log_with records checked.log checked.records_are r (checkpointed i) e
             ∙ sym (ap records_of log);
-        represents = subst (RepresentsPast new.state) (sym (after_image beginning judged.log i))
-            (represents (past_recorded judged.log).commands);
-        counted = same ∙ judged.counted ∙ ap (λ (l : List PlainCommand). length l) (sym all)
+        represents = subst (RepresentsPast new.state) (sym (after_image beginning checked.log i))
+            (represents (past_recorded checked.log).commands);
+        counted = same ∙ checked.counted ∙ ap (λ (l : List PlainCommand). length l) (sym all)
             ∙ sym (ap (λ (l : List LogRecord). length (commands_in l)) log);
       }
 
@@ -164,8 +164,8 @@ module _ (records : List Record) (old new : ReadRecords) (kept : AreKept records
       record {
         prefix = kept.prefix;
         ends = kept.ends;
-        spelled = subst AreSpelled (sym log) (spelled_append whole (logged (command_of c) ∷ [])
-            kept.spelled (is, tt));
+        encoded = subst AreEncoded (sym log) (encoded_append whole (logged (command_of c) ∷ [])
+            kept.encoded (is, tt));
         records_are = log_with records whole kept.records_are r (logged (command_of c)) e
             ∙ sym (ap records_of log);
         represents = subst (λ (s : ArchiveContent). RepresentsPast s (past_recorded kept.prefix))
@@ -182,7 +182,7 @@ none_kept kept represents items count =
     ap (λ (l : List (ℕ × Body)). map logged (map command_of l)) items in record {
       prefix = [];
       ends = inl refl;
-      spelled = subst AreSpelled (sym log) tt;
+      encoded = subst AreEncoded (sym log) tt;
       records_are = sym (ap records_of log);
       represents = represents;
       counted = count ∙ sym (ap (λ (l : List LogRecord). length (commands_in l)) log);
@@ -190,10 +190,10 @@ none_kept kept represents items count =
 
 -- ---- in a list
 
--- so many records were read, the first of them before the last image: all are judged, and from the
+-- so many records were read, the first of them before the last image: all are checked, and from the
 -- last image on what it and the commands after it say is kept
 pub record AreReadTo (recs : List Rec) (before k : ℕ) (kept : ReadRecords) : Type 0 where
-  pub judged : AreJudged (take k (records_in recs)) kept.count
+  pub checked : AreChecked (take k (records_in recs)) kept.count
   pub after : (before ≡ 0) ⊎ (before < k) → AreKept (take k (records_in recs)) kept
 
 pub none_read : (recs : List Rec) (before : ℕ) (kept : ReadRecords)
@@ -201,7 +201,7 @@ pub none_read : (recs : List Rec) (before : ℕ) (kept : ReadRecords)
     → AreReadTo recs before 0 kept
 none_read recs before kept represents items count =
     record {
-      judged = none_judged kept.count count;
+      checked = none_checked kept.count count;
       after = λ h. none_kept kept represents items count;
     }
 
@@ -233,14 +233,14 @@ module _ (recs : List Rec) (before k : ℕ) (d : Rec) (old new : ReadRecords) (i
         (here.after (inl (omega (arith, none))))
     | inl some ↦ elim (cases_lt before k) [
       | inl lt ↦ reads.kept (after (omega (arith, lt))) known so_far (here.after (inr lt))
-      | inr le ↦ reads.image (kind_is some le h) so_far here.judged
+      | inr le ↦ reads.image (kind_is some le h) so_far here.checked
     ]
   ]
 
   pub one_more_read : AreReadTo recs before (k + 1) new
   one_more_read = record {
-    judged = subst (λ (l : List Record). AreJudged l new.count) (sym (one_more recs k d inside))
-        (reads.judged known so_far here.judged);
+    checked = subst (λ (l : List Record). AreChecked l new.count) (sym (one_more recs k d inside))
+        (reads.checked known so_far here.checked);
     after = λ h. subst (λ (l : List Record). AreKept l new) (sym (one_more recs k d inside))
         (kept_with h);
   }
@@ -260,10 +260,10 @@ all_read recs before k kept inside last here =
 
 -- a payload is none of its kind, after records that were read
 pub not_read : (recs : List Rec) (k : ℕ) (d : Rec) (count place : ℕ) → k < length recs
-    → AreJudged (take k (records_in recs)) count
+    → AreChecked (take k (records_in recs)) count
     → (IsKnown (get_or recs k d).kind → IsRefusedIn (get_or recs k d).at
     (plain_record (get_or recs k d)) place) → AreInPlace recs
-    → HasNoSpellingAt (records_in recs) place
+    → HasNoEncodingAt (records_in recs) place
 not_read recs k d count place inside is refuses places =
     let refused = refuses (known_at recs k d inside places.known) in
     let log : List LogRecord = is.log in
@@ -279,7 +279,7 @@ not_read recs k d count place inside is refuses places =
       records_are = parts_of recs k d inside ∙ ap
           (λ (l : List Record). l ++ plain_record (get_or recs k d)
           ∷ drop (suc k) (records_in recs)) is.records_are;
-      spelled = is.spelled;
+      encoded = is.encoded;
       within = refused.within;
       is_refused = refused.refused;
       place_is = refused.place_is room ∙ ap (λ (n : ℕ). n + 10 + refused.within) gate;

@@ -10,7 +10,7 @@ use Rattle.journal.specs.Reading.{records_in, record_of as plain_record, AreInPl
 use Rattle.journal.specs.declared.rec.Rec.{Rec}
 use Rattle.archive_core_file_spec.specs.LogRecords.{LogRecord, logged, record_of, records_of}
 use Rattle.archive_core_file_spec.specs.LogRecords.{gate_after}
-use Rattle.archive_core_file_spec.specs.LogRecords.{AreSpelled, past_recorded}
+use Rattle.archive_core_file_spec.specs.LogRecords.{AreEncoded, past_recorded}
 use Rattle.archive_core_file_spec.specs.Opening.{HasFaultAt}
 use Rattle.archive_core_file_spec.proofs.Records.{no_images}
 use Rattle.archive_core_state.specs.ArchiveContents.{ArchiveContent, RepresentsPast}
@@ -29,7 +29,7 @@ pub restored : (records : List Record) (kept : ReadRecords) (archive : ArchiveCo
     → IsRestored records archive opened
 restored records kept archive opened is replayed count after = record {
   log = is.prefix ++ map logged (commands_kept kept);
-  spelled = is.spelled;
+  encoded = is.encoded;
   records_are = is.records_are;
   accepted = all_accepted is.prefix is.ends (commands_kept kept) replayed.accepted;
   represents = subst (RepresentsPast archive) (sym (past_after_them is.prefix (commands_kept kept)))
@@ -127,7 +127,7 @@ stopped_fault recs kept place is stops places =
       command = stops.command;
       after = map logged stops.after;
       records_are = records_are;
-      spelled = subst AreSpelled log is.spelled;
+      encoded = subst AreEncoded log is.encoded;
       accepted = all_accepted is.prefix is.ends stops.before stops.accepted;
       no_image = no_images stops.after;
       refusal = stops.refusal;

@@ -7,7 +7,7 @@ use Rattle.journal.specs.Records.{Record, IsKnown}
 use Rattle.journal.specs.Reading.{record_of as plain_record}
 use Rattle.journal.specs.declared.rec.Rec.{Rec}
 use Rattle.archive_core_file_spec.specs.LogRecords.{LogRecord, logged, checkpointed, records_of}
-use Rattle.archive_core_file_spec.specs.LogRecords.{AreSpelled}
+use Rattle.archive_core_file_spec.specs.LogRecords.{AreEncoded}
 use Rattle.archive_core_file_spec.specs.LogRecords.{commands_in, past_recorded}
 use Rattle.archive_core_file_spec.specs.Opening.{IsRefusedAt}
 use Rattle.archive_core_state.specs.ArchiveContents.{RepresentsPast}
@@ -28,10 +28,10 @@ EndsWithImage log = (log ≡ []) ⊎ ((before : List LogRecord) × (i : Image)
 abbrev pub commands_kept : ReadRecords → List PlainCommand
 commands_kept kept = map command_of kept.commands.items
 
--- records that were judged: all are spelled, and so many of them are commands
-pub record AreJudged (records : List Record) (count : ℕ) : Type 0 where
+-- records that were checked: all are spelled, and so many of them are commands
+pub record AreChecked (records : List Record) (count : ℕ) : Type 0 where
   pub log : List LogRecord
-  pub spelled : AreSpelled log
+  pub encoded : AreEncoded log
   pub records_are : records ≡ records_of log
   pub counted : count ≡ length (commands_in log)
 
@@ -40,17 +40,17 @@ pub record AreJudged (records : List Record) (count : ℕ) : Type 0 where
 pub record AreKept (records : List Record) (kept : ReadRecords) : Type 0 where
   pub prefix : List LogRecord
   pub ends : EndsWithImage prefix
-  pub spelled : AreSpelled (prefix ++ map logged (commands_kept kept))
+  pub encoded : AreEncoded (prefix ++ map logged (commands_kept kept))
   pub records_are : records ≡ records_of (prefix ++ map logged (commands_kept kept))
   pub represents : RepresentsPast kept.state (past_recorded prefix)
   pub counted : kept.count ≡ length (commands_in (prefix ++ map logged (commands_kept kept)))
 
--- one record was read: it was judged after those before it; an image takes the place of what was
+-- one record was read: it was checked after those before it; an image takes the place of what was
 -- kept; and after the last image a command is kept
 pub record IsRead (rec : Rec) (is_after : Bool) (old new : ReadRecords) : Type 0 where
-  pub judged : IsKnown rec.kind → (records : List Record) → AreJudged records old.count
-      → AreJudged (records ++ plain_record rec ∷ []) new.count
-  pub image : rec.kind ≡ 2 → (records : List Record) → AreJudged records old.count
+  pub checked : IsKnown rec.kind → (records : List Record) → AreChecked records old.count
+      → AreChecked (records ++ plain_record rec ∷ []) new.count
+  pub image : rec.kind ≡ 2 → (records : List Record) → AreChecked records old.count
       → AreKept (records ++ plain_record rec ∷ []) new
   pub kept : is_after ≡ true → IsKnown rec.kind → (records : List Record) → AreKept records old
       → AreKept (records ++ plain_record rec ∷ []) new

@@ -2,7 +2,7 @@
 use Rattle.std.specs.Prelude.{◌≡◌, List, length}
 use Rattle.smo_ops_spec.specs.Past.{beginning}
 use Rattle.journal.specs.Records.{Record}
-use Rattle.archive_core_file_spec.specs.LogRecords.{LogRecord, records_of, AreSpelled, AreAccepted}
+use Rattle.archive_core_file_spec.specs.LogRecords.{LogRecord, records_of, AreEncoded, AreAccepted}
 use Rattle.archive_core_file_spec.specs.LogRecords.{commands_in, replayed_of, past_recorded}
 use Rattle.archive_core_state.specs.ArchiveContents.{ArchiveContent, RepresentsPast}
 use Rattle.archive_core_replay.specs.declared.opened.Opened.{Opened}
@@ -17,7 +17,7 @@ pub record IsCounted (log : List LogRecord) (opened : Opened) : Type 0 where
 pub record IsRestored (records : List Record) (archive : ArchiveContent) (opened : Opened) :
     Type 0 where
   pub log : List LogRecord
-  pub spelled : AreSpelled log
+  pub encoded : AreEncoded log
   pub records_are : records ≡ records_of log
   pub accepted : AreAccepted beginning log
   pub represents : RepresentsPast archive (past_recorded log)

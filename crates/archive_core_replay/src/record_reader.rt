@@ -4,15 +4,15 @@ ghost use Rattle.std.specs.Prelude.{◌≡◌, ◌+◌, ◌-◌, ◌≤◌, ◌^
 ghost use Rattle.std.specs.Prelude.{get_or, IfOk, OnOk, Err};
 ghost use Rattle.smo_ops_types.specs.Commands.{command_of, PlainCommand};
 ghost use Rattle.smo_ops_spec.specs.Past.{Past};
-ghost use Rattle.command_codec_spec.specs.Found.{Spells};
+ghost use Rattle.command_codec_spec.specs.Found.{Encodes};
 ghost use Rattle.store_image_spec.specs.Images.{Image, IsImage};
-ghost use Rattle.store_image_spec.specs.Spelling.{image_bytes};
+ghost use Rattle.store_image_spec.specs.Encoding.{image_bytes};
 ghost use Rattle.store_image_spec.specs.ShownPast.{image_past};
 ghost use Rattle.journal.specs.Records.{Record, IsKnown};
 ghost use Rattle.journal.specs.Reading.{records_in, record_of, AreInPlace};
 ghost use Rattle.journal.specs.declared.rec.Rec.{Rec as ARecord};
 ghost use Rattle.version_groups.specs.Representation.{Represents};
-ghost use Rattle.archive_core_file_spec.specs.Opening.{HasNoSpellingAt};
+ghost use Rattle.archive_core_file_spec.specs.Opening.{HasNoEncodingAt};
 ghost use Rattle.archive_core_replay.specs.Reading.{IsRefusedIn, IsRead, AreKept};
 ghost use Rattle.archive_core_replay.specs.declared.fault.RestoreFault.TheVariants as restoring;
 
@@ -47,7 +47,7 @@ fn place_in(at: u64, within: u64) -> u64
 
 // The command of a record.
 fn read_command(alloc: Global, rec: &Rec) -> Result<Command, RestoreFault>
-    ensures command { IfOk result (λ c. Spells (command_of c) rec.now.payload.items) }
+    ensures command { IfOk result (λ c. Encodes (command_of c) rec.now.payload.items) }
     ensures damaged { (place : _) → result ≡ Err (restoring.Damaged place) → rec.now.kind ≡ 1
         → IsRefusedIn rec.now.at (record_of rec.now) place }
 {
@@ -60,8 +60,8 @@ fn read_command(alloc: Global, rec: &Rec) -> Result<Command, RestoreFault>
 }
 
 // That the payload of a record spells a command. None is made.
-fn judge_command(rec: &Rec) -> Result<(), RestoreFault>
-    ensures command { OnOk result ((c : PlainCommand) × Spells c rec.now.payload.items) }
+fn check_command(rec: &Rec) -> Result<(), RestoreFault>
+    ensures command { OnOk result ((c : PlainCommand) × Encodes c rec.now.payload.items) }
     ensures damaged { (place : _) → result ≡ Err (restoring.Damaged place) → rec.now.kind ≡ 1
         → IsRefusedIn rec.now.at (record_of rec.now) place }
 {
@@ -90,7 +90,7 @@ fn read_checkpoint(alloc: Global, rec: &Rec) -> Result<(Groups, Option<u64>), Re
 }
 
 impl ReadRecords {
-    // One record more. A command that stands before the last image is judged and counted, and not
+    // One record more. A command that stands before the last image is checked and counted, and not
     // made.
     fn read(&mut self, alloc: Global, rec: &Rec, is_after: bool) -> Result<(), RestoreFault>
         requires { self.old.count < 2 ^ 64 - 1 }
@@ -108,7 +108,7 @@ impl ReadRecords {
             return Ok(());
         }
         if !is_after {
-            judge_command(rec)?;
+            check_command(rec)?;
             self.count += 1;
             return Ok(());
         }
@@ -134,13 +134,13 @@ fn before_last_image(recs: &[Rec]) -> usize
 }
 
 /// What the records stand for, all of them before any command is carried out. Only the commands
-/// after the last image are made; those before it are judged by their bytes alone.
+/// after the last image are made; those before it are checked by their bytes alone.
 pub(crate) fn read_all(alloc: Global, recs: &[Rec]) -> Result<ReadRecords, RestoreFault>
     requires { AreInPlace recs.now }
     ensures kept { IfOk result (λ kept. AreKept (records_in recs.now) kept) }
     ensures few { IfOk result (λ kept. length kept.commands.items ≤ length recs.now) }
     ensures damaged { (place : _) → result ≡ Err (restoring.Damaged place)
-        → HasNoSpellingAt (records_in recs.now) place }
+        → HasNoEncodingAt (records_in recs.now) place }
 {
     let before = before_last_image(recs);
     let mut kept = ReadRecords {

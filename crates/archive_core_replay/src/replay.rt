@@ -55,7 +55,7 @@ fn replay<L: Ledger>(
     Ok(())
 }
 
-/// The archive that the records stand for: all payloads are read before any command is judged, and
+/// The archive that the records stand for: all payloads are read before any command is checked, and
 /// then the commands after the last image are carried out over what it shows. A step for each of
 /// these, at most.
 pub fn restore<L: Ledger>(

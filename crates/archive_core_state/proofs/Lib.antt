@@ -1,3 +1,3 @@
 pub mod QueryFaults
-pub mod Judging
-pub mod CarriedOut
+pub mod Checking
+pub mod Applied

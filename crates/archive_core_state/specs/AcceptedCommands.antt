@@ -1,10 +1,10 @@
--- Commands that judging accepted, with what it found.
+-- Commands that checking accepted, with what it found.
 use Rattle.smo_ops_types.specs.Changes.{changes_of}
 use Rattle.smo_ops_types.specs.Commands.{changing, evolving, PlainCommand}
 use Rattle.smo_ops_types.specs.Operators.{operator_of, operators_of}
 use Rattle.smo_ops_spec.specs.Past.{Past, newest_tables}
 use Rattle.smo_ops.specs.TablePlaces.{StandAt}
-use Rattle.version_groups.specs.Judged.{HasNext, IsAcceptedAs}
+use Rattle.version_groups.specs.CheckedCommands.{HasNext, IsAcceptedAs}
 use Rattle.version_groups.specs.Steps.{a_command}
 use Rattle.archive_core_state.specs.declared.accepted_command.AcceptedCommand.{AcceptedCommand}
 use Rattle.archive_core_state.specs.declared.accepted_command.AcceptedCommand.TheVariants.{Changes}

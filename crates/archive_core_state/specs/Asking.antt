@@ -127,7 +127,7 @@ pub record IsChecked (past : Past) (query : PlainQuery) (checked : Query) : Type
   pub lasting : IsLasting query.when
 
 -- a query that is not refused, with each reference made one to an atom
-pub record IsQueryReady (past : Past) (query : PlainQuery) (checked : Query) : Type 0 where
+pub record IsQueryPrepared (past : Past) (query : PlainQuery) (checked : Query) : Type 0 where
   pub accepted : fault_of_query past query ≡ None
   pub there : query.version ≤ length past.versions
   pub atoms : query_of checked ≡ query_asked past query

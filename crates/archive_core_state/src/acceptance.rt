@@ -35,7 +35,7 @@ use std::alloc::Global;
 use version_groups::Groups;
 
 // The counts of the command are within their limits.
-fn judge_counts(command: &Command) -> Result<(), CommandFault>
+fn check_command_counts(command: &Command) -> Result<(), CommandFault>
     ensures counts { IsTested (count_fault (first_excess (body_of command.now.1))) result }
     ensures constants { OnOk result (BodyHolds (body_of command.now.1)) }
 {
@@ -46,7 +46,7 @@ fn judge_counts(command: &Command) -> Result<(), CommandFault>
 }
 
 // The stamp is above the last one.
-fn judge_stamp(last: Option<u64>, stamp: u64) -> Result<(), CommandFault>
+fn check_stamp(last: Option<u64>, stamp: u64) -> Result<(), CommandFault>
     ensures { IsTested (stamp_fault last stamp) result }
 {
     match last {
@@ -58,7 +58,7 @@ fn judge_stamp(last: Option<u64>, stamp: u64) -> Result<(), CommandFault>
 }
 
 // There is room for one version more.
-fn judge_versions(newest: u32) -> Result<(), CommandFault>
+fn check_versions(newest: u32) -> Result<(), CommandFault>
     ensures { IsTested (unless (nat_lt newest max_versions) (TooMany Versions max_versions))
         result }
 {
@@ -69,7 +69,7 @@ fn judge_versions(newest: u32) -> Result<(), CommandFault>
 }
 
 // The preconditions of the operator; the schema after it.
-fn judge_operator(alloc: Global, schema: &Schema, op: &Op) -> Result<Schema, CommandFault>
+fn check_operator(alloc: Global, schema: &Schema, op: &Op) -> Result<Schema, CommandFault>
     requires { HasFewNodes (operator_of op.now) }
     ensures tested { IsTested (option_map operator_refusal
         (op_fault schema.now (operator_of op.now))) result }
@@ -83,7 +83,7 @@ fn judge_operator(alloc: Global, schema: &Schema, op: &Op) -> Result<Schema, Com
 }
 
 // The inverse leads back, from the schema after the operator to the one before it.
-fn judge_inverse(
+fn check_its_inverse(
     alloc: Global,
     before: &Schema,
     next: &Schema,
@@ -105,8 +105,8 @@ fn judge_inverse(
 }
 
 // An operator and its inverse; the schema after it.
-#[tactic(auto, using(crate::proofs::Judging::few_operators))]
-fn judge_evolve(
+#[tactic(auto, using(crate::proofs::Checking::few_operators))]
+fn check_evolve(
     alloc: Global,
     groups: &Groups,
     op: &Op,
@@ -122,16 +122,16 @@ fn judge_evolve(
         → IfOk result (λ next. next ≡ schema_after (newest_tables past) (operator_of op.now)) }
 {
     counted_operators_are_few();
-    judge_versions(groups.newest())?;
+    check_versions(groups.newest())?;
     let before = groups.newest_schema();
-    let next = judge_operator(alloc, before, op)?;
-    judge_inverse(alloc, before, &next, inverse)?;
+    let next = check_operator(alloc, before, op)?;
+    check_its_inverse(alloc, before, &next, inverse)?;
     Ok(next)
 }
 
-// What the command does from the stamp on, with what judging it finds.
-#[tactic(auto, using(crate::proofs::Judging::narrow_newest))]
-fn judge_body(
+// What the command does from the stamp on, with what checking it finds.
+#[tactic(auto, using(crate::proofs::Checking::narrow_newest))]
+fn check_body(
     alloc: Global,
     groups: &Groups,
     stamp: u64,
@@ -156,7 +156,7 @@ fn judge_body(
             })
         }
         Body::Evolve { op, inverse } => {
-            let schema = judge_evolve(alloc, groups, &op, &inverse)?;
+            let schema = check_evolve(alloc, groups, &op, &inverse)?;
             Ok(AcceptedCommand::Evolve(Version {
                 stamp,
                 op,
@@ -168,10 +168,10 @@ fn judge_body(
 }
 
 /// Whether the command is accepted after the past that the groups represent, with this last stamp,
-/// and then what judging it found; else its first refusal in the one order: its counts, its stamp,
+/// and then what checking it found; else its first refusal in the one order: its counts, its stamp,
 /// and then what it does.
-#[tactic(auto, using(crate::proofs::Judging::judged_after, crate::proofs::Judging::first_decides, crate::proofs::Judging::second_decides))]
-pub(crate) fn judge(
+#[tactic(auto, using(crate::proofs::Checking::checked_after, crate::proofs::Checking::first_decides, crate::proofs::Checking::second_decides))]
+pub(crate) fn check(
     alloc: Global,
     groups: &Groups,
     last: Option<u64>,
@@ -179,11 +179,11 @@ pub(crate) fn judge(
 ) -> Result<AcceptedCommand, CommandFault>
     requires represents { (past : Past) × Represents groups.now past × (last ≡ past.last) }
     ensures same { IfOk result (λ accepted. accepted_command accepted ≡ command_of command) }
-    ensures judges { (past : Past) → Represents groups.now past → last ≡ past.last
+    ensures checks { (past : Past) → Represents groups.now past → last ≡ past.last
         → IsTestedAs (IsAcceptedAfter past) (command_fault past (command_of command)) result }
 {
     let stamp = command.stamp();
-    judge_counts(&command)?;
-    judge_stamp(last, stamp)?;
-    judge_body(alloc, groups, stamp, command.into_body())
+    check_command_counts(&command)?;
+    check_stamp(last, stamp)?;
+    check_body(alloc, groups, stamp, command.into_body())
 }

@@ -1,6 +1,6 @@
 use smo_ops::{Change, Version};
 
-/// A command that judging accepted, with what it found, which is so of the past that the archive
+/// A command that checking accepted, with what it found, which is so of the past that the archive
 /// represented. The command is taken apart, and nothing of it is copied.
 #[derive(Drop)]
 pub enum AcceptedCommand {

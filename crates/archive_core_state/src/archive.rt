@@ -1,4 +1,4 @@
-use crate::acceptance::judge;
+use crate::acceptance::check;
 use crate::asked_query::{ask, explain_query};
 use crate::{AcceptedCommand, AskFault, CommandFault};
 use answer_text::Listing;
@@ -10,7 +10,7 @@ use std::alloc::Global;
 use std::marker::Model;
 use std::sync::ledger::Ledger;
 use temporal_lang::Query;
-use version_groups::{Groups, Judged, PreparedCommand};
+use version_groups::{CheckedCommand, Groups, PreparedCommand};
 
 /// What was accepted: the versions with their stored tables, and the last stamp. Every archive
 /// represents a past.
@@ -64,7 +64,7 @@ impl ArchiveState {
     ghost use Rattle.prima_base.specs.Faults.{IsTestedAs};
     ghost use Rattle.smo_ops_spec.specs.Accepts.{command_fault};
     ghost use Rattle.smo_ops_spec.specs.Past.{Past, beginning, past_with};
-    ghost use Rattle.version_groups.specs.Judged.{judged_command, IsCommandAccepted};
+    ghost use Rattle.version_groups.specs.CheckedCommands.{checked_command, IsCommandAccepted};
     ghost use Rattle.version_groups.specs.Steps.{Prepares};
     ghost use Rattle.archive_core_state.specs.ArchiveContents.{RepresentsPast, RepresentsSome};
     ghost use Rattle.archive_core_state.specs.ArchiveContents.{archive_content};
@@ -120,41 +120,44 @@ impl ArchiveState {
         &self.groups
     }
 
-    /// Judges the command. An accepted one is answered with what was found, for `prepare`: of each
+    /// Checks the command. An accepted one is answered with what was found, for `prepare`: of each
     /// change where its table stands, and of an operator the version that it makes, with the schema
     /// that is after it. Another is refused by the first refusal in the one order: its counts (38);
     /// its stamp (20); of changes, one after the other, each whole before the next (22, 27, 23, 35,
     /// 25); of an operator the number of versions (38), its preconditions in written order, and
     /// then its inverse (32). `NoMemory` comes where memory runs out.
-    pub fn judge(&self, command: Command) -> Result<AcceptedCommand, CommandFault>
+    pub fn check(&self, command: Command) -> Result<AcceptedCommand, CommandFault>
         ensures same { IfOk result (λ accepted. accepted_command accepted ≡ command_of command) }
-        ensures judges { (past : Past) → RepresentsPast self.now past
+        ensures checks { (past : Past) → RepresentsPast self.now past
             → IsTestedAs (IsAcceptedAfter past) (command_fault past (command_of command)) result }
         ensures represents { RepresentsSome self.now }
     {
-        judge(self.alloc, &self.groups, self.last, command)
+        check(self.alloc, &self.groups, self.last, command)
     }
 
-    /// Makes a command ready that was judged, and is accepted: all the memory that it needs is
-    /// taken, and `carry_out` then accepts it. The archive represents the past that it represented,
+    /// Makes a command ready that was checked, and is accepted: all the memory that it needs is
+    /// taken, and `apply` then accepts it. The archive represents the past that it represented,
     /// with the same stored tables but for room. The one error is `NoMemory`, where memory runs
     /// out.
-    pub fn prepare<'a>(&mut self, judged: Judged<'a>) -> Result<PreparedCommand<'a>, NoMemory>
-        requires { (past : Past) × RepresentsPast self.old past × IsCommandAccepted past judged }
+    pub fn prepare<'a>(
+        &mut self,
+        checked: CheckedCommand<'a>,
+    ) -> Result<PreparedCommand<'a>, NoMemory>
+        requires { (past : Past) × RepresentsPast self.old past × IsCommandAccepted past checked }
         ensures before { IsAsBefore self.old self.new }
         ensures represents { (past : Past) → RepresentsPast self.old past
             → RepresentsPast self.new past }
         ensures prepared { (past : Past) → RepresentsPast self.old past
-            → IsCommandAccepted past judged.entry → IfOk result (λ prepared.
-            Prepares self.new.groups past (judged_command judged.entry) prepared) }
+            → IsCommandAccepted past checked.entry → IfOk result (λ prepared.
+            Prepares self.new.groups past (checked_command checked.entry) prepared) }
     {
-        self.groups.prepare(judged)
+        self.groups.prepare(checked)
     }
 
     /// Carries out what `prepare` made of a command and this very archive, which then
     /// represents the past with the command. It takes no memory, and cannot fail.
-    #[tactic(auto, using(crate::proofs::CarriedOut::represents_next, crate::proofs::CarriedOut::newest_next))]
-    pub fn carry_out(&mut self, prepared: PreparedCommand<'_>) -> Done
+    #[tactic(auto, using(crate::proofs::Applied::represents_next, crate::proofs::Applied::newest_next))]
+    pub fn apply(&mut self, prepared: PreparedCommand<'_>) -> Done
         requires { (past : Past) × (command : PlainCommand) × RepresentsPast self.old past
             × Prepares self.old.groups past command prepared }
         ensures done { (past : Past) → (command : PlainCommand) → RepresentsPast self.old past
@@ -176,8 +179,8 @@ impl ArchiveState {
         }
     }
 
-    /// Judges the command and carries an accepted one out, with nothing between: so a command is
-    /// carried out whose record stands already. Another is refused as by `judge`, and the archive
+    /// Checks the command and carries an accepted one out, with nothing between: so a command is
+    /// carried out whose record stands already. Another is refused as by `check`, and the archive
     /// is what it was. Where memory runs out it represents the past that it represented, as it was
     /// but for room.
     pub fn commit(&mut self, command: Command) -> Result<Done, CommandFault>
@@ -185,18 +188,18 @@ impl ArchiveState {
             → Accepts past (command_of command) self.old result self.new }
         ensures represents { RepresentsSome self.old × RepresentsSome self.new }
     {
-        let accepted = self.judge(command)?;
+        let accepted = self.check(command)?;
         match accepted {
             AcceptedCommand::Changes {
                 stamp,
                 changes,
                 places,
-            } => self.accept(Judged::Changes {
+            } => self.accept(CheckedCommand::Changes {
                 stamp,
                 changes: &changes,
                 places,
             }),
-            AcceptedCommand::Evolve(version) => self.accept(Judged::Evolve(version)),
+            AcceptedCommand::Evolve(version) => self.accept(CheckedCommand::Evolve(version)),
         }
     }
 
@@ -269,14 +272,14 @@ impl ArchiveState {
     }
 
     // Makes an accepted command ready, and carries it out.
-    fn accept(&mut self, judged: Judged<'_>) -> Result<Done, CommandFault>
-        requires { (past : Past) × RepresentsPast self.old past × IsCommandAccepted past judged }
+    fn accept(&mut self, checked: CheckedCommand<'_>) -> Result<Done, CommandFault>
+        requires { (past : Past) × RepresentsPast self.old past × IsCommandAccepted past checked }
         ensures commits { (past : Past) → RepresentsPast self.old past
-            → IsCommandAccepted past judged.entry
-            → Accepts past (judged_command judged.entry) self.old result self.new }
+            → IsCommandAccepted past checked.entry
+            → Accepts past (checked_command checked.entry) self.old result self.new }
         ensures represents { RepresentsSome self.new }
     {
-        let prepared = self.prepare(judged)?;
-        Ok(self.carry_out(prepared))
+        let prepared = self.prepare(checked)?;
+        Ok(self.apply(prepared))
     }
 }

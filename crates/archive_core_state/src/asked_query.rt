@@ -1,4 +1,4 @@
-//! A query, judged, and answered over all of history or told piece by piece.
+//! A query, checked, and answered over all of history or told piece by piece.
 
 ghost use Rattle.std.specs.Prelude.{◌≡◌, ◌≤◌, ◌+◌, List, MatchResult, None, IfOk};
 ghost use Rattle.smo_ops_types.specs.Commands.{versions_of};
@@ -14,7 +14,8 @@ ghost use Rattle.rewrite.specs.Books.{book_meaning};
 ghost use Rattle.archive_core_state.specs.Asking.{tells_periods, ArePiecesOf, IsAsked, IsExplained};
 ghost use Rattle.archive_core_state.specs.Asking.{query_asked, pieces_told, IsKeptOfList};
 ghost use Rattle.archive_core_state.specs.Asking.{IsNotRefused};
-ghost use Rattle.archive_core_state.specs.Asking.{IsWrong, IsAskedSchema, IsChecked, IsQueryReady};
+ghost use Rattle.archive_core_state.specs.Asking.{IsWrong, IsAskedSchema, IsChecked};
+ghost use Rattle.archive_core_state.specs.Asking.{IsQueryPrepared};
 
 use crate::AskFault;
 use answer_text::Listing;
@@ -47,7 +48,7 @@ fn asked_schema<'a>(groups: &'a Groups, query: &Query) -> Result<&'a Schema, Ask
 }
 
 // The query with each reference made one to an atom.
-fn checked(alloc: Global, schema: &Schema, query: &Query) -> Result<Query, AskFault>
+fn resolved_query(alloc: Global, schema: &Schema, query: &Query) -> Result<Query, AskFault>
     requires { (past : Past) × IsAskedSchema past (query_of query.now) schema.now }
     ensures { (past : Past) → IsAskedSchema past (query_of query.now) schema.now
         → MatchResult result (λ checked. IsChecked past (query_of query.now) checked)
@@ -68,7 +69,7 @@ fn no_way_back(versions: &Versions, loss: (u32, u32)) -> Refusal
 }
 
 // No table of the query is lost at a moment of its slice. It passed all other tests.
-fn judge_losses(
+fn check_losses(
     alloc: Global,
     groups: &Groups,
     query: &Query,
@@ -89,15 +90,15 @@ fn judge_losses(
 }
 
 // The query with each reference made one to an atom, where it is not refused.
-fn judged(alloc: Global, groups: &Groups, query: &Query) -> Result<Query, AskFault>
+fn accepted_query(alloc: Global, groups: &Groups, query: &Query) -> Result<Query, AskFault>
     requires { (past : Past) × Represents groups.now past }
     ensures { (past : Past) → Represents groups.now past
-        → MatchResult result (λ checked. IsQueryReady past (query_of query.now) checked)
+        → MatchResult result (λ checked. IsQueryPrepared past (query_of query.now) checked)
         (λ fault. IsWrong past (query_of query.now) fault) }
 {
     let schema = asked_schema(groups, query)?;
-    let atoms = checked(alloc, schema, query)?;
-    judge_losses(alloc, groups, query, &atoms)?;
+    let atoms = resolved_query(alloc, schema, query)?;
+    check_losses(alloc, groups, query, &atoms)?;
     Ok(atoms)
 }
 
@@ -143,7 +144,7 @@ pub(crate) fn ask<'a, L: Ledger, R: Rule>(
         → IfOk result (λ _. steps.old + explained_read groups.now e ≤ steps.new) }
     ensures rises { steps.old ≤ steps.new }
 {
-    let atoms = judged(alloc, groups, query)?;
+    let atoms = accepted_query(alloc, groups, query)?;
     let mut rows = answer(alloc, groups, book, &atoms, steps)?;
     keep(&mut rows, &query.keep);
     Ok(Listing {
@@ -163,7 +164,7 @@ pub(crate) fn explain_query<R: Rule>(
     ensures { (past : Past) → Represents groups.now past
         → IsExplained (book_meaning R.Rule book.now) past (query_of query.now) result }
 {
-    let atoms = judged(alloc, groups, query)?;
+    let atoms = accepted_query(alloc, groups, query)?;
     let pieces = explain(alloc, groups, book, &atoms)?;
     Ok(pieces)
 }

@@ -3,13 +3,13 @@
 //! They stand in `stdin`, and what each is answered in `stdout`. A line `== NAME` begins a case,
 //! with no entries on either side, and all moments for its slice. Then come, in any number:
 //!
-//! - `left START END VALUE ..` and `right START END VALUE ..` put a row that holds in a period among
-//!   those of a side; `now` as END is the end of time;
+//! - `left START END VALUE ..` and `right START END VALUE ..` put a row that holds in a period
+//!   among those of a side; `now` as END is the end of time;
 //! - `lefts A B START END VALUE ..` puts one there for each number from A to B, with the number in
 //!   place of each `#`;
 //! - `slice START END` sets the slice in which both sides are listed;
-//! - `pairs RELATION` lists the related pairs of entries, those of the left side first: a line each,
-//!   and how many they are;
+//! - `pairs RELATION` lists the related pairs of entries, those of the left side first: a line
+//!   each, and how many they are;
 //! - `aggregate ITEM .. BY G` lists what the items have of the groups of the left side: COUNT, or
 //!   MIN, MAX or SUM with the place of an output after it.
 //!

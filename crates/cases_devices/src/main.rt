@@ -26,7 +26,8 @@
 //!   one, and so on, and tells how many writes and syncs the disk inside then has;
 //! - `crashes` runs it over the same disks, and tells how many commands were acknowledged, and with
 //!   how many commands the files open that a crash may then leave: those of sixteen picks;
-//! - `moments` runs it over a disk that does not fail, and tells the same of each moment of the run.
+//! - `moments` runs it over a disk that does not fail, and tells the same of each moment of the
+//!   run.
 //!
 //! Each goes on until a run over such a device ends well. A file that a crash leaves and that does
 //! not open, or has other records than the first ones of the whole run, is told by its pick.

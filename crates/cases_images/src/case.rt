@@ -17,7 +17,7 @@ struct Case {
 }
 
 // The bytes that a text spells.
-fn spelled(alloc: Global, hex: &[u8]) -> Result<Vec<u8>, NoMemory> {
+fn encoded(alloc: Global, hex: &[u8]) -> Result<Vec<u8>, NoMemory> {
     let mut bytes = Vec::new(alloc);
     read_hex(hex, &mut bytes)?;
     Ok(bytes)
@@ -50,7 +50,7 @@ impl Case {
     // Puts so many times bytes after those of the image.
     fn times(&mut self, text: &[u8]) -> Result<(), NoMemory> {
         let (count, hex) = first_word(text);
-        let bytes = spelled(self.alloc, hex)?;
+        let bytes = encoded(self.alloc, hex)?;
         for _ in 0..read_number(count) {
             self.image.extend_from_slice(&bytes)?;
         }
@@ -61,7 +61,7 @@ impl Case {
     fn stamped(&mut self, text: &[u8]) -> Result<(), NoMemory> {
         let (first, others) = first_word(text);
         let (last, hex) = first_word(others);
-        let bytes = spelled(self.alloc, hex)?;
+        let bytes = encoded(self.alloc, hex)?;
         for number in read_number(first)..=read_number(last) {
             self.image.extend_from_slice(&number.to_be_bytes())?;
             self.image.extend_from_slice(&bytes)?;
@@ -86,7 +86,7 @@ impl Case {
     fn set(&mut self, text: &[u8]) -> Result<(), NoMemory> {
         let (place, hex) = first_word(text);
         let from = read_number(place) as usize;
-        let others = spelled(self.alloc, hex)?;
+        let others = encoded(self.alloc, hex)?;
         let to = from.wrapping_add(others.len());
         self.bytes = replaced(self.alloc, &self.bytes, from, to, &others)?;
         Ok(())
@@ -95,7 +95,7 @@ impl Case {
     fn insert(&mut self, text: &[u8]) -> Result<(), NoMemory> {
         let (place, hex) = first_word(text);
         let at = read_number(place) as usize;
-        let others = spelled(self.alloc, hex)?;
+        let others = encoded(self.alloc, hex)?;
         self.bytes = replaced(self.alloc, &self.bytes, at, at, &others)?;
         Ok(())
     }

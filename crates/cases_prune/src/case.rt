@@ -52,7 +52,7 @@ fn is_typed(cond: &Cond, columns: &[Column]) -> bool {
     cond_size(cond).nodes <= MAX_NODES && check_cond(cond, columns).is_ok()
 }
 
-fn judge(alloc: Global, columns: &[Column], text: &[u8]) -> &'static [u8] {
+fn check(alloc: Global, columns: &[Column], text: &[u8]) -> &'static [u8] {
     match read_condition(alloc, text) {
         Some(cond) => {
             if !is_typed(&cond, columns) {
@@ -79,7 +79,7 @@ fn write_line(
         if place < line.len() {
             answers.extend_from_slice(&line[..place])?;
             answers.push(b' ')?;
-            answers.extend_from_slice(judge(alloc, columns, &line[place + 1..]))?;
+            answers.extend_from_slice(check(alloc, columns, &line[place + 1..]))?;
             answers.push(b'\n')?;
         }
     }

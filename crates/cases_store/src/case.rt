@@ -100,7 +100,7 @@ impl Case {
 
     // Makes the change in both tables, by all rows or row by row; what is none of the table is
     // noted.
-    fn carry_out(&mut self, stamp: u64, whole: bool) -> Result<(), NoMemory> {
+    fn apply(&mut self, stamp: u64, whole: bool) -> Result<(), NoMemory> {
         self.steps = self.steps.wrapping_add(1);
         let is_change = if whole {
             self.pair
@@ -118,7 +118,7 @@ impl Case {
     fn change(&mut self, stamp: u64, whole: bool) -> Result<(), NoMemory> {
         add_copies(&mut self.seen, &self.lost)?;
         add_copies(&mut self.seen, &self.gained)?;
-        self.carry_out(stamp, whole)?;
+        self.apply(stamp, whole)?;
         self.lost.clear();
         self.gained.clear();
         self.compare_all()
@@ -215,7 +215,7 @@ impl Case {
         }
         self.draw(numbers, &made)?;
         let stamp = self.pair.last().wrapping_add(1);
-        self.carry_out(stamp, made.whole)?;
+        self.apply(stamp, made.whole)?;
         let mut row = Vec::new(self.alloc);
         for first in [self.lost.first(), self.gained.first()] {
             if let Some(first) = first {

@@ -5,7 +5,7 @@ use Rattle.std.specs.Prelude.{IfOk, IfErr, IfSome}
 use Rattle.smo_ops_types.specs.Commands.{PlainCommand, command_of}
 use Rattle.smo_ops_types.specs.declared.command.Body.{Body}
 use Rattle.command_codec_spec.specs.Reading.{Parsed, Unexpected}
-use Rattle.command_codec_spec.specs.Spelling.{command_bytes}
+use Rattle.command_codec_spec.specs.Encoding.{command_bytes}
 use Rattle.command_codec_spec.specs.Valid.{IsCommand}
 use Rattle.command_codec_spec.specs.Reader.{command}
 use Rattle.command_codec_spec.specs.Found.{Decoding, whole, bad_at, rest_at, IsDecoding}

@@ -5,7 +5,7 @@ use Rattle.std.proofs.lemmas.List.{map-append}
 use Rattle.command_codec.specs.declared.reader.ReadStop.{ReadStop}
 use Rattle.command_codec_spec.specs.Reading.{Out, Parsed, Unexpected, Parser, and_then, pure}
 use Rattle.command_codec_spec.specs.Reading.{map_to}
-use Rattle.command_codec_spec.specs.Reading.{digits, items, listed, prepend}
+use Rattle.command_codec_spec.specs.Reading.{digits, items, list_parser, prepend}
 use Rattle.command_codec.specs.Reads.{Fails}
 use Rattle.command_codec.proofs.ReadSteps.{fails_along, prepend_more}
 
@@ -82,10 +82,10 @@ module _ {A : Type 0} (p : Parser A) (k most count i : ℕ) (start us ts : List 
     (counted : digits most k 0 start ≡ Parsed count us)
     (so : SoMany p count (count - i) us ts l) where
   pub no_counted_item : (e : ReadStop) (new : List ℕ) → i < count → Fails (p ts) e new
-      → Fails (listed k most p start) e new
-  no_counted_item e new h f = fails_along (items p count us) (listed k most p start) e new
+      → Fails (list_parser k most p start) e new
+  no_counted_item e new h f = fails_along (items p count us) (list_parser k most p start) e new
       (λ rest g. ap (λ o. and_then o (λ n. items p n)) counted ∙ g)
       (no_item p count i us ts l so e new h f)
 
-  pub all_counted : count ≤ i → listed k most p start ≡ Parsed l ts
+  pub all_counted : count ≤ i → list_parser k most p start ≡ Parsed l ts
   all_counted h = ap (λ o. and_then o (λ n. items p n)) counted ∙ all_items p count i us ts l so h

@@ -3,7 +3,7 @@ use Rattle.std.proofs.Common.{◌≡◌, ℕ, ◌<◌, ◌^◌, List, ◌++◌, 
 use Rattle.std.specs.Int.{w64, from_be_bytes, bytes_high_first}
 use Rattle.std.proofs.lemmas.Nat.{be_bytes_8}
 use Rattle.command_codec_spec.specs.Reading.{Parsed, digits}
-use Rattle.command_codec_spec.specs.Spelling.{number}
+use Rattle.command_codec_spec.specs.Encoding.{number}
 use Rattle.command_codec_spec.proofs.Numbers.{number_correct}
 
 pub read_at_once : (bs : List ℕ) → length bs ≡ 8 → ((i : ℕ) → get_or bs i 0 < 256) → (n : ℕ)

@@ -64,7 +64,7 @@ fn sets(alloc: Global, reader: &mut Reader<'_>) -> Result<Vec<(Name, Expr)>, Rea
 
 // What stands after the tag of INSERT.
 fn insert(alloc: Global, reader: &mut Reader<'_>) -> Result<Change, ReadStop>
-    ensures { Reads change_of (map_to spec.inserted (pair spec.name spec.cells)
+    ensures { Reads change_of (map_to spec.insert_of (pair spec.name spec.cells)
         reader.old.rest.now) result reader.new.rest.now }
 {
     let table = name(alloc, reader)?;
@@ -74,7 +74,7 @@ fn insert(alloc: Global, reader: &mut Reader<'_>) -> Result<Change, ReadStop>
 
 // What stands after the tag of DELETE.
 fn delete(alloc: Global, reader: &mut Reader<'_>) -> Result<Change, ReadStop>
-    ensures { Reads change_of (map_to spec.deleted (pair spec.name spec.outermost.cond)
+    ensures { Reads change_of (map_to spec.delete_of (pair spec.name spec.outermost.cond)
         reader.old.rest.now) result reader.new.rest.now }
 {
     let table = name(alloc, reader)?;
@@ -84,7 +84,7 @@ fn delete(alloc: Global, reader: &mut Reader<'_>) -> Result<Change, ReadStop>
 
 // What stands after the tag of UPDATE.
 fn update(alloc: Global, reader: &mut Reader<'_>) -> Result<Change, ReadStop>
-    ensures { Reads change_of (map_to spec.updated
+    ensures { Reads change_of (map_to spec.update_of
         (pair (pair spec.name spec.sets) spec.outermost.cond) reader.old.rest.now) result
         reader.new.rest.now }
 {

@@ -82,7 +82,7 @@ fn created_table(alloc: Global, reader: &mut Reader<'_>) -> Result<Op, ReadStop>
 
 // What stands after the tag of PARTITION TABLE.
 fn partitioned_table(alloc: Global, reader: &mut Reader<'_>) -> Result<Op, ReadStop>
-    ensures { Reads operator_of (map_to spec.partitioned
+    ensures { Reads operator_of (map_to spec.partition_of
         (pair (pair spec.two_names spec.outermost.cond) spec.name) reader.old.rest.now) result
         reader.new.rest.now }
 {
@@ -99,7 +99,7 @@ fn partitioned_table(alloc: Global, reader: &mut Reader<'_>) -> Result<Op, ReadS
 
 // What stands after the tag of DECOMPOSE TABLE.
 fn decomposed_table(alloc: Global, reader: &mut Reader<'_>) -> Result<Op, ReadStop>
-    ensures { Reads operator_of (map_to spec.decomposed
+    ensures { Reads operator_of (map_to spec.decompose_of
         (pair (pair (pair spec.two_names spec.names) spec.name) spec.names) reader.old.rest.now)
         result reader.new.rest.now }
 {

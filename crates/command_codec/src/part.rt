@@ -3,7 +3,7 @@
 ghost use Rattle.std.specs.Prelude.{◌≡◌, ◌+◌, ◌≤◌, ℕ, List, length, drop, IfSome};
 ghost use Rattle.prima_base.specs.declared.value.Value.{Value as AValue};
 ghost use Rattle.smo_ops_types.specs.Operators.{Operator, operator_of};
-ghost use Rattle.command_codec_spec.specs.Found.{SpellsName, SpellsValue, SpellsOperator, Part};
+ghost use Rattle.command_codec_spec.specs.Found.{EncodesName, EncodesValue, EncodesOperator, Part};
 ghost use Rattle.command_codec_spec.specs.Found.{IsPart};
 ghost use Rattle.command_codec.specs.Answers.{part_of};
 
@@ -30,9 +30,9 @@ fn reader_at(bytes: &[u8], from: usize) -> Reader<'_>
 pub fn read_name(alloc: Global, bytes: &[u8], from: usize) -> Result<(Name, usize), CodecFault>
     requires { from ≤ length bytes.now }
     // What is answered stands there.
-    ensures right { IfSome (part_of (λ n. n) result) (IsPart SpellsName bytes.now from) }
+    ensures right { IfSome (part_of (λ n. n) result) (IsPart EncodesName bytes.now from) }
     // What stands there is answered, or memory ran out.
-    ensures exact { (part : Part (List ℕ)) → IsPart SpellsName bytes.now from part
+    ensures exact { (part : Part (List ℕ)) → IsPart EncodesName bytes.now from part
         → IfSome (part_of (λ n. n) result) (λ answer. answer ≡ part) }
 {
     let mut reader = reader_at(bytes, from);
@@ -50,9 +50,9 @@ pub fn read_name(alloc: Global, bytes: &[u8], from: usize) -> Result<(Name, usiz
 pub fn read_value(alloc: Global, bytes: &[u8], from: usize) -> Result<(Value, usize), CodecFault>
     requires { from ≤ length bytes.now }
     // What is answered stands there.
-    ensures right { IfSome (part_of (λ v. v) result) (IsPart SpellsValue bytes.now from) }
+    ensures right { IfSome (part_of (λ v. v) result) (IsPart EncodesValue bytes.now from) }
     // What stands there is answered, or memory ran out.
-    ensures exact { (part : Part AValue) → IsPart SpellsValue bytes.now from part
+    ensures exact { (part : Part AValue) → IsPart EncodesValue bytes.now from part
         → IfSome (part_of (λ v. v) result) (λ answer. answer ≡ part) }
 {
     let mut reader = reader_at(bytes, from);
@@ -70,9 +70,9 @@ pub fn read_value(alloc: Global, bytes: &[u8], from: usize) -> Result<(Value, us
 pub fn read_op(alloc: Global, bytes: &[u8], from: usize) -> Result<(Op, usize), CodecFault>
     requires { from ≤ length bytes.now }
     // What is answered stands there.
-    ensures right { IfSome (part_of operator_of result) (IsPart SpellsOperator bytes.now from) }
+    ensures right { IfSome (part_of operator_of result) (IsPart EncodesOperator bytes.now from) }
     // What stands there is answered, or memory ran out.
-    ensures exact { (part : Part Operator) → IsPart SpellsOperator bytes.now from part
+    ensures exact { (part : Part Operator) → IsPart EncodesOperator bytes.now from part
         → IfSome (part_of operator_of result) (λ answer. answer ≡ part) }
 {
     let mut reader = reader_at(bytes, from);

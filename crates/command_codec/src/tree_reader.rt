@@ -5,7 +5,7 @@ ghost use Rattle.cond_expr.specs.declared.expr.Whose.TheVariants.{Atom};
 ghost use Rattle.cond_expr.specs.Trees.{column, constant, length_of, joined};
 ghost use Rattle.cond_expr.specs.Trees.{all_of, some_of, fails};
 ghost use Rattle.cond_expr.specs.Seen.{tree, test, trees_of, tests_of};
-ghost use Rattle.command_codec_spec.specs.Reading.{byte, digits, map_to, pair, items, listed};
+ghost use Rattle.command_codec_spec.specs.Reading.{byte, digits, map_to, pair, items, list_parser};
 ghost use Rattle.command_codec_spec.specs.Reader as spec;
 ghost use Rattle.command_codec.specs.Reads.{Reads, ReadsInPlace};
 
@@ -137,7 +137,7 @@ fn length(alloc: Global, reader: &mut Reader<'_>, levels: u32) -> Result<Expr, R
 #[cycle(reads)]
 fn concat(alloc: Global, reader: &mut Reader<'_>, levels: u32) -> Result<Expr, ReadStop>
     ensures { Reads tree (map_to (λ l. joined (trees_of l))
-        (listed 1 (spec.most_parts (nat_lt 0 levels) 255) (spec.level levels).expr)
+        (list_parser 1 (spec.most_parts (nat_lt 0 levels) 255) (spec.level levels).expr)
         reader.old.rest.now) result reader.new.rest.now }
 {
     let count = part_count(reader, 1, 0xFF, levels > 0)?;
@@ -201,7 +201,7 @@ fn comparison(alloc: Global, reader: &mut Reader<'_>, levels: u32) -> Result<Con
 // The conditions of an AND or an OR, each of at most so many levels.
 #[cycle(reads)]
 fn parts(alloc: Global, reader: &mut Reader<'_>, levels: u32) -> Result<Vec<Cond>, ReadStop>
-    ensures { Reads (λ v. map test v.items) (listed 2 (spec.most_parts (nat_lt 0 levels) 65535)
+    ensures { Reads (λ v. map test v.items) (list_parser 2 (spec.most_parts (nat_lt 0 levels) 65535)
         (spec.level levels).cond reader.old.rest.now) result reader.new.rest.now }
 {
     let count = part_count(reader, 2, 0xFFFF, levels > 0)?;

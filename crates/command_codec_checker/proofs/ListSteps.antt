@@ -3,7 +3,7 @@ use Rattle.std.proofs.Common.{◌≡◌, ℕ, ◌+◌, ◌-◌, ◌<◌, ◌≤�
 use Rattle.command_codec.specs.declared.reader.ReadStop.TheVariants as stop
 use Rattle.command_codec_spec.specs.Reading.{Out, Parsed, Unexpected, Parser, and_then, digits}
 use Rattle.command_codec_spec.specs.Reading.{items}
-use Rattle.command_codec_spec.specs.Reading.{listed}
+use Rattle.command_codec_spec.specs.Reading.{list_parser}
 use Rattle.command_codec.specs.Reads.{Passes, Halts}
 use Rattle.command_codec.proofs.ListSteps.{SoMany, none_yet, one_item, no_item, all_items}
 
@@ -41,14 +41,14 @@ module _ {A : Type 0} (p : Parser A) where
 module _ {A : Type 0} (p : Parser A) (k most count i : ℕ) (start us ts : List ℕ)
     (counted : digits most k 0 start ≡ Parsed count us)
     (many : PassesMany p count (count - i) us ts) where
-  after_count : (o : Out (List A)) → items p count us ≡ o → listed k most p start ≡ o
+  after_count : (o : Out (List A)) → items p count us ≡ o → list_parser k most p start ≡ o
   after_count o e = ap (λ o. and_then o (λ n. items p n)) counted ∙ e
 
   pub one_listed_halts : {E : Type 0} (e : E) (new : List ℕ) → i < count → Halts (p ts) e new
-      → Halts (listed k most p start) e new
+      → Halts (list_parser k most p start) e new
   one_listed_halts e new h f = after_count (Unexpected new)
       (one_halts p count i us ts many e new h f)
 
-  pub all_listed : count ≤ i → Passes (listed k most p start) ts
+  pub all_listed : count ≤ i → Passes (list_parser k most p start) ts
   all_listed h = let all = all_passed p count i us ts many h in
       record { read = all.read; got = after_count (Parsed all.read ts) all.got }

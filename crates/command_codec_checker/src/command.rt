@@ -54,7 +54,7 @@ fn check_sets(reader: &mut Reader<'_>) -> Result<(), Unexpected>
 
 // Goes over what stands after the tag of INSERT.
 fn check_insert(reader: &mut Reader<'_>) -> Result<(), Unexpected>
-    ensures { Recognizes (map_to spec.inserted (pair spec.name spec.cells)
+    ensures { Recognizes (map_to spec.insert_of (pair spec.name spec.cells)
         reader.old.rest.now) result reader.new.rest.now }
 {
     check_name(reader)?;
@@ -63,7 +63,7 @@ fn check_insert(reader: &mut Reader<'_>) -> Result<(), Unexpected>
 
 // Goes over what stands after the tag of DELETE.
 fn check_delete(reader: &mut Reader<'_>) -> Result<(), Unexpected>
-    ensures { Recognizes (map_to spec.deleted (pair spec.name spec.outermost.cond)
+    ensures { Recognizes (map_to spec.delete_of (pair spec.name spec.outermost.cond)
         reader.old.rest.now) result reader.new.rest.now }
 {
     check_name(reader)?;
@@ -72,7 +72,7 @@ fn check_delete(reader: &mut Reader<'_>) -> Result<(), Unexpected>
 
 // Goes over what stands after the tag of UPDATE.
 fn check_update(reader: &mut Reader<'_>) -> Result<(), Unexpected>
-    ensures { Recognizes (map_to spec.updated
+    ensures { Recognizes (map_to spec.update_of
         (pair (pair spec.name spec.sets) spec.outermost.cond) reader.old.rest.now) result
         reader.new.rest.now }
 {

@@ -70,7 +70,7 @@ fn check_created_table(reader: &mut Reader<'_>) -> Result<(), Unexpected>
 
 // Goes over what stands after the tag of PARTITION TABLE.
 fn check_partitioned_table(reader: &mut Reader<'_>) -> Result<(), Unexpected>
-    ensures { Recognizes (map_to spec.partitioned
+    ensures { Recognizes (map_to spec.partition_of
         (pair (pair spec.two_names spec.outermost.cond) spec.name) reader.old.rest.now) result
         reader.new.rest.now }
 {
@@ -81,7 +81,7 @@ fn check_partitioned_table(reader: &mut Reader<'_>) -> Result<(), Unexpected>
 
 // Goes over what stands after the tag of DECOMPOSE TABLE.
 fn check_decomposed_table(reader: &mut Reader<'_>) -> Result<(), Unexpected>
-    ensures { Recognizes (map_to spec.decomposed
+    ensures { Recognizes (map_to spec.decompose_of
         (pair (pair (pair spec.two_names spec.names) spec.name) spec.names) reader.old.rest.now)
         result reader.new.rest.now }
 {

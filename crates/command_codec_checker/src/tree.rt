@@ -3,7 +3,7 @@
 ghost use Rattle.std.specs.Prelude.{nat_lt};
 ghost use Rattle.cond_expr.specs.Trees.{joined};
 ghost use Rattle.cond_expr.specs.Seen.{trees_of};
-ghost use Rattle.command_codec_spec.specs.Reading.{map_to, pair, items, listed};
+ghost use Rattle.command_codec_spec.specs.Reading.{map_to, pair, items, list_parser};
 ghost use Rattle.command_codec_spec.specs.Reader as spec;
 ghost use Rattle.command_codec.specs.Reads.{Recognizes};
 
@@ -38,7 +38,7 @@ fn check_conds(reader: &mut Reader<'_>, count: u64, levels: u32) -> Result<(), U
 #[cycle(checks)]
 fn check_concat(reader: &mut Reader<'_>, levels: u32) -> Result<(), Unexpected>
     ensures { Recognizes (map_to (λ l. joined (trees_of l))
-        (listed 1 (spec.most_parts (nat_lt 0 levels) 255) (spec.level levels).expr)
+        (list_parser 1 (spec.most_parts (nat_lt 0 levels) 255) (spec.level levels).expr)
         reader.old.rest.now) result reader.new.rest.now }
 {
     let count = part_count(reader, 1, 0xFF, levels > 0)?;
@@ -99,7 +99,7 @@ fn check_comparison(reader: &mut Reader<'_>, levels: u32) -> Result<(), Unexpect
 // Goes over what stands after the tag of an AND or an OR; its parts have at most so many levels.
 #[cycle(checks)]
 fn check_parts(reader: &mut Reader<'_>, levels: u32) -> Result<(), Unexpected>
-    ensures { Recognizes (listed 2 (spec.most_parts (nat_lt 0 levels) 65535)
+    ensures { Recognizes (list_parser 2 (spec.most_parts (nat_lt 0 levels) 65535)
         (spec.level levels).cond reader.old.rest.now) result reader.new.rest.now }
 {
     let count = part_count(reader, 2, 0xFFFF, levels > 0)?;

@@ -61,7 +61,7 @@ use Rattle.smo_ops_spec.proofs.CountedOperators.{counted_length}
 use Rattle.smo_ops_spec.proofs.NextSchemas.{all_preconditions, next_is_valid}
 use Rattle.smo_ops_spec.proofs.MetPreconditions.{create_met, partition_met, decompose_met}
 use Rattle.smo_ops_spec.proofs.MetPreconditions.{join_met, add_met}
-use Rattle.command_codec_spec.specs.Spelling.{number_of}
+use Rattle.command_codec_spec.specs.Encoding.{number_of}
 use Rattle.command_codec_spec.specs.Valid.{TreeFits, TreesFit, TestFits, TestsFit, IsWritableTree}
 use Rattle.command_codec_spec.specs.Valid.{IsWritableTest, IsWritableOperator, IsWritableChange}
 use Rattle.command_codec_spec.specs.Valid.{IsWritableBody, IsWritable}

@@ -12,24 +12,24 @@ use Rattle.smo_ops_types.specs.Operators.{copy_table, merge_table, partition_tab
 use Rattle.smo_ops_types.specs.Operators.{join_table, add_column, drop_column, rename_column}
 use Rattle.smo_ops_types.specs.Changes.{PlainChange, insertion, deletion, update}
 use Rattle.smo_ops_types.specs.Commands.{PlainBody, changing, evolving}
-use Rattle.command_codec_spec.specs.Reading.{Parsed, Parser, IsCorrectParser, pair, tagged, digits}
-use Rattle.command_codec_spec.specs.Reading.{listed}
-use Rattle.command_codec_spec.specs.Spelling.{number, name_bytes, type_tag, value_bytes, tree_bytes}
-use Rattle.command_codec_spec.specs.Spelling.{test_bytes, list_bytes, column_bytes, operator_bytes}
-use Rattle.command_codec_spec.specs.Spelling.{cell_bytes, set_bytes, change_bytes, body_bytes}
-use Rattle.command_codec_spec.specs.Spelling.{command_bytes}
+use Rattle.command_codec_spec.specs.Reading.{Parsed, Parser, IsCorrectParser, pair, by_tag, digits}
+use Rattle.command_codec_spec.specs.Reading.{list_parser}
+use Rattle.command_codec_spec.specs.Encoding.{number, name_bytes, type_tag, value_bytes, tree_bytes}
+use Rattle.command_codec_spec.specs.Encoding.{test_bytes, list_bytes, column_bytes, operator_bytes}
+use Rattle.command_codec_spec.specs.Encoding.{cell_bytes, set_bytes, change_bytes, body_bytes}
+use Rattle.command_codec_spec.specs.Encoding.{command_bytes}
 use Rattle.command_codec_spec.specs.Valid.{IsWritableTree, IsWritableOperator}
 use Rattle.command_codec_spec.specs.Valid.{IsWritableChange, TreeNamed, OperatorNamed, ChangeNamed}
 use Rattle.command_codec_spec.specs.Valid.{IsTree, IsTest, IsOperator, IsChange, IsBody, IsCommand}
 use Rattle.command_codec_spec.specs.Reader.{up_to, name, value, column_type, outermost, column_of}
-use Rattle.command_codec_spec.specs.Reader.{columns, names, two_names, three_names, partitioned}
-use Rattle.command_codec_spec.specs.Reader.{decomposed, joined_tables, operator_arm}
+use Rattle.command_codec_spec.specs.Reader.{columns, names, two_names, three_names, partition_of}
+use Rattle.command_codec_spec.specs.Reader.{decompose_of, joined_tables, operator_arm}
 use Rattle.command_codec_spec.specs.Reader.{operator, operators, cell, cells, set, sets, change_arm}
 use Rattle.command_codec_spec.specs.Reader.{change, changes, body_arm, body, a_command, command}
 use Rattle.command_codec_spec.specs.Reader.{created_table, renamed_table, copied_table}
 use Rattle.command_codec_spec.specs.Reader.{merged_table}
-use Rattle.command_codec_spec.specs.Reader.{added_column, dropped_column, renamed_column, inserted}
-use Rattle.command_codec_spec.specs.Reader.{deleted, updated, evolved}
+use Rattle.command_codec_spec.specs.Reader.{added_column, dropped_column, renamed_column, insert_of}
+use Rattle.command_codec_spec.specs.Reader.{delete_of, update_of, evolved}
 use Rattle.command_codec_spec.proofs.Correctness.{retold, mapped_correct, pair_correct, ArmCorrect}
 use Rattle.command_codec_spec.proofs.Correctness.{parts_correct, parts_read, tagged_correct}
 use Rattle.command_codec_spec.proofs.Numbers.{number_correct}
@@ -51,12 +51,12 @@ both_of_each P Q (a ∷ l) h k = ((h.0, k.0), both_of_each P Q l h.1 k.1)
 
 -- ---- lists with their counts
 
-many_correct : {A : Type 0} (p : Parser A) (Is : A → Type 0) (spell : A → List ℕ) (k most : ℕ)
-    → most < 2 ^ (8 * k) → IsCorrectParser p Is spell
-    → IsCorrectParser (listed k most p) (λ l. (length l ≤ most) × AllByRecursion Is l)
-    (list_bytes k spell)
-many_correct p Is spell k most fits correct =
-    list_correct p Is spell k most fits (λ n h. items_correct p Is spell correct n)
+many_correct : {A : Type 0} (p : Parser A) (Is : A → Type 0) (encode : A → List ℕ) (k most : ℕ)
+    → most < 2 ^ (8 * k) → IsCorrectParser p Is encode
+    → IsCorrectParser (list_parser k most p) (λ l. (length l ≤ most) × AllByRecursion Is l)
+    (list_bytes k encode)
+many_correct p Is encode k most fits correct =
+    list_correct p Is encode k most fits (λ n h. items_correct p Is encode correct n)
 
 -- ---- names
 
@@ -150,7 +150,7 @@ partition_parts = pair_correct (pair two_names outermost.cond) (λ x. Two x.0 ×
     (pair_correct two_names Two two_bytes outermost.cond IsTest test_bytes two_correct
     cond_correct_outermost) name_correct
 
-a_partition : MadeOf 6 Partition partition_bytes partitioned
+a_partition : MadeOf 6 Partition partition_bytes partition_of
 a_partition (((r, s), c), t) (((r_is, s_is), (writable, named)), t_is) =
     ((writable, (r_is, s_is, named, t_is)), refl)
 
@@ -173,7 +173,7 @@ decompose_parts =
     (λ x. two_bytes x.0.0 ++ list_bytes 1 name_bytes x.0.1 ++ name_bytes x.1) names Names
     (list_bytes 1 name_bytes) second names_correct
 
-a_decompose : MadeOf 7 Decompose decompose_bytes decomposed
+a_decompose : MadeOf 7 Decompose decompose_bytes decompose_of
 a_decompose ((((r, s), xs), t), ys)
     ((((r_is, s_is), (few_xs, xs_named)), t_is), (few_ys, ys_named)) = (
       (
@@ -232,10 +232,10 @@ operator_arms (suc (suc (suc (suc (suc zero))))) t =
     IsOperator operator_bytes 5 a_merge
 operator_arms (suc (suc (suc (suc (suc (suc zero)))))) t =
     parts_correct (pair (pair two_names outermost.cond) name) Partition partition_bytes
-    partition_parts partitioned IsOperator operator_bytes 6 a_partition
+    partition_parts partition_of IsOperator operator_bytes 6 a_partition
 operator_arms (suc (suc (suc (suc (suc (suc (suc zero))))))) t =
     parts_correct (pair (pair (pair two_names names) name) names) Decompose decompose_bytes
-    decompose_parts decomposed IsOperator operator_bytes 7 a_decompose
+    decompose_parts decompose_of IsOperator operator_bytes 7 a_decompose
 operator_arms (suc (suc (suc (suc (suc (suc (suc (suc zero)))))))) t =
     parts_correct (pair three_names outermost.cond) Join join_bytes join_parts
     joined_tables IsOperator operator_bytes 8 a_join
@@ -256,7 +256,7 @@ operator_arms (suc (suc (suc (suc (suc (suc (suc (suc (suc (suc (suc (suc n)))))
     ))
 
 operator_again : (op : Operator) → IsOperator op → (rest : List ℕ)
-    → tagged (up_to 11) operator_arm (operator_bytes op ++ rest) ≡ Parsed op rest
+    → by_tag (up_to 11) operator_arm (operator_bytes op ++ rest) ≡ Parsed op rest
 operator_again nop h rest = refl
 operator_again (create_table r cs) h rest = parts_read (pair name columns) Create create_bytes
     create_parts created_table IsOperator operator_bytes 1 a_create (r, cs)
@@ -272,11 +272,11 @@ operator_again (merge_table r s t) h rest = parts_read three_names Three three_b
     ((h.1.0, h.1.1), h.1.2) rest
 operator_again (partition_table r s c t) h rest =
     parts_read (pair (pair two_names outermost.cond) name) Partition partition_bytes partition_parts
-    partitioned IsOperator operator_bytes 6 a_partition
+    partition_of IsOperator operator_bytes 6 a_partition
     (((r, s), c), t) (((h.1.0, h.1.1), (h.0, h.1.2)), h.1.3) rest
 operator_again (decompose_table r s xs t ys) h rest =
     parts_read (pair (pair (pair two_names names) name) names) Decompose decompose_bytes
-    decompose_parts decomposed IsOperator operator_bytes 7 a_decompose ((((r, s), xs), t), ys) (
+    decompose_parts decompose_of IsOperator operator_bytes 7 a_decompose ((((r, s), xs), t), ys) (
       (((h.1.0, h.1.1), ((let a = h.0.0 in omega (arith, a)), h.1.2)), h.1.3),
       ((let b = h.0.1 in omega (arith, b)), h.1.4),
     ) rest
@@ -366,13 +366,13 @@ abbrev ChangeOf : {B : Type 0} → ℕ → (B → Type 0) → (B → List ℕ) �
 ChangeOf {B} x Part part make = (b : B) → Part b → IsChange (make b)
     × (change_bytes (make b) ≡ x ∷ part b)
 
-an_insert : ChangeOf 0 Insert insert_bytes inserted
+an_insert : ChangeOf 0 Insert insert_bytes insert_of
 an_insert x h = (((let a = h.1.0 in omega (arith, a)), (h.0, h.1.1)), refl)
 
-a_delete : ChangeOf 1 Delete delete_bytes deleted
+a_delete : ChangeOf 1 Delete delete_bytes delete_of
 a_delete x h = ((h.1.0, (h.0, h.1.1)), refl)
 
-an_update : ChangeOf 2 Update update_bytes updated
+an_update : ChangeOf 2 Update update_bytes update_of
 an_update ((r, sets), c) ((r_is, (few, each)), (writable, named)) =
     let both = each_of_both (λ s. IsWritableTree s.1) (λ s. IsName s.0 × TreeNamed s.1) sets
     each in (
@@ -382,24 +382,24 @@ an_update ((r, sets), c) ((r_is, (few, each)), (writable, named)) =
 
 change_arms : (x : ℕ) → up_to 2 x ≡ true → ArmCorrect IsChange change_bytes x (change_arm x)
 change_arms zero t = parts_correct (pair name cells) Insert insert_bytes insert_parts
-    inserted IsChange change_bytes 0 an_insert
+    insert_of IsChange change_bytes 0 an_insert
 change_arms (suc zero) t = parts_correct (pair name outermost.cond) Delete delete_bytes delete_parts
-    deleted IsChange change_bytes 1 a_delete
+    delete_of IsChange change_bytes 1 a_delete
 change_arms (suc (suc zero)) t = parts_correct (pair (pair name sets) outermost.cond) Update
-    update_bytes update_parts updated IsChange change_bytes 2 an_update
+    update_bytes update_parts update_of IsChange change_bytes 2 an_update
 change_arms (suc (suc (suc n))) t = absurd (omega (arith, leb-true (suc (suc (suc n))) 2 t))
 
 change_again : (c : PlainChange) → IsChange c → (rest : List ℕ)
-    → tagged (up_to 2) change_arm (change_bytes c ++ rest) ≡ Parsed c rest
+    → by_tag (up_to 2) change_arm (change_bytes c ++ rest) ≡ Parsed c rest
 change_again (insertion t l) h rest = parts_read (pair name cells) Insert insert_bytes insert_parts
-    inserted IsChange change_bytes 0 an_insert (t, l)
+    insert_of IsChange change_bytes 0 an_insert (t, l)
     (h.1.0, ((let a = h.0 in omega (arith, a)), h.1.1)) rest
 change_again (deletion t c) h rest = parts_read (pair name outermost.cond) Delete delete_bytes
-    delete_parts deleted IsChange change_bytes 1 a_delete (t, c)
+    delete_parts delete_of IsChange change_bytes 1 a_delete (t, c)
     (h.1.0, (h.0, h.1.1)) rest
 change_again (update t l c) h rest =
     parts_read (pair (pair name sets) outermost.cond) Update update_bytes update_parts
-    updated IsChange change_bytes 2 an_update ((t, l), c) (
+    update_of IsChange change_bytes 2 an_update ((t, l), c) (
       (
         h.1.0,
         (
@@ -460,7 +460,7 @@ body_arms (suc zero) t = parts_correct (pair operator operators) Evolution evolu
 body_arms (suc (suc n)) t = absurd (omega (arith, leb-true (suc (suc n)) 1 t))
 
 body_again : (b : PlainBody) → IsBody b → (rest : List ℕ)
-    → tagged (up_to 1) body_arm (body_bytes b ++ rest) ≡ Parsed b rest
+    → by_tag (up_to 1) body_arm (body_bytes b ++ rest) ≡ Parsed b rest
 body_again (changing l) h rest = parts_read changes Changes (list_bytes 4 change_bytes)
     changes_correct changing IsBody body_bytes 0 some_changes l
     ((let a = h.0.0 in omega (arith, a)), both_of_each IsWritableChange ChangeNamed l h.0.1 h.1)

@@ -5,7 +5,7 @@ use Rattle.std.specs.List.{AllByRecursion}
 use Rattle.command_codec_spec.specs.Reading.{Out, Parsed, Unexpected, Parser, Begins, Same}
 use Rattle.command_codec_spec.specs.Reading.{Explains}
 use Rattle.command_codec_spec.specs.Reading.{IsCorrectParser, and_then, bind, pure, map_to, pair}
-use Rattle.command_codec_spec.specs.Reading.{byte, tagged, run}
+use Rattle.command_codec_spec.specs.Reading.{byte, by_tag, run}
 
 pub true_false : {X : Type 0} → true ≡ false → X
 true_false e = absurd cc
@@ -17,40 +17,40 @@ by_test false f g = g refl
 -- ---- the whole is known by its parts
 
 -- with the byte at which it is stuck nothing goes on
-pub halts : {A : Type 0} (p : Parser A) (Is : A → Type 0) (spell : A → List ℕ)
-    → IsCorrectParser p Is spell → (prefix : List ℕ) (x : ℕ) (rest : List ℕ)
-    → Same p prefix (x ∷ rest) → Begins Is spell (prefix ++ x ∷ []) → ⊥
-halts {A} p Is spell correct prefix x rest same begins =
+pub halts : {A : Type 0} (p : Parser A) (Is : A → Type 0) (encode : A → List ℕ)
+    → IsCorrectParser p Is encode → (prefix : List ℕ) (x : ℕ) (rest : List ℕ)
+    → Same p prefix (x ∷ rest) → Begins Is encode (prefix ++ x ∷ []) → ⊥
+halts {A} p Is encode correct prefix x rest same begins =
     let more : List ℕ = begins.0 in
     let a : A = begins.1 in
-    let e : spell a ≡ prefix ++ x ∷ more = begins.3 ∙ append_assoc prefix (x ∷ []) more in
-    let got : p (prefix ++ x ∷ more) ≡ Parsed a [] = ap p (sym (append-nil (spell a) ∙ e))
+    let e : encode a ≡ prefix ++ x ∷ more = begins.3 ∙ append_assoc prefix (x ∷ []) more in
+    let got : p (prefix ++ x ∷ more) ≡ Parsed a [] = ap p (sym (append-nil (encode a) ∙ e))
     ∙ correct.complete a begins.2 [] in
     let stuck : p (prefix ++ x ∷ more) ≡ Unexpected (x ∷ more) = same more in
     absurd (let z : Unexpected (x ∷ more) ≡ Parsed a [] = sym stuck ∙ got in cc)
 
 -- what is read is spelled so
-pub is_read : {A : Type 0} (p : Parser A) (Is : A → Type 0) (spell : A → List ℕ)
-    → IsCorrectParser p Is spell → (a : A) (ts rest : List ℕ) → p ts ≡ Parsed a rest → Is a
-    × (ts ≡ spell a ++ rest)
-is_read {A} p Is spell correct a ts rest e = let P : Out A
-    → Type 0 = λ o. Explains p Is spell ts o in subst P e (correct.explains ts)
+pub is_read : {A : Type 0} (p : Parser A) (Is : A → Type 0) (encode : A → List ℕ)
+    → IsCorrectParser p Is encode → (a : A) (ts rest : List ℕ) → p ts ≡ Parsed a rest → Is a
+    × (ts ≡ encode a ++ rest)
+is_read {A} p Is encode correct a ts rest e = let P : Out A
+    → Type 0 = λ o. Explains p Is encode ts o in subst P e (correct.explains ts)
 
 -- values with the same spelling and the same rest after it are one, and so is the rest
-pub one_value : {A : Type 0} (p : Parser A) (Is : A → Type 0) (spell : A → List ℕ)
-    → IsCorrectParser p Is spell → (a b : A) (us vs : List ℕ) → Is a → Is b
-    → spell a ++ us ≡ spell b ++ vs → (a ≡ b) × (us ≡ vs)
-one_value {A} p Is spell correct a b us vs ha hb e =
+pub one_value : {A : Type 0} (p : Parser A) (Is : A → Type 0) (encode : A → List ℕ)
+    → IsCorrectParser p Is encode → (a b : A) (us vs : List ℕ) → Is a → Is b
+    → encode a ++ us ≡ encode b ++ vs → (a ≡ b) × (us ≡ vs)
+one_value {A} p Is encode correct a b us vs ha hb e =
     let same : Parsed a us ≡ Parsed b vs = sym (correct.complete a ha us) ∙ ap p e
     ∙ correct.complete b hb vs in
     ((let z : a ≡ b = cc in z), (let z : us ≡ vs = cc in z))
 
 -- ---- another format of the same values
 
-pub retold : {A : Type 0} (p : Parser A) (Is Also : A → Type 0) (spell again : A → List ℕ)
-    → ((a : A) → Is a → Also a × (spell a ≡ again a)) → ((a : A) → Also a → Is a)
-    → IsCorrectParser p Is spell → IsCorrectParser p Also again
-retold {A} p Is Also spell again to from correct = record {
+pub retold : {A : Type 0} (p : Parser A) (Is Also : A → Type 0) (encode again : A → List ℕ)
+    → ((a : A) → Is a → Also a × (encode a ≡ again a)) → ((a : A) → Also a → Is a)
+    → IsCorrectParser p Is encode → IsCorrectParser p Also again
+retold {A} p Is Also encode again to from correct = record {
   one = correct.one;
   live = (to correct.one correct.live).0;
   explains = λ ts. explained ts (p ts) (correct.explains ts);
@@ -58,7 +58,7 @@ retold {A} p Is Also spell again to from correct = record {
       ∙ correct.complete a (from a h) rest;
 }
   where
-    explained : (ts : List ℕ) (o : Out A) → Explains p Is spell ts o → Explains p Also again ts o
+    explained : (ts : List ℕ) (o : Out A) → Explains p Is encode ts o → Explains p Also again ts o
     explained ts (Parsed a rest) x = ((to a x.0).0, x.1 ∙ ap (λ l. l ++ rest) (to a x.0).1)
     explained ts (Unexpected rest) x = (
       x.0,
@@ -95,11 +95,11 @@ same_second p f a text prefix (x ∷ rest) got s = λ other.
 
 -- what is made of values that were read
 module _ {A B : Type 0} (q : Parser B) (Part : B → Type 0) (part : B → List ℕ)
-    (correct : IsCorrectParser q Part part) (make : B → A) (Is : A → Type 0) (spell : A → List ℕ)
-    (up : (b : B) → Part b → Is (make b) × (spell (make b) ≡ part b)) (down : (a : A) → Is a
+    (correct : IsCorrectParser q Part part) (make : B → A) (Is : A → Type 0) (encode : A → List ℕ)
+    (up : (b : B) → Part b → Is (make b) × (encode (make b) ≡ part b)) (down : (a : A) → Is a
     → (b : B) × Part b × (a ≡ make b)) where
   mapped : (ts : List ℕ) (o : Out B) → Explains q Part part ts o
-      → Explains (map_to make q) Is spell ts (and_then o (λ b. pure (make b)))
+      → Explains (map_to make q) Is encode ts (and_then o (λ b. pure (make b)))
   mapped ts (Parsed b rest) h = ((up b h.0).0, h.1 ∙ ap (λ l. l ++ rest) (sym (up b h.0).1))
   mapped ts (Unexpected rest) h = (
     h.0,
@@ -113,14 +113,14 @@ module _ {A B : Type 0} (q : Parser B) (Part : B → Type 0) (part : B → List 
     same_first q (λ b. pure (make b)) h.0 rest h.3,
   )
 
-  complete : (a : A) → Is a → (rest : List ℕ) → map_to make q (spell a ++ rest) ≡ Parsed a rest
+  complete : (a : A) → Is a → (rest : List ℕ) → map_to make q (encode a ++ rest) ≡ Parsed a rest
   complete a h rest =
       let d = down a h in
-      ap (λ l. map_to make q (l ++ rest)) (ap spell d.2 ∙ (up d.0 d.1).1)
+      ap (λ l. map_to make q (l ++ rest)) (ap encode d.2 ∙ (up d.0 d.1).1)
       ∙ ap (λ o. and_then o (λ c. pure (make c))) (correct.complete d.0 d.1 rest)
       ∙ ap (λ c. Parsed c rest) (sym d.2)
 
-  pub mapped_correct : IsCorrectParser (map_to make q) Is spell
+  pub mapped_correct : IsCorrectParser (map_to make q) Is encode
   mapped_correct = record {
     one = make correct.one;
     live = (up correct.one correct.live).0;
@@ -129,34 +129,34 @@ module _ {A B : Type 0} (q : Parser B) (Part : B → Type 0) (part : B → List 
   }
 
 -- one after the other, where the first tells how the second is read
-module _ {A C : Type 0} (p : Parser A) (Is : A → Type 0) (spell : A → List ℕ) (f : A → Parser C)
+module _ {A C : Type 0} (p : Parser A) (Is : A → Type 0) (encode : A → List ℕ) (f : A → Parser C)
     (After : A → C → Type 0) (after : A → C → List ℕ) (Whole : C → Type 0) (whole : C → List ℕ)
-    (gp : IsCorrectParser p Is spell) (gf : (a : A) → Is a
+    (gp : IsCorrectParser p Is encode) (gf : (a : A) → Is a
     → IsCorrectParser (f a) (After a) (after a))
-    (up : (a : A) (c : C) → Is a → After a c → Whole c × (whole c ≡ spell a ++ after a c))
+    (up : (a : A) (c : C) → Is a → After a c → Whole c × (whole c ≡ encode a ++ after a c))
     (down : (c : C) → Whole c → (a : A) × Is a × After a c) where
-  inner : (a : A) (ts rest : List ℕ) → Is a → ts ≡ spell a ++ rest → (o : Out C)
+  inner : (a : A) (ts rest : List ℕ) → Is a → ts ≡ encode a ++ rest → (o : Out C)
       → Explains (f a) (After a) (after a) rest o → Explains (bind p f) Whole whole ts o
   inner a ts rest h e (Parsed c rest2) x = let u = up a c h x.0 in (
     u.0,
-    e ∙ ap (λ l. spell a ++ l) x.1 ∙ sym (append_assoc (spell a) (after a c) rest2)
+    e ∙ ap (λ l. encode a ++ l) x.1 ∙ sym (append_assoc (encode a) (after a c) rest2)
         ∙ ap (λ l. l ++ rest2) (sym u.1),
   )
   inner a ts rest h e (Unexpected rest2) x =
       let u = up a x.2.1 h x.2.2 in (
-        spell a ++ x.0,
-        e ∙ ap (λ l. spell a ++ l) x.1 ∙ sym (append_assoc (spell a) x.0 rest2),
+        encode a ++ x.0,
+        e ∙ ap (λ l. encode a ++ l) x.1 ∙ sym (append_assoc (encode a) x.0 rest2),
         (
           x.2.0,
           x.2.1,
           u.0,
-          u.1 ∙ ap (λ l. spell a ++ l) x.2.3
-              ∙ sym (append_assoc (spell a) x.0 x.2.0),
+          u.1 ∙ ap (λ l. encode a ++ l) x.2.3
+              ∙ sym (append_assoc (encode a) x.0 x.2.0),
         ),
-        same_second p f a (spell a) x.0 rest2 (gp.complete a h) x.3,
+        same_second p f a (encode a) x.0 rest2 (gp.complete a h) x.3,
       )
 
-  outer : (ts : List ℕ) (o : Out A) → Explains p Is spell ts o
+  outer : (ts : List ℕ) (o : Out A) → Explains p Is encode ts o
       → Explains (bind p f) Whole whole ts (and_then o f)
   outer ts (Parsed a rest) x = inner a ts rest x.0 x.1 (f a rest) ((gf a x.0).explains rest)
   outer ts (Unexpected rest) x =
@@ -180,7 +180,7 @@ module _ {A C : Type 0} (p : Parser A) (Is : A → Type 0) (spell : A → List �
       let d = down c h in
       let a = d.0 in
       ap (λ l. bind p f (l ++ rest)) (up a c d.1 d.2).1
-      ∙ ap (bind p f) (append_assoc (spell a) (after a c) rest)
+      ∙ ap (bind p f) (append_assoc (encode a) (after a c) rest)
       ∙ ap (λ o. and_then o f) (gp.complete a d.1 (after a c ++ rest))
       ∙ (gf a d.1).complete c d.2 rest
 
@@ -192,18 +192,19 @@ module _ {A C : Type 0} (p : Parser A) (Is : A → Type 0) (spell : A → List �
     complete = then_complete;
   }
 
-module _ {A B : Type 0} (p : Parser A) (Is : A → Type 0) (spell : A → List ℕ) (q : Parser B)
-    (Also : B → Type 0) (again : B → List ℕ) (gp : IsCorrectParser p Is spell)
+module _ {A B : Type 0} (p : Parser A) (Is : A → Type 0) (encode : A → List ℕ) (q : Parser B)
+    (Also : B → Type 0) (again : B → List ℕ) (gp : IsCorrectParser p Is encode)
     (gq : IsCorrectParser q Also again) where
   pub pair_correct : IsCorrectParser (pair p q) (λ x. Is x.0 × Also x.1)
-      (λ x. spell x.0 ++ again x.1)
-  pair_correct = then_correct p Is spell (λ a. map_to (λ b. (a, b)) q) (λ a x. (x.0 ≡ a) × Also x.1)
-      (λ a x. again x.1) (λ x. Is x.0 × Also x.1) (λ x. spell x.0 ++ again x.1) gp
+      (λ x. encode x.0 ++ again x.1)
+  pair_correct = then_correct p Is encode (λ a. map_to (λ b. (a, b)) q) (λ a x. (x.0 ≡ a)
+      × Also x.1)
+      (λ a x. again x.1) (λ x. Is x.0 × Also x.1) (λ x. encode x.0 ++ again x.1) gp
       (λ a h. mapped_correct q Also again gq (λ b. (a, b)) (λ x. (x.0 ≡ a) × Also x.1)
       (λ x. again x.1) (λ b k. ((refl, k), refl)) (λ x k. (x.1, k.1, ap (λ c. (c, x.1)) k.0)))
       (λ a x h k. (
         (let P : A → Type 0 = Is in subst P (sym k.0) h, k.1),
-        ap (λ c. spell c ++ again x.1) k.0,
+        ap (λ c. encode c ++ again x.1) k.0,
       ))
       (λ x h. (x.0, h.0, (refl, h.1)))
 
@@ -273,19 +274,19 @@ run_correct takes one live (suc k) =
 
 -- what a reader after this byte says of the whole
 abbrev pub Arm : {A : Type 0} → (A → Type 0) → (A → List ℕ) → ℕ → Parser A → List ℕ → Out A → Type 0
-Arm Is spell x p ts (Parsed a rest) = Is a × (x ∷ ts ≡ spell a ++ rest)
-Arm Is spell x p ts (Unexpected rest) = (prefix : List ℕ) × (ts ≡ prefix ++ rest)
-    × Begins Is spell (x ∷ prefix) × Same p prefix rest
+Arm Is encode x p ts (Parsed a rest) = Is a × (x ∷ ts ≡ encode a ++ rest)
+Arm Is encode x p ts (Unexpected rest) = (prefix : List ℕ) × (ts ≡ prefix ++ rest)
+    × Begins Is encode (x ∷ prefix) × Same p prefix rest
 
 abbrev pub ArmCorrect : {A : Type 0} → (A → Type 0) → (A → List ℕ) → ℕ → Parser A → Type 0
-ArmCorrect Is spell x p = (ts : List ℕ) → Arm Is spell x p ts (p ts)
+ArmCorrect Is encode x p = (ts : List ℕ) → Arm Is encode x p ts (p ts)
 
 -- the parts of the whole, after the byte
 module _ {A B : Type 0} (q : Parser B) (Part : B → Type 0) (part : B → List ℕ)
-    (correct : IsCorrectParser q Part part) (make : B → A) (Is : A → Type 0) (spell : A → List ℕ)
-    (x : ℕ) (up : (b : B) → Part b → Is (make b) × (spell (make b) ≡ x ∷ part b)) where
+    (correct : IsCorrectParser q Part part) (make : B → A) (Is : A → Type 0) (encode : A → List ℕ)
+    (x : ℕ) (up : (b : B) → Part b → Is (make b) × (encode (make b) ≡ x ∷ part b)) where
   arm_from : (ts : List ℕ) (o : Out B) → Explains q Part part ts o
-      → Arm Is spell x (map_to make q) ts (and_then o (λ b. pure (make b)))
+      → Arm Is encode x (map_to make q) ts (and_then o (λ b. pure (make b)))
   arm_from ts (Parsed b rest) h = (
     (up b h.0).0,
     ap (λ l. x ∷ l) h.1
@@ -298,7 +299,7 @@ module _ {A B : Type 0} (q : Parser B) (Part : B → Type 0) (part : B → List 
     same_first q (λ b. pure (make b)) h.0 rest h.3,
   )
 
-  pub parts_correct : ArmCorrect Is spell x (map_to make q)
+  pub parts_correct : ArmCorrect Is encode x (map_to make q)
   parts_correct ts = arm_from ts (q ts) (correct.explains ts)
 
   -- what is spelled so is read after the byte
@@ -306,36 +307,37 @@ module _ {A B : Type 0} (q : Parser B) (Part : B → Type 0) (part : B → List 
       → map_to make q (part b ++ rest) ≡ Parsed (make b) rest
   parts_read b h rest = ap (λ o. and_then o (λ c. pure (make c))) (correct.complete b h rest)
 
-module _ {A : Type 0} (takes : ℕ → Bool) (arm : ℕ → Parser A) (Is : A → Type 0) (spell : A → List ℕ)
+module _ {A : Type 0} (takes : ℕ → Bool) (arm : ℕ → Parser A) (Is : A → Type 0) (encode : A
+    → List ℕ)
     (one : A) (live : Is one)
-    (each : (x : ℕ) → takes x ≡ true → ArmCorrect Is spell x (arm x))
+    (each : (x : ℕ) → takes x ≡ true → ArmCorrect Is encode x (arm x))
     (complete : (a : A) → Is a → (rest : List ℕ)
-    → tagged takes arm (spell a ++ rest) ≡ Parsed a rest) where
-  refused : (x : ℕ) (rest : List ℕ) → takes x ≡ false → Same (tagged takes arm) [] (x ∷ rest)
+    → by_tag takes arm (encode a ++ rest) ≡ Parsed a rest) where
+  refused : (x : ℕ) (rest : List ℕ) → takes x ≡ false → Same (by_tag takes arm) [] (x ∷ rest)
   refused x rest e = λ other. ap (λ b. and_then (cond b (Parsed x other) (Unexpected (x ∷ other)))
       arm) e
 
   later : (x : ℕ) (prefix rest : List ℕ) → takes x ≡ true → Same (arm x) prefix rest
-      → Same (tagged takes arm) (x ∷ prefix) rest
+      → Same (by_tag takes arm) (x ∷ prefix) rest
   later x prefix [] e s = tt
   later x prefix (y ∷ rest) e s = λ other. ap
       (λ b. and_then (cond b (Parsed x (prefix ++ y ∷ other))
       (Unexpected (x ∷ (prefix ++ y ∷ other)))) arm) e ∙ s other
 
-  taken : (x : ℕ) (ts : List ℕ) → takes x ≡ true → (o : Out A) → Arm Is spell x (arm x) ts o
-      → Explains (tagged takes arm) Is spell (x ∷ ts) o
+  taken : (x : ℕ) (ts : List ℕ) → takes x ≡ true → (o : Out A) → Arm Is encode x (arm x) ts o
+      → Explains (by_tag takes arm) Is encode (x ∷ ts) o
   taken x ts e (Parsed a rest) h = h
   taken x ts e (Unexpected rest) h = (x ∷ h.0, ap (λ l. x ∷ l) h.1, h.2, later x h.0 rest e h.3)
 
-  explained : (ts : List ℕ) → Explains (tagged takes arm) Is spell ts (tagged takes arm ts)
-  explained [] = ([], refl, (spell one, one, live, refl), tt)
+  explained : (ts : List ℕ) → Explains (by_tag takes arm) Is encode ts (by_tag takes arm ts)
+  explained [] = ([], refl, (encode one, one, live, refl), tt)
   explained (x ∷ ts) = by_test (takes x)
-      (λ e. let P : Bool → Type 0 = λ b. Explains (tagged takes arm) Is spell (x ∷ ts)
+      (λ e. let P : Bool → Type 0 = λ b. Explains (by_tag takes arm) Is encode (x ∷ ts)
       (and_then (cond b (Parsed x ts) (Unexpected (x ∷ ts))) arm) in
       subst P (sym e) (taken x ts e (arm x ts) (each x e ts)))
-      (λ e. let P : Bool → Type 0 = λ b. Explains (tagged takes arm) Is spell (x ∷ ts)
+      (λ e. let P : Bool → Type 0 = λ b. Explains (by_tag takes arm) Is encode (x ∷ ts)
       (and_then (cond b (Parsed x ts) (Unexpected (x ∷ ts))) arm) in
-      subst P (sym e) ([], refl, (spell one, one, live, refl), refused x ts e))
+      subst P (sym e) ([], refl, (encode one, one, live, refl), refused x ts e))
 
-  pub tagged_correct : IsCorrectParser (tagged takes arm) Is spell
+  pub tagged_correct : IsCorrectParser (by_tag takes arm) Is encode
   tagged_correct = record { one = one; live = live; explains = explained; complete = complete }

@@ -9,10 +9,10 @@ use Rattle.smo_ops_types.specs.Commands.{PlainCommand}
 use Rattle.command_codec_spec.specs.Reading.{Out, Parsed, Unexpected, Parser, Begins, Same}
 use Rattle.command_codec_spec.specs.Reading.{Explains}
 use Rattle.command_codec_spec.specs.Reading.{IsCorrectParser}
-use Rattle.command_codec_spec.specs.Spelling.{command_bytes}
+use Rattle.command_codec_spec.specs.Encoding.{command_bytes}
 use Rattle.command_codec_spec.specs.Valid.{IsCommand}
 use Rattle.command_codec_spec.specs.Reader.{command}
-use Rattle.command_codec_spec.specs.Found.{Spells, GoesOn, IsBadAt, Decoding, whole, bad_at}
+use Rattle.command_codec_spec.specs.Found.{Encodes, GoesOn, IsBadAt, Decoding, whole, bad_at}
 use Rattle.command_codec_spec.specs.Found.{rest_at}
 use Rattle.command_codec_spec.specs.Found.{IsDecoding, Part, part, no_part, more, IsPart}
 use Rattle.command_codec_spec.proofs.Correctness.{halts, is_read, one_value}
@@ -55,10 +55,10 @@ module _ {A : Type 0} (S : A → List ℕ → Type 0) where
     ]
   ]
 
-module _ {A : Type 0} (p : Parser A) (Is : A → Type 0) (spell : A → List ℕ)
-    (correct : IsCorrectParser p Is spell) where
+module _ {A : Type 0} (p : Parser A) (Is : A → Type 0) (encode : A → List ℕ)
+    (correct : IsCorrectParser p Is encode) where
   abbrev S : A → List ℕ → Type 0
-  S a bytes = Is a × (bytes ≡ spell a)
+  S a bytes = Is a × (bytes ≡ encode a)
 
   -- a prefix that is a spelling is what is read
   prefix_read : (a : A) (k : ℕ) (ts : List ℕ) → S a (take k ts) → p ts ≡ Parsed a (drop k ts)
@@ -68,20 +68,20 @@ module _ {A : Type 0} (p : Parser A) (Is : A → Type 0) (spell : A → List ℕ
   pub got_prefix : (a : A) (ts rest : List ℕ) → p ts ≡ Parsed a rest → (length rest ≤ length ts)
       × S a (take (length ts - length rest) ts)
   got_prefix a ts rest e =
-      let r = is_read p Is spell correct a ts rest e in
+      let r = is_read p Is encode correct a ts rest e in
       let n = ap length r.1 in
-      let m = length-append (spell a) rest in
-      let k : length ts - length rest ≡ length (spell a) = omega (arith, n, m) in (
+      let m = length-append (encode a) rest in
+      let k : length ts - length rest ≡ length (encode a) = omega (arith, n, m) in (
         omega (arith, n, m),
         (
           r.0,
-          ap (λ i. take i ts) k ∙ ap (take (length (spell a))) r.1
-              ∙ take_at (spell a) rest (length (spell a)) refl,
+          ap (λ i. take i ts) k ∙ ap (take (length (encode a))) r.1
+              ∙ take_at (encode a) rest (length (encode a)) refl,
         ),
       )
 
   stuck_prefix : (ts prefix rest : List ℕ) → p ts ≡ Unexpected rest → ts ≡ prefix ++ rest
-      → Begins Is spell prefix → Same p prefix rest → IsBadAt S ts (length prefix)
+      → Begins Is encode prefix → Same p prefix rest → IsBadAt S ts (length prefix)
   stuck_prefix ts prefix rest e parts begins same = record {
     within = (let n = ap length parts in omega (arith, n, length-append prefix rest));
     goes = (
@@ -104,7 +104,7 @@ module _ {A : Type 0} (p : Parser A) (Is : A → Type 0) (spell : A → List ℕ
       halted [] q s lt g = absurd (let n = ap length q in
           omega (arith, n, lt, length-append prefix []))
       halted (x ∷ r) q s lt g =
-          halts p Is spell correct prefix x r s (
+          halts p Is encode correct prefix x r s (
             g.0,
             g.1,
             g.2.0,
@@ -115,8 +115,8 @@ module _ {A : Type 0} (p : Parser A) (Is : A → Type 0) (spell : A → List ℕ
   pub stuck_place : (ts rest : List ℕ) → p ts ≡ Unexpected rest → (length rest ≤ length ts)
       × IsBadAt S ts (length ts - length rest)
   stuck_place ts rest e =
-      let P : Out A → Type 0 = λ o. Explains p Is spell ts o in
-      let x : (prefix : List ℕ) × (ts ≡ prefix ++ rest) × Begins Is spell prefix
+      let P : Out A → Type 0 = λ o. Explains p Is encode ts o in
+      let x : (prefix : List ℕ) × (ts ≡ prefix ++ rest) × Begins Is encode prefix
       × Same p prefix rest = subst P e (correct.explains ts) in
       let n = ap length x.1 in
       let m = length-append x.0 rest in
@@ -209,8 +209,8 @@ take_all : (bytes : List ℕ) → take (length bytes) bytes ≡ bytes
 take_all bytes = ap (take (length bytes)) (sym (append-nil bytes))
     ∙ take_at bytes [] (length bytes) refl
 
-as_prefix : (c : PlainCommand) (bytes : List ℕ) → Spells c bytes
-    → Spells c (take (length bytes) bytes)
+as_prefix : (c : PlainCommand) (bytes : List ℕ) → Encodes c bytes
+    → Encodes c (take (length bytes) bytes)
 as_prefix c bytes s = (s.0, take_all bytes ∙ s.1)
 
 pub decoding_once : (bytes : List ℕ) (x y : Decoding) → IsDecoding bytes x → IsDecoding bytes y
@@ -226,7 +226,7 @@ decoding_once bytes (whole c) (rest_at j) h k =
     omega (arith, z, k.0))
 decoding_once bytes (bad_at i) (whole d) h k =
     absurd (h.none d (length bytes) (as_prefix d bytes k))
-decoding_once bytes (bad_at i) (bad_at j) h k = ap bad_at (bad_once Spells bytes i j h k)
+decoding_once bytes (bad_at i) (bad_at j) h k = ap bad_at (bad_once Encodes bytes i j h k)
 decoding_once bytes (bad_at i) (rest_at j) h k = absurd (h.none k.1 j k.2)
 decoding_once bytes (rest_at i) (whole d) h k =
     absurd (let z = (prefixes_once command IsCommand command_bytes command_correct d h.1
@@ -254,17 +254,18 @@ decoded bytes = by_outcome (command bytes) refl
 
 -- ---- laws
 
-pub one_spelling : {A : Type 0} (Is : A → Type 0) (spell : A → List ℕ) (c : A) (a b : List ℕ) → Is c
-    × (a ≡ spell c) → Is c × (b ≡ spell c) → a ≡ b
-one_spelling Is spell c a b h k = h.1 ∙ sym k.1
+pub one_encoding : {A : Type 0} (Is : A → Type 0) (encode : A → List ℕ) (c : A) (a b : List ℕ)
+    → Is c
+    × (a ≡ encode c) → Is c × (b ≡ encode c) → a ≡ b
+one_encoding Is encode c a b h k = h.1 ∙ sym k.1
 
-pub no_prefix : {A : Type 0} (p : Parser A) (Is : A → Type 0) (spell : A → List ℕ)
-    → IsCorrectParser p Is spell → (c d : A) (a tail : List ℕ) → Is c × (a ≡ spell c) → Is d
-    × (a ++ tail ≡ spell d) → (c ≡ d) × (tail ≡ [])
-no_prefix p Is spell correct c d a tail h k =
-    one_value p Is spell correct c d tail [] h.0 k.0
-    (ap (λ l. l ++ tail) (sym h.1) ∙ k.1 ∙ sym (append-nil (spell d)))
+pub no_prefix : {A : Type 0} (p : Parser A) (Is : A → Type 0) (encode : A → List ℕ)
+    → IsCorrectParser p Is encode → (c d : A) (a tail : List ℕ) → Is c × (a ≡ encode c) → Is d
+    × (a ++ tail ≡ encode d) → (c ≡ d) × (tail ≡ [])
+no_prefix p Is encode correct c d a tail h k =
+    one_value p Is encode correct c d tail [] h.0 k.0
+    (ap (λ l. l ++ tail) (sym h.1) ∙ k.1 ∙ sym (append-nil (encode d)))
 
-pub its_own : (c d : PlainCommand) (a : List ℕ) → Spells c a → Spells d a → c ≡ d
+pub its_own : (c d : PlainCommand) (a : List ℕ) → Encodes c a → Encodes d a → c ≡ d
 its_own c d a h k = (one_value command IsCommand command_bytes command_correct c d [] [] h.0 k.0
     (ap (λ l. l ++ []) (sym h.1 ∙ k.1))).0

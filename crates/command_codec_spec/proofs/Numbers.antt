@@ -8,7 +8,7 @@ use Rattle.std.proofs.Math.Nat.{div-one, div-mul-le_self, pow-suc}
 use Rattle.std.proofs.lemmas.Nat.{pow_pos, pow-add, shr-shr, le-div, div_below}
 use Rattle.std.proofs.lemmas.Bool.{ltb-true, leb-true, lt-ltb, le-leb}
 use Rattle.command_codec_spec.specs.Reading.{IsCorrectParser, byte, pure, digits}
-use Rattle.command_codec_spec.specs.Spelling.{number}
+use Rattle.command_codec_spec.specs.Encoding.{number}
 use Rattle.command_codec_spec.proofs.Correctness.{true_false, retold, pure_correct, byte_correct}
 use Rattle.command_codec_spec.proofs.Correctness.{then_correct}
 

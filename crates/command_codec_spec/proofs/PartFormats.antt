@@ -20,9 +20,9 @@ use Rattle.prima_base.specs.declared.value.Value.TheVariants.{Int, Text}
 use Rattle.cond_expr.specs.declared.expr.CmpOp.{CmpOp}
 use Rattle.cond_expr.specs.declared.expr.CmpOp.TheVariants.{Eq, Ne, Lt, Le, Gt, Ge}
 use Rattle.command_codec_spec.specs.Reading.{Parsed, Parser, IsCorrectParser, pure, map_to, byte}
-use Rattle.command_codec_spec.specs.Reading.{tagged, run, digits, items, listed}
-use Rattle.command_codec_spec.specs.Spelling.{number, name_bytes, type_tag, value_bytes, sign_tag}
-use Rattle.command_codec_spec.specs.Spelling.{list_bytes}
+use Rattle.command_codec_spec.specs.Reading.{by_tag, run, digits, items, list_parser}
+use Rattle.command_codec_spec.specs.Encoding.{number, name_bytes, type_tag, value_bytes, sign_tag}
+use Rattle.command_codec_spec.specs.Encoding.{list_bytes}
 use Rattle.command_codec_spec.specs.Reader.{up_to, is_name_start, is_name_length, name_text, name}
 use Rattle.command_codec_spec.specs.Reader.{text, number_64, value_arm, value}
 use Rattle.command_codec_spec.specs.Reader.{type_of_tag, column_type, sign_of_tag, sign}
@@ -219,7 +219,7 @@ value_correct = tagged_correct (up_to 1) value_arm IsValid value_bytes (Int (pos
     each (suc (suc n)) e = absurd (omega (arith, leb-true (suc (suc n)) 1 e))
 
     complete : (v : Value) → IsValid v → (rest : List ℕ)
-        → tagged (up_to 1) value_arm (value_bytes v ++ rest) ≡ Parsed v rest
+        → by_tag (up_to 1) value_arm (value_bytes v ++ rest) ≡ Parsed v rest
     complete (Int z) h rest =
         parts_read number_64 (λ n. n ≤ 18446744073709551615) (λ n. number 8 n) number_64_correct
         (λ n. Int (cast_signed w64 n)) IsValid value_bytes 0 made_int (cast_unsigned w64 z)
@@ -269,7 +269,7 @@ sign_correct = mapped_correct (byte (up_to 5)) (λ x. up_to 5 x ≡ true) (λ x.
 
 -- ---- lists
 
-module _ {A : Type 0} (p : Parser A) (Is : A → Type 0) (spell : A → List ℕ) where
+module _ {A : Type 0} (p : Parser A) (Is : A → Type 0) (encode : A → List ℕ) where
   abbrev pub All : List A → Type 0
   All l = AllByRecursion Is l
 
@@ -281,7 +281,7 @@ module _ {A : Type 0} (p : Parser A) (Is : A → Type 0) (spell : A → List ℕ
   abbrev LedBy : ℕ → A → List A → Type 0
   LedBy k a l = (m : List A) × Counted k m × (l ≡ a ∷ m)
 
-  none : (l : List A) → l ≡ [] → Counted 0 l × ([] ≡ flat_map spell l)
+  none : (l : List A) → l ≡ [] → Counted 0 l × ([] ≡ flat_map encode l)
   none [] e = ((refl, tt), refl)
   none (a ∷ l) e = absurd cc
 
@@ -289,40 +289,41 @@ module _ {A : Type 0} (p : Parser A) (Is : A → Type 0) (spell : A → List ℕ
   no_more [] h = refl
   no_more (a ∷ l) h = absurd (omega (arith, h.0))
 
-  pub no_items_correct : IsCorrectParser (items p 0) (Counted 0) (flat_map spell)
+  pub no_items_correct : IsCorrectParser (items p 0) (Counted 0) (flat_map encode)
   unfolding items
-  no_items_correct = retold (pure []) (λ l. l ≡ []) (Counted 0) (λ l. []) (flat_map spell) none
+  no_items_correct = retold (pure []) (λ l. l ≡ []) (Counted 0) (λ l. []) (flat_map encode) none
       no_more (pure_correct [])
 
-  module _ (correct : IsCorrectParser p Is spell) where
+  module _ (correct : IsCorrectParser p Is encode) where
     parted : (k : ℕ) (l : List A) → Counted (suc k) l → (a : A) × Is a × LedBy k a l
     parted k [] h = absurd (omega (arith, h.0))
     parted k (a ∷ l) h = (a, h.1.0, (l, (omega (arith, h.0), h.1.1), refl))
 
     joined : (k : ℕ) (a : A) (l : List A) → Is a → LedBy k a l → Counted (suc k) l
-        × (flat_map spell l ≡ spell a ++ flat_map spell (drop 1 l))
+        × (flat_map encode l ≡ encode a ++ flat_map encode (drop 1 l))
     joined k a l h i = let P : List A → Type 0 = λ x. Counted (suc k) x
-        × (flat_map spell x ≡ spell a ++ flat_map spell (drop 1 x)) in
-        subst P (sym i.2) ((ap suc i.1.0, (h, i.1.1)), flat_map-cons spell a i.0)
+        × (flat_map encode x ≡ encode a ++ flat_map encode (drop 1 x)) in
+        subst P (sym i.2) ((ap suc i.1.0, (h, i.1.1)), flat_map-cons encode a i.0)
 
-    pub items_correct : (k : ℕ) → IsCorrectParser (items p k) (Counted k) (flat_map spell)
+    pub items_correct : (k : ℕ) → IsCorrectParser (items p k) (Counted k) (flat_map encode)
     unfolding items
     items_correct zero = no_items_correct
     items_correct (suc k) =
-        then_correct p Is spell (λ a. map_to (λ l. a ∷ l) (items p k)) (LedBy k)
-        (λ a l. flat_map spell (drop 1 l)) (Counted (suc k)) (flat_map spell) correct
-        (λ a h. mapped_correct (items p k) (Counted k) (flat_map spell) (items_correct k)
-        (λ l. a ∷ l) (LedBy k a) (λ l. flat_map spell (drop 1 l)) (λ m i. ((m, i, refl), refl))
+        then_correct p Is encode (λ a. map_to (λ l. a ∷ l) (items p k)) (LedBy k)
+        (λ a l. flat_map encode (drop 1 l)) (Counted (suc k)) (flat_map encode) correct
+        (λ a h. mapped_correct (items p k) (Counted k) (flat_map encode) (items_correct k)
+        (λ l. a ∷ l) (LedBy k a) (λ l. flat_map encode (drop 1 l)) (λ m i. ((m, i, refl), refl))
         (λ l i. i))
         (joined k) (parted k)
 
   -- a list with its count in prefix, where so many can be read
   pub list_correct : (k most : ℕ) → most < 2 ^ (8 * k)
-      → ((n : ℕ) → n ≤ most → IsCorrectParser (items p n) (Counted n) (flat_map spell))
-      → IsCorrectParser (listed k most p) (λ l. (length l ≤ most) × All l) (list_bytes k spell)
+      → ((n : ℕ) → n ≤ most → IsCorrectParser (items p n) (Counted n) (flat_map encode))
+      → IsCorrectParser (list_parser k most p) (λ l. (length l ≤ most) × All l)
+      (list_bytes k encode)
   list_correct k most fits each = then_correct (digits most k 0) (λ n. n ≤ most) (λ n. number k n)
-      (λ n. items p n) Counted (λ n l. flat_map spell l) (λ l. (length l ≤ most) × All l)
-      (list_bytes k spell)
+      (λ n. items p n) Counted (λ n l. flat_map encode l) (λ l. (length l ≤ most) × All l)
+      (list_bytes k encode)
       (number_correct most k fits) each
-      (λ n l h i. ((omega (arith, h, i.0), i.1), ap (λ m. number k m ++ flat_map spell l) i.0))
+      (λ n l h i. ((omega (arith, h, i.0), i.1), ap (λ m. number k m ++ flat_map encode l) i.0))
       (λ l h. (length l, h.0, (refl, h.1)))

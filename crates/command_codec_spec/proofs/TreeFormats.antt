@@ -17,10 +17,10 @@ use Rattle.cond_expr.specs.Trees.{fails, Tests, no_tests, a_test}
 use Rattle.cond_expr.specs.Seen.{trees_of, tests_of}
 use Rattle.cond_expr.specs.Sizes.{depth_of, trees_depth, test_depth, tests_depth, count_of}
 use Rattle.command_codec_spec.specs.Reading.{Out, Parsed, Unexpected, Parser, IsCorrectParser}
-use Rattle.command_codec_spec.specs.Reading.{and_then, pair, tagged, items, listed}
-use Rattle.command_codec_spec.specs.Spelling.{number, name_bytes, value_bytes, sign_tag, number_of}
-use Rattle.command_codec_spec.specs.Spelling.{tree_bytes, trees_bytes, test_bytes, tests_bytes}
-use Rattle.command_codec_spec.specs.Spelling.{list_bytes}
+use Rattle.command_codec_spec.specs.Reading.{and_then, pair, by_tag, items, list_parser}
+use Rattle.command_codec_spec.specs.Encoding.{number, name_bytes, value_bytes, sign_tag, number_of}
+use Rattle.command_codec_spec.specs.Encoding.{tree_bytes, trees_bytes, test_bytes, tests_bytes}
+use Rattle.command_codec_spec.specs.Encoding.{list_bytes}
 use Rattle.command_codec_spec.specs.Valid.{TreeFits, TreesFit, TestFits, TestsFit, TreeNamed}
 use Rattle.command_codec_spec.specs.Valid.{TreesNamed, TestNamed, TestsNamed, IsTree, IsTest}
 use Rattle.command_codec_spec.specs.Reader.{name, value, sign, Level, most_parts, is_expr_tag}
@@ -75,9 +75,9 @@ trees_count [] = refl
 trees_count (t ∷ l) = let h = trees_count l in let e : count_of (trees_of l) + 1 ≡ suc (length l) =
     omega (arith, h) in e
 
-pub trees_spelled : (l : List Tree) → trees_bytes (trees_of l) ≡ flat_map tree_bytes l
-trees_spelled [] = refl
-trees_spelled (t ∷ l) = ap (λ x. tree_bytes t ++ x) (trees_spelled l)
+pub trees_encoded : (l : List Tree) → trees_bytes (trees_of l) ≡ flat_map tree_bytes l
+trees_encoded [] = refl
+trees_encoded (t ∷ l) = ap (λ x. tree_bytes t ++ x) (trees_encoded l)
     ∙ sym (flat_map-cons tree_bytes t l)
 
 all_trees : (d : ℕ) (l : List Tree) → AllByRecursion (TreeWithin d) l
@@ -105,9 +105,9 @@ tests_count [] = refl
 tests_count (c ∷ l) = let h = tests_count l in let e : number_of (tests_of l) + 1 ≡ suc (length l) =
     omega (arith, h) in e
 
-pub tests_spelled : (l : List Test) → tests_bytes (tests_of l) ≡ flat_map test_bytes l
-tests_spelled [] = refl
-tests_spelled (c ∷ l) = ap (λ x. test_bytes c ++ x) (tests_spelled l)
+pub tests_encoded : (l : List Test) → tests_bytes (tests_of l) ≡ flat_map test_bytes l
+tests_encoded [] = refl
+tests_encoded (c ∷ l) = ap (λ x. test_bytes c ++ x) (tests_encoded l)
     ∙ sym (flat_map-cons test_bytes c l)
 
 all_tests : (d : ℕ) (l : List Test) → AllByRecursion (TestWithin d) l
@@ -129,7 +129,7 @@ pub record LevelCorrect (d : ℕ) (L : Level) : Type 0 where
 
 -- what is read after a tag
 tag_read : {A : Type 0} (takes : ℕ → Bool) (arm : ℕ → Parser A) (x : ℕ) (ts : List ℕ)
-    → takes x ≡ true → tagged takes arm (x ∷ ts) ≡ arm x ts
+    → takes x ≡ true → by_tag takes arm (x ∷ ts) ≡ arm x ts
 tag_read takes arm x ts e = ap (λ b. and_then (either b (Parsed x ts) (Unexpected (x ∷ ts))) arm) e
 
 always_expr : (deeper : Bool) → (is_expr_tag deeper 0 ≡ true) × (is_expr_tag deeper 1 ≡ true)
@@ -185,32 +185,32 @@ no_other_cond false n e = absurd (omega (
 ))
 
 -- a list of parts, of which none can stand where no level may stand below
-module _ {A : Type 0} (p : Parser A) (Is : A → Type 0) (spell : A → List ℕ) (deeper : Bool)
-    (correct : deeper ≡ true → IsCorrectParser p Is spell) (none : deeper ≡ false → (a : A) → Is a
+module _ {A : Type 0} (p : Parser A) (Is : A → Type 0) (encode : A → List ℕ) (deeper : Bool)
+    (correct : deeper ≡ true → IsCorrectParser p Is encode) (none : deeper ≡ false → (a : A) → Is a
     → ⊥) where
   no_part : deeper ≡ false → (l : List A) → AllByRecursion Is l → length l ≤ 0
   no_part f [] h = omega arith
   no_part f (a ∷ l) h = absurd (none f a h.0)
 
-  no_items : (n : ℕ) → n ≤ 0 → IsCorrectParser (items p n) (Counted p Is spell n) (flat_map spell)
-  no_items zero h = no_items_correct p Is spell
+  no_items : (n : ℕ) → n ≤ 0 → IsCorrectParser (items p n) (Counted p Is encode n) (flat_map encode)
+  no_items zero h = no_items_correct p Is encode
   no_items (suc n) h = absurd (omega (arith, h))
 
   by_depth : (k most : ℕ) → most < 2 ^ (8 * k) → (b : Bool) → b ≡ deeper
-      → IsCorrectParser (listed k (most_parts b most) p) (λ l. (length l ≤ most)
-      × AllByRecursion Is l) (list_bytes k spell)
-  by_depth k most fits true same = list_correct p Is spell k most fits
-      (λ n h. items_correct p Is spell (correct (sym same)) n)
+      → IsCorrectParser (list_parser k (most_parts b most) p) (λ l. (length l ≤ most)
+      × AllByRecursion Is l) (list_bytes k encode)
+  by_depth k most fits true same = list_correct p Is encode k most fits
+      (λ n h. items_correct p Is encode (correct (sym same)) n)
   by_depth k most fits false same =
-      retold (listed k 0 p) (λ l. (length l ≤ 0) × AllByRecursion Is l) (λ l. (length l ≤ most)
-      × AllByRecursion Is l) (list_bytes k spell) (list_bytes k spell)
+      retold (list_parser k 0 p) (λ l. (length l ≤ 0) × AllByRecursion Is l) (λ l. (length l ≤ most)
+      × AllByRecursion Is l) (list_bytes k encode) (list_bytes k encode)
       (λ l h. ((omega (arith, h.0), h.1), refl))
       (λ l h. (no_part (sym same) l h.1, h.1))
-      (list_correct p Is spell k 0 (omega (arith, fits)) no_items)
+      (list_correct p Is encode k 0 (omega (arith, fits)) no_items)
 
   pub parts_list_correct : (k most : ℕ) → most < 2 ^ (8 * k)
-      → IsCorrectParser (listed k (most_parts deeper most) p) (λ l. (length l ≤ most)
-      × AllByRecursion Is l) (list_bytes k spell)
+      → IsCorrectParser (list_parser k (most_parts deeper most) p) (λ l. (length l ≤ most)
+      × AllByRecursion Is l) (list_bytes k encode)
   parts_list_correct k most fits = by_depth k most fits deeper refl
 
 -- with at most e levels below
@@ -240,7 +240,7 @@ module _ (deeper : Bool) (e : ℕ) (inside : Level) (deep : deeper ≡ true → 
   abbrev Exprs : List Tree → Type 0
   Exprs l = (length l ≤ 255) × AllByRecursion (TreeWithin e) l
 
-  exprs_correct : IsCorrectParser (listed 1 (most_parts deeper 255) inside.expr) Exprs
+  exprs_correct : IsCorrectParser (list_parser 1 (most_parts deeper 255) inside.expr) Exprs
       (list_bytes 1 tree_bytes)
   exprs_correct = parts_list_correct inside.expr (TreeWithin e) tree_bytes deeper
       (λ t. (deep t).expr) no_tree 1 255 (omega arith)
@@ -278,7 +278,7 @@ module _ (deeper : Bool) (e : ℕ) (inside : Level) (deep : deeper ≡ true → 
       let n = trees_count l in (
         ((((let a = h.0 in omega (arith, a, n)), r.0.0), (let a = r.0.1 in omega (arith, a))), r.1),
         ap (λ m. 3 ∷ number 1 m ++ trees_bytes (trees_of l)) n
-            ∙ ap (λ x. 3 ∷ number 1 (length l) ++ x) (trees_spelled l),
+            ∙ ap (λ x. 3 ∷ number 1 (length l) ++ x) (trees_encoded l),
       )
 
   a_case : (x : (Test × Tree) × Tree) → Cases x → TreeWithin D (choose x.0.0 x.0.1 x.1)
@@ -302,7 +302,8 @@ module _ (deeper : Bool) (e : ℕ) (inside : Level) (deep : deeper ≡ true → 
       (TreeWithin D) tree_bytes 1 a_constant
   expr_arms (suc (suc zero)) t = parts_correct inside.expr (TreeWithin e) tree_bytes
       (deep (length_deeper deeper t)).expr length_of (TreeWithin D) tree_bytes 2 a_length
-  expr_arms (suc (suc (suc zero))) t = parts_correct (listed 1 (most_parts deeper 255) inside.expr)
+  expr_arms (suc (suc (suc zero))) t = parts_correct
+      (list_parser 1 (most_parts deeper 255) inside.expr)
       Exprs (list_bytes 1 tree_bytes) exprs_correct (λ l. joined (trees_of l)) (TreeWithin D)
       tree_bytes 3 a_concat
   expr_arms (suc (suc (suc (suc zero)))) t =
@@ -312,7 +313,7 @@ module _ (deeper : Bool) (e : ℕ) (inside : Level) (deep : deeper ≡ true → 
   expr_arms (suc (suc (suc (suc (suc n))))) t = absurd (no_other_expr deeper n t)
 
   abbrev read_expr : List ℕ → Out Tree
-  read_expr ts = tagged (is_expr_tag deeper) (expr_arm deeper inside) ts
+  read_expr ts = by_tag (is_expr_tag deeper) (expr_arm deeper inside) ts
 
   concat_again : (l : List Tree) (rest : List ℕ) → TreeWithin D (joined (trees_of l))
       → read_expr (tree_bytes (joined (trees_of l)) ++ rest) ≡ Parsed (joined (trees_of l)) rest
@@ -323,7 +324,8 @@ module _ (deeper : Bool) (e : ℕ) (inside : Level) (deep : deeper ≡ true → 
       ap (λ x. read_expr (x ++ rest)) (a_concat l (few, all)).1
       ∙ tag_read (is_expr_tag deeper) (expr_arm deeper inside) 3 (list_bytes 1 tree_bytes l ++ rest)
       (always_expr deeper).2
-      ∙ parts_read (listed 1 (most_parts deeper 255) inside.expr) Exprs (list_bytes 1 tree_bytes)
+      ∙ parts_read (list_parser 1 (most_parts deeper 255) inside.expr) Exprs
+      (list_bytes 1 tree_bytes)
       exprs_correct (λ l. joined (trees_of l)) (TreeWithin D) tree_bytes 3 a_concat l (few, all)
       rest
 
@@ -373,7 +375,7 @@ module _ (deeper : Bool) (e : ℕ) (inside : Level) (deep : deeper ≡ true → 
   abbrev Conds : List Test → Type 0
   Conds l = (length l ≤ 65535) × AllByRecursion (TestWithin e) l
 
-  conds_correct : IsCorrectParser (listed 2 (most_parts deeper 65535) inside.cond) Conds
+  conds_correct : IsCorrectParser (list_parser 2 (most_parts deeper 65535) inside.cond) Conds
       (list_bytes 2 test_bytes)
   conds_correct = parts_list_correct inside.cond (TestWithin e) test_bytes deeper
       (λ t. (deep t).cond) no_test 2 65535 (omega arith)
@@ -405,7 +407,7 @@ module _ (deeper : Bool) (e : ℕ) (inside : Level) (deep : deeper ≡ true → 
       let n = tests_count l in (
         ((((let a = h.0 in omega (arith, a, n)), r.0.0), (let a = r.0.1 in omega (arith, a))), r.1),
         ap (λ m. 3 ∷ number 2 m ++ tests_bytes (tests_of l)) n
-            ∙ ap (λ x. 3 ∷ number 2 (length l) ++ x) (tests_spelled l),
+            ∙ ap (λ x. 3 ∷ number 2 (length l) ++ x) (tests_encoded l),
       )
 
   an_or : (l : List Test) → Conds l → TestWithin D (some_of (tests_of l))
@@ -415,7 +417,7 @@ module _ (deeper : Bool) (e : ℕ) (inside : Level) (deep : deeper ≡ true → 
       let n = tests_count l in (
         ((((let a = h.0 in omega (arith, a, n)), r.0.0), (let a = r.0.1 in omega (arith, a))), r.1),
         ap (λ m. 4 ∷ number 2 m ++ tests_bytes (tests_of l)) n
-            ∙ ap (λ x. 4 ∷ number 2 (length l) ++ x) (tests_spelled l),
+            ∙ ap (λ x. 4 ∷ number 2 (length l) ++ x) (tests_encoded l),
       )
 
   a_not : (c : Test) → TestWithin e c → TestWithin D (fails c)
@@ -431,10 +433,12 @@ module _ (deeper : Bool) (e : ℕ) (inside : Level) (deep : deeper ≡ true → 
       (sides_correct (deep (compared_deeper deeper t))) comparison
       (TestWithin D) test_bytes 2 a_comparison
   cond_arms (suc (suc (suc zero))) t = parts_correct
-      (listed 2 (most_parts deeper 65535) inside.cond) Conds (list_bytes 2 test_bytes) conds_correct
+      (list_parser 2 (most_parts deeper 65535) inside.cond) Conds (list_bytes 2 test_bytes)
+      conds_correct
       (λ l. all_of (tests_of l)) (TestWithin D) test_bytes 3 an_and
   cond_arms (suc (suc (suc (suc zero)))) t = parts_correct
-      (listed 2 (most_parts deeper 65535) inside.cond) Conds (list_bytes 2 test_bytes) conds_correct
+      (list_parser 2 (most_parts deeper 65535) inside.cond) Conds (list_bytes 2 test_bytes)
+      conds_correct
       (λ l. some_of (tests_of l)) (TestWithin D) test_bytes 4 an_or
   cond_arms (suc (suc (suc (suc (suc zero))))) t =
       parts_correct inside.cond (TestWithin e) test_bytes (deep (fails_deeper deeper t)).cond fails
@@ -442,7 +446,7 @@ module _ (deeper : Bool) (e : ℕ) (inside : Level) (deep : deeper ≡ true → 
   cond_arms (suc (suc (suc (suc (suc (suc n)))))) t = absurd (no_other_cond deeper n t)
 
   abbrev read_cond : List ℕ → Out Test
-  read_cond ts = tagged (is_cond_tag deeper) (cond_arm deeper inside) ts
+  read_cond ts = by_tag (is_cond_tag deeper) (cond_arm deeper inside) ts
 
   and_again : (l : List Test) (rest : List ℕ) → TestWithin D (all_of (tests_of l))
       → read_cond (test_bytes (all_of (tests_of l)) ++ rest) ≡ Parsed (all_of (tests_of l)) rest
@@ -453,7 +457,8 @@ module _ (deeper : Bool) (e : ℕ) (inside : Level) (deep : deeper ≡ true → 
       ap (λ x. read_cond (x ++ rest)) (an_and l (few, all)).1
       ∙ tag_read (is_cond_tag deeper) (cond_arm deeper inside) 3 (list_bytes 2 test_bytes l ++ rest)
       (always_cond deeper).2
-      ∙ parts_read (listed 2 (most_parts deeper 65535) inside.cond) Conds (list_bytes 2 test_bytes)
+      ∙ parts_read (list_parser 2 (most_parts deeper 65535) inside.cond) Conds
+      (list_bytes 2 test_bytes)
       conds_correct (λ l. all_of (tests_of l)) (TestWithin D) test_bytes 3 an_and l (few, all)
       rest
 
@@ -466,7 +471,8 @@ module _ (deeper : Bool) (e : ℕ) (inside : Level) (deep : deeper ≡ true → 
       ap (λ x. read_cond (x ++ rest)) (an_or l (few, all)).1
       ∙ tag_read (is_cond_tag deeper) (cond_arm deeper inside) 4 (list_bytes 2 test_bytes l ++ rest)
       (always_cond deeper).3
-      ∙ parts_read (listed 2 (most_parts deeper 65535) inside.cond) Conds (list_bytes 2 test_bytes)
+      ∙ parts_read (list_parser 2 (most_parts deeper 65535) inside.cond) Conds
+      (list_bytes 2 test_bytes)
       conds_correct (λ l. some_of (tests_of l)) (TestWithin D) test_bytes 4 an_or l (few, all)
       rest
 

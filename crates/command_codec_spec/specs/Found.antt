@@ -5,24 +5,24 @@ use Rattle.prima_base.specs.Columns.{IsValid}
 use Rattle.prima_base.specs.declared.value.Value.{Value}
 use Rattle.smo_ops_types.specs.Operators.{Operator}
 use Rattle.smo_ops_types.specs.Commands.{PlainCommand}
-use Rattle.command_codec_spec.specs.Spelling.{name_bytes, value_bytes, operator_bytes}
-use Rattle.command_codec_spec.specs.Spelling.{command_bytes}
+use Rattle.command_codec_spec.specs.Encoding.{name_bytes, value_bytes, operator_bytes}
+use Rattle.command_codec_spec.specs.Encoding.{command_bytes}
 use Rattle.command_codec_spec.specs.Valid.{IsOperator, IsCommand}
 
 -- ---- spellings
 
 -- these bytes spell this command
-abbrev pub Spells : PlainCommand → List ℕ → Type 0
-Spells c bytes = IsCommand c × (bytes ≡ command_bytes c)
+abbrev pub Encodes : PlainCommand → List ℕ → Type 0
+Encodes c bytes = IsCommand c × (bytes ≡ command_bytes c)
 
-abbrev pub SpellsName : List ℕ → List ℕ → Type 0
-SpellsName n bytes = IsName n × (bytes ≡ name_bytes n)
+abbrev pub EncodesName : List ℕ → List ℕ → Type 0
+EncodesName n bytes = IsName n × (bytes ≡ name_bytes n)
 
-abbrev pub SpellsValue : Value → List ℕ → Type 0
-SpellsValue v bytes = IsValid v × (bytes ≡ value_bytes v)
+abbrev pub EncodesValue : Value → List ℕ → Type 0
+EncodesValue v bytes = IsValid v × (bytes ≡ value_bytes v)
 
-abbrev pub SpellsOperator : Operator → List ℕ → Type 0
-SpellsOperator op bytes = IsOperator op × (bytes ≡ operator_bytes op)
+abbrev pub EncodesOperator : Operator → List ℕ → Type 0
+EncodesOperator op bytes = IsOperator op × (bytes ≡ operator_bytes op)
 
 -- after the old bytes the new have a spelling of it
 abbrev pub Appends : {A : Type 0} → (A → List ℕ → Type 0) → A → List ℕ → List ℕ → Type 0
@@ -51,10 +51,10 @@ pub data Decoding : Type 0 where
 
 -- what the bytes are
 abbrev pub IsDecoding : List ℕ → Decoding → Type 0
-IsDecoding bytes (whole c) = Spells c bytes
-IsDecoding bytes (bad_at place) = IsBadAt Spells bytes place
+IsDecoding bytes (whole c) = Encodes c bytes
+IsDecoding bytes (bad_at place) = IsBadAt Encodes bytes place
 IsDecoding bytes (rest_at place) = (place < length bytes) × (c : PlainCommand)
-    × Spells c (take place bytes)
+    × Encodes c (take place bytes)
 
 -- ---- parts
 

@@ -2,4 +2,4 @@ pub mod Found
 pub mod Valid
 pub mod Reader
 pub mod Reading
-pub mod Spelling
+pub mod Encoding

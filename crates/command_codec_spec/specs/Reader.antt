@@ -22,7 +22,7 @@ use Rattle.smo_ops_types.specs.Operators.{join_table, add_column, drop_column, r
 use Rattle.smo_ops_types.specs.Changes.{PlainChange, insertion, deletion, update}
 use Rattle.smo_ops_types.specs.Commands.{PlainBody, changing, evolving, PlainCommand}
 use Rattle.command_codec_spec.specs.Reading.{Parser, Unexpected, bind, pure, map_to, pair, byte}
-use Rattle.command_codec_spec.specs.Reading.{tagged, run, digits, listed}
+use Rattle.command_codec_spec.specs.Reading.{by_tag, run, digits, list_parser}
 
 -- at most this
 abbrev pub up_to : ℕ → ℕ → Bool
@@ -43,7 +43,7 @@ name_text zero = λ ts. Unexpected ts
 name_text (suc k) = bind (byte is_name_start) (λ b. map_to (λ l. b ∷ l) (run is_name_byte k))
 
 unfoldable pub name : Parser (List ℕ)
-name = tagged is_name_length name_text
+name = by_tag is_name_length name_text
 
 -- the length, at most 4,096, and that many bytes
 unfoldable pub text : Parser (List ℕ)
@@ -58,7 +58,7 @@ value_arm tag = if tag == 0 then map_to (λ n. Int (cast_signed w64 n)) number_6
     else map_to Text text
 
 unfoldable pub value : Parser Value
-value = tagged (up_to 1) value_arm
+value = by_tag (up_to 1) value_arm
 
 abbrev pub type_of_tag : ℕ → ColType
 type_of_tag tag = if tag == 0 then IntType else TextType
@@ -106,11 +106,11 @@ module _ (deeper : Bool) (inside : Level) where
       else (if tag == 1 then map_to constant value else
       (if tag == 2 then map_to length_of inside.expr
       else (if tag == 3 then map_to (λ l. joined (trees_of l))
-      (listed 1 (most_parts deeper 255) inside.expr) else
+      (list_parser 1 (most_parts deeper 255) inside.expr) else
       map_to chosen (pair (pair inside.cond inside.expr) inside.expr))))
 
   unfoldable pub expr : Parser Tree
-  expr = tagged (is_expr_tag deeper) expr_arm
+  expr = by_tag (is_expr_tag deeper) expr_arm
 
   abbrev pub cond_arm : ℕ → Parser Test
   cond_arm tag =
@@ -118,12 +118,12 @@ module _ (deeper : Bool) (inside : Level) where
       (if tag == 2 then map_to comparison
       (pair (pair sign inside.expr) inside.expr) else
       (if tag == 3 then map_to (λ l. all_of (tests_of l))
-      (listed 2 (most_parts deeper 65535) inside.cond) else
+      (list_parser 2 (most_parts deeper 65535) inside.cond) else
       (if tag == 4 then map_to (λ l. some_of (tests_of l))
-      (listed 2 (most_parts deeper 65535) inside.cond) else map_to fails inside.cond))))
+      (list_parser 2 (most_parts deeper 65535) inside.cond) else map_to fails inside.cond))))
 
   unfoldable pub cond : Parser Test
-  cond = tagged (is_cond_tag deeper) cond_arm
+  cond = by_tag (is_cond_tag deeper) cond_arm
 
 abbrev pub nothing : Level
 nothing = record { expr = λ ts. Unexpected ts; cond = λ ts. Unexpected ts }
@@ -145,10 +145,10 @@ unfoldable pub column_of : Parser Column
 column_of = pair name column_type
 
 unfoldable pub columns : Parser (List Column)
-columns = listed 1 255 column_of
+columns = list_parser 1 255 column_of
 
 unfoldable pub names : Parser (List (List ℕ))
-names = listed 1 255 name
+names = list_parser 1 255 name
 
 unfoldable pub two_names : Parser (List ℕ × List ℕ)
 two_names = pair name name
@@ -169,11 +169,11 @@ copied_table (table, into) = copy_table table into
 abbrev pub merged_table : (List ℕ × List ℕ) × List ℕ → Operator
 merged_table ((left, right), into) = merge_table left right into
 
-abbrev pub partitioned : ((List ℕ × List ℕ) × Test) × List ℕ → Operator
-partitioned (((table, met), cond), others) = partition_table table met cond others
+abbrev pub partition_of : ((List ℕ × List ℕ) × Test) × List ℕ → Operator
+partition_of (((table, met), cond), others) = partition_table table met cond others
 
-abbrev pub decomposed : (((List ℕ × List ℕ) × List (List ℕ)) × List ℕ) × List (List ℕ) → Operator
-decomposed ((((table, left), left_columns), right), right_columns) =
+abbrev pub decompose_of : (((List ℕ × List ℕ) × List (List ℕ)) × List ℕ) × List (List ℕ) → Operator
+decompose_of ((((table, left), left_columns), right), right_columns) =
     decompose_table table left left_columns right right_columns
 
 abbrev pub joined_tables : ((List ℕ × List ℕ) × List ℕ) × Test → Operator
@@ -196,52 +196,52 @@ operator_arm tag =
     (if tag == 3 then map_to renamed_table two_names else
     (if tag == 4 then map_to copied_table two_names else
     (if tag == 5 then map_to merged_table three_names else
-    (if tag == 6 then map_to partitioned (pair (pair two_names outermost.cond) name) else
-    (if tag == 7 then map_to decomposed (pair (pair (pair two_names names) name) names) else
+    (if tag == 6 then map_to partition_of (pair (pair two_names outermost.cond) name) else
+    (if tag == 7 then map_to decompose_of (pair (pair (pair two_names names) name) names) else
     (if tag == 8 then map_to joined_tables (pair three_names outermost.cond) else
     (if tag == 9 then map_to added_column (pair two_names outermost.expr) else
     (if tag == 10 then map_to dropped_column two_names else
     map_to renamed_column three_names))))))))))
 
 unfoldable pub operator : Parser Operator
-operator = tagged (up_to 11) operator_arm
+operator = by_tag (up_to 11) operator_arm
 
 unfoldable pub operators : Parser (List Operator)
-operators = listed 4 4294967295 operator
+operators = list_parser 4 4294967295 operator
 
 unfoldable pub cell : Parser (List ℕ × Value)
 cell = pair name value
 
 unfoldable pub cells : Parser (List (List ℕ × Value))
-cells = listed 4 4294967295 cell
+cells = list_parser 4 4294967295 cell
 
 unfoldable pub set : Parser (List ℕ × Tree)
 set = pair name outermost.expr
 
 unfoldable pub sets : Parser (List (List ℕ × Tree))
-sets = listed 4 4294967295 set
+sets = list_parser 4 4294967295 set
 
 -- what is read after a tag, as its change
-abbrev pub inserted : List ℕ × List (List ℕ × Value) → PlainChange
-inserted (table, row) = insertion table row
+abbrev pub insert_of : List ℕ × List (List ℕ × Value) → PlainChange
+insert_of (table, row) = insertion table row
 
-abbrev pub deleted : List ℕ × Test → PlainChange
-deleted (table, met) = deletion table met
+abbrev pub delete_of : List ℕ × Test → PlainChange
+delete_of (table, met) = deletion table met
 
-abbrev pub updated : (List ℕ × List (List ℕ × Tree)) × Test → PlainChange
-updated ((table, changed), met) = update table changed met
+abbrev pub update_of : (List ℕ × List (List ℕ × Tree)) × Test → PlainChange
+update_of ((table, changed), met) = update table changed met
 
 abbrev pub change_arm : ℕ → Parser PlainChange
 change_arm tag =
-    if tag == 0 then map_to inserted (pair name cells) else
-    (if tag == 1 then map_to deleted (pair name outermost.cond) else
-    map_to updated (pair (pair name sets) outermost.cond))
+    if tag == 0 then map_to insert_of (pair name cells) else
+    (if tag == 1 then map_to delete_of (pair name outermost.cond) else
+    map_to update_of (pair (pair name sets) outermost.cond))
 
 unfoldable pub change : Parser PlainChange
-change = tagged (up_to 2) change_arm
+change = by_tag (up_to 2) change_arm
 
 unfoldable pub changes : Parser (List PlainChange)
-changes = listed 4 4294967295 change
+changes = list_parser 4 4294967295 change
 
 abbrev pub evolved : Operator × List Operator → PlainBody
 evolved (op, inverse) = evolving op inverse
@@ -251,7 +251,7 @@ body_arm tag = if tag == 0 then map_to changing changes
     else map_to evolved (pair operator operators)
 
 unfoldable pub body : Parser PlainBody
-body = tagged (up_to 1) body_arm
+body = by_tag (up_to 1) body_arm
 
 abbrev pub a_command : ℕ × PlainBody → PlainCommand
 a_command (at, content) = record { stamp = at; body = content }

@@ -18,7 +18,7 @@ Parser A = List ℕ → Out A
 
 -- these bytes begin a spelling
 abbrev pub Begins : {A : Type 0} → (A → Type 0) → (A → List ℕ) → List ℕ → Type 0
-Begins {A} Is spell prefix = (more : List ℕ) × (a : A) × Is a × (spell a ≡ prefix ++ more)
+Begins {A} Is encode prefix = (more : List ℕ) × (a : A) × Is a × (encode a ≡ prefix ++ more)
 
 -- where a byte follows that is refused, it is refused whatever follows it
 abbrev pub Same : {A : Type 0} → Parser A → List ℕ → List ℕ → Type 0
@@ -28,16 +28,16 @@ Same p prefix (x ∷ suffix) = (other : List ℕ) → p (prefix ++ x ∷ other) 
 -- what reading says of the bytes
 abbrev pub Explains : {A : Type 0} → Parser A → (A → Type 0) → (A → List ℕ) → List ℕ → Out A
     → Type 0
-Explains p Is spell ts (Parsed a suffix) = Is a × (ts ≡ spell a ++ suffix)
-Explains p Is spell ts (Unexpected suffix) = (prefix : List ℕ) × (ts ≡ prefix ++ suffix)
-    × Begins Is spell prefix × Same p prefix suffix
+Explains p Is encode ts (Parsed a suffix) = Is a × (ts ≡ encode a ++ suffix)
+Explains p Is encode ts (Unexpected suffix) = (prefix : List ℕ) × (ts ≡ prefix ++ suffix)
+    × Begins Is encode prefix × Same p prefix suffix
 
-pub record IsCorrectParser {A : Type 0} (p : Parser A) (Is : A → Type 0) (spell : A → List ℕ) :
+pub record IsCorrectParser {A : Type 0} (p : Parser A) (Is : A → Type 0) (encode : A → List ℕ) :
     Type 0 where
   pub one : A
   pub live : Is one
-  pub explains : (ts : List ℕ) → Explains p Is spell ts (p ts)
-  pub complete : (a : A) → Is a → (suffix : List ℕ) → p (spell a ++ suffix) ≡ Parsed a suffix
+  pub explains : (ts : List ℕ) → Explains p Is encode ts (p ts)
+  pub complete : (a : A) → Is a → (suffix : List ℕ) → p (encode a ++ suffix) ≡ Parsed a suffix
 
 -- ---- readers
 
@@ -69,8 +69,8 @@ abbrev pub byte : (ℕ → Bool) → Parser ℕ
 byte takes = λ ts. byte_by takes ts
 
 -- a byte, and by it what follows
-abbrev pub tagged : {A : Type 0} → (ℕ → Bool) → (ℕ → Parser A) → Parser A
-tagged takes arm = bind (byte takes) arm
+abbrev pub by_tag : {A : Type 0} → (ℕ → Bool) → (ℕ → Parser A) → Parser A
+by_tag takes arm = bind (byte takes) arm
 
 -- so many bytes, each of which the test takes
 unfoldable pub run : (ℕ → Bool) → ℕ → Parser (List ℕ)
@@ -89,8 +89,8 @@ items p zero = pure []
 items p (suc k) = bind p (λ a. map_to (λ l. a ∷ l) (items p k))
 
 -- a count of so many bytes, at most `most`, and that many
-abbrev pub listed : {A : Type 0} → ℕ → ℕ → Parser A → Parser (List A)
-listed k most p = bind (digits most k 0) (λ n. items p n)
+abbrev pub list_parser : {A : Type 0} → ℕ → ℕ → Parser A → Parser (List A)
+list_parser k most p = bind (digits most k 0) (λ n. items p n)
 
 -- after what was read before
 abbrev pub prepend : {A : Type 0} → List A → Out (List A) → Out (List A)

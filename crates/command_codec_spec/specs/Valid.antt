@@ -15,7 +15,7 @@ use Rattle.smo_ops_types.specs.Operators.{copy_table, merge_table, partition_tab
 use Rattle.smo_ops_types.specs.Operators.{join_table, add_column, drop_column, rename_column}
 use Rattle.smo_ops_types.specs.Changes.{PlainChange, insertion, deletion, update}
 use Rattle.smo_ops_types.specs.Commands.{PlainBody, changing, evolving, PlainCommand}
-use Rattle.command_codec_spec.specs.Spelling.{number_of}
+use Rattle.command_codec_spec.specs.Encoding.{number_of}
 
 -- ---- what a writer asks: each count fits its field, each reference is to atom 0, each tree is no
 -- deeper than a tree may be

@@ -12,28 +12,29 @@ ghost use Rattle.prima_base.specs.Bytes.{IsName};
 ghost use Rattle.prima_base.specs.Columns.{IsValid as IsValidValue};
 ghost use Rattle.command_codec_spec.specs.Reading.{IsCorrectParser};
 ghost use Rattle.command_codec_spec.specs.Reader as spec;
-ghost use Rattle.command_codec_spec.specs.Spelling.{name_bytes, value_bytes, operator_bytes};
-ghost use Rattle.command_codec_spec.specs.Spelling.{command_bytes};
+ghost use Rattle.command_codec_spec.specs.Encoding.{name_bytes, value_bytes, operator_bytes};
+ghost use Rattle.command_codec_spec.specs.Encoding.{command_bytes};
 ghost use Rattle.command_codec_spec.specs.Valid.{IsOperator, IsCommand, IsWritable};
-ghost use Rattle.command_codec_spec.specs.Found.{Spells, SpellsName, SpellsValue, SpellsOperator};
+ghost use Rattle.command_codec_spec.specs.Found.{Encodes, EncodesName, EncodesValue};
+ghost use Rattle.command_codec_spec.specs.Found.{EncodesOperator};
 ghost use Rattle.command_codec_spec.specs.Found.{Decoding, IsDecoding};
 
 /// A command has one spelling, and no other command has it.
-pub fn a_command_has_one_spelling()
-    ensures one { (c : PlainCommand) (a b : List ℕ) → Spells c a → Spells c b → a ≡ b }
-    ensures its_own { (c d : PlainCommand) (a : List ℕ) → Spells c a → Spells d a → c ≡ d }
+pub fn a_command_has_one_encoding()
+    ensures one { (c : PlainCommand) (a b : List ℕ) → Encodes c a → Encodes c b → a ≡ b }
+    ensures its_own { (c d : PlainCommand) (a : List ℕ) → Encodes c a → Encodes d a → c ≡ d }
 {}
 
 /// No spelling is a prefix of another, be it of a command, of a name, of a value or of an operator.
-pub fn no_spelling_is_a_prefix()
-    ensures command { (c d : PlainCommand) (a more : List ℕ) → Spells c a → Spells d (a ++ more)
+pub fn no_encoding_is_a_prefix()
+    ensures command { (c d : PlainCommand) (a more : List ℕ) → Encodes c a → Encodes d (a ++ more)
         → (c ≡ d) × (more ≡ []) }
-    ensures name { (m n : List ℕ) (a more : List ℕ) → SpellsName m a → SpellsName n (a ++ more)
+    ensures name { (m n : List ℕ) (a more : List ℕ) → EncodesName m a → EncodesName n (a ++ more)
         → (m ≡ n) × (more ≡ []) }
-    ensures value { (v w : Value) (a more : List ℕ) → SpellsValue v a → SpellsValue w (a ++ more)
+    ensures value { (v w : Value) (a more : List ℕ) → EncodesValue v a → EncodesValue w (a ++ more)
         → (v ≡ w) × (more ≡ []) }
-    ensures operator { (o p : Operator) (a more : List ℕ) → SpellsOperator o a
-        → SpellsOperator p (a ++ more) → (o ≡ p) × (more ≡ []) }
+    ensures operator { (o p : Operator) (a more : List ℕ) → EncodesOperator o a
+        → EncodesOperator p (a ++ more) → (o ≡ p) × (more ≡ []) }
 {}
 
 /// Bytes are one of three things, and one alone: a command's spelling; one and more after it; or no

@@ -10,6 +10,6 @@
 mod laws;
 
 pub use laws::{
-    a_command_has_one_spelling, accepted_commands_can_be_written, bytes_are_one_thing,
-    no_spelling_is_a_prefix, parts_are_read,
+    a_command_has_one_encoding, accepted_commands_can_be_written, bytes_are_one_thing,
+    no_encoding_is_a_prefix, parts_are_read,
 };

@@ -11,7 +11,7 @@ use Rattle.cond_expr.specs.Trees.{fails}
 use Rattle.cond_expr.specs.Seen.{tree, test, trees_of, tests_of}
 use Rattle.cond_expr.specs.Sizes.{count_of}
 use Rattle.cond_expr.proofs.SeenLaws.{count_is_length}
-use Rattle.command_codec_spec.specs.Spelling.{number, number_of, trees_bytes, tests_bytes}
+use Rattle.command_codec_spec.specs.Encoding.{number, number_of, trees_bytes, tests_bytes}
 
 pub one_more : (o p q a b : List ℕ) → p ≡ o ++ a → q ≡ p ++ b → q ≡ o ++ (a ++ b)
 one_more o p q a b e f = f ∙ ap (λ x. x ++ b) e ∙ append_assoc o a b

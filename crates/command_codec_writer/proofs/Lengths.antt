@@ -7,7 +7,7 @@ use Rattle.std.specs.List.{flat_map}
 use Rattle.prima_base.specs.declared.value.Value.TheVariants.{Int, Text}
 use Rattle.cond_expr.proofs.SeenLaws.{count_is_length, tree_of_concat, tree_of_case, test_of_and}
 use Rattle.cond_expr.proofs.SeenLaws.{test_of_or, test_of_cmp}
-use Rattle.command_codec_spec.specs.Spelling.{number, value_bytes}
+use Rattle.command_codec_spec.specs.Encoding.{number, value_bytes}
 use Rattle.command_codec_writer.proofs.After.{number_is_length, test_of_not}
 
 high_first_length : (k n : ℕ) → length (bytes_high_first k n) ≡ k

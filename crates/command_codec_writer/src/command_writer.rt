@@ -5,10 +5,10 @@ ghost use Rattle.relations_spec.specs.Spans.{forever};
 ghost use Rattle.smo_ops_types.specs.Operators.{operator_of, operators_of};
 ghost use Rattle.smo_ops_types.specs.Changes.{changes_of};
 ghost use Rattle.smo_ops_types.specs.Commands.{changing, evolving, command_of};
-ghost use Rattle.command_codec_spec.specs.Found.{Appends, Spells, SpellsOperator};
+ghost use Rattle.command_codec_spec.specs.Found.{Appends, Encodes, EncodesOperator};
 ghost use Rattle.command_codec_spec.specs.Valid.{IsWritable, IsWritableBody, IsWritableOperator};
 ghost use Rattle.command_codec_spec.specs.Valid.{IsOperator};
-ghost use Rattle.command_codec_spec.specs.Spelling.{operator_bytes};
+ghost use Rattle.command_codec_spec.specs.Encoding.{operator_bytes};
 
 use crate::change_writer::{write_changing, write_evolving};
 use crate::operator_writer::write_op;
@@ -23,7 +23,7 @@ use std::alloc::Global;
 /// memory runs out.
 pub fn encode(alloc: Global, command: &Command) -> Result<Vec<u8>, NoMemory>
     requires { IsWritable (command_of command.now) }
-    ensures { IfOk result (λ v. Spells (command_of command.now) v.items) }
+    ensures { IfOk result (λ v. Encodes (command_of command.now) v.items) }
 {
     let stamp = command.stamp();
     match command.body() {
@@ -37,7 +37,7 @@ pub fn encode(alloc: Global, command: &Command) -> Result<Vec<u8>, NoMemory>
 pub fn encode_changes(alloc: Global, stamp: u64, changes: &[Change]) -> Result<Vec<u8>, NoMemory>
     requires valid { stamp < forever }
     requires writable { IsWritableBody (changing (changes_of changes.now)) }
-    ensures { IfOk result (λ v. Spells
+    ensures { IfOk result (λ v. Encodes
         (record { stamp = stamp; body = changing (changes_of changes.now) }) v.items) }
 {
     let size = changing_size(changes).saturating_add(8);
@@ -57,7 +57,7 @@ pub fn encode_operator(
 ) -> Result<Vec<u8>, NoMemory>
     requires valid { stamp < forever }
     requires writable { IsWritableBody (evolving (operator_of op.now) (operators_of inverse.now)) }
-    ensures { IfOk result (λ v. Spells (record {
+    ensures { IfOk result (λ v. Encodes (record {
       stamp = stamp;
       body = evolving (operator_of op.now) (operators_of inverse.now);
     }) v.items) }
@@ -70,9 +70,9 @@ pub fn encode_operator(
 }
 
 // The spelling of an operator alone.
-fn spelled_op(alloc: Global, op: &Op) -> Result<Vec<u8>, NoMemory>
+fn encoded_op(alloc: Global, op: &Op) -> Result<Vec<u8>, NoMemory>
     requires { IsWritableOperator (operator_of op.now) }
-    ensures { IfOk result (λ v. SpellsOperator (operator_of op.now) v.items) }
+    ensures { IfOk result (λ v. EncodesOperator (operator_of op.now) v.items) }
 {
     let mut out = Vec::with_capacity(alloc, op_size(op) as usize)?;
     write_op(&mut out, op)?;
@@ -83,10 +83,10 @@ fn spelled_op(alloc: Global, op: &Op) -> Result<Vec<u8>, NoMemory>
 /// memory runs out; the buffer then holds what it held.
 pub fn put_op(buffer: &mut Vec<u8>, op: &Op) -> Result<(), NoMemory>
     requires { IsWritableOperator (operator_of op.now) }
-    ensures ok { OnOk result (Appends SpellsOperator (operator_of op.now) buffer.old.items
+    ensures ok { OnOk result (Appends EncodesOperator (operator_of op.now) buffer.old.items
         buffer.new.items) }
     ensures err { OnErr result (buffer.new.items ≡ buffer.old.items) }
 {
-    let bytes = spelled_op(*buffer.allocator(), op)?;
+    let bytes = encoded_op(*buffer.allocator(), op)?;
     put(buffer, &bytes)
 }

@@ -7,8 +7,8 @@ ghost use Rattle.cond_expr.specs.Seen.{tree, test};
 ghost use Rattle.smo_ops_types.specs.Operators.{operator_of, operators_of, create_table};
 ghost use Rattle.smo_ops_types.specs.Operators.{partition_table, decompose_table, join_table};
 ghost use Rattle.smo_ops_types.specs.Operators.{add_column};
-ghost use Rattle.command_codec_spec.specs.Spelling.{type_tag, name_bytes, column_bytes, list_bytes};
-ghost use Rattle.command_codec_spec.specs.Spelling.{tree_bytes, test_bytes, operator_bytes};
+ghost use Rattle.command_codec_spec.specs.Encoding.{type_tag, name_bytes, column_bytes, list_bytes};
+ghost use Rattle.command_codec_spec.specs.Encoding.{tree_bytes, test_bytes, operator_bytes};
 ghost use Rattle.command_codec_spec.specs.Valid.{TreeFits, TestFits, TreeNamed, TestNamed};
 ghost use Rattle.command_codec_spec.specs.Valid.{IsWritableOperator, OperatorNamed};
 

@@ -6,8 +6,8 @@ ghost use Rattle.prima_base.specs.Columns.{IsValid};
 ghost use Rattle.prima_base.specs.Order.{shown};
 ghost use Rattle.prima_base.specs.declared.value.Value.TheVariants.{Int as IntValue};
 ghost use Rattle.prima_base.specs.declared.value.Value.TheVariants.{Text as TextValue};
-ghost use Rattle.command_codec_spec.specs.Found.{Appends, SpellsName, SpellsValue};
-ghost use Rattle.command_codec_spec.specs.Spelling.{number, name_bytes, value_bytes};
+ghost use Rattle.command_codec_spec.specs.Found.{Appends, EncodesName, EncodesValue};
+ghost use Rattle.command_codec_spec.specs.Encoding.{number, name_bytes, value_bytes};
 
 use prima_base::{Name, NoMemory, Val, Value};
 
@@ -36,7 +36,7 @@ fn put_both(out: &mut Vec<u8>, head: &[u8], tail: &[u8]) -> Result<(), NoMemory>
 }
 
 /// A number in one byte.
-#[tactic(auto, unfolding(command_codec_spec::specs::Spelling::number))]
+#[tactic(auto, unfolding(command_codec_spec::specs::Encoding::number))]
 pub(crate) fn put_u8(out: &mut Vec<u8>, value: u8) -> Result<(), NoMemory>
     ensures ok { OnOk result (out.new.items ≡ out.old.items ++ number 1 value) }
 {
@@ -44,7 +44,7 @@ pub(crate) fn put_u8(out: &mut Vec<u8>, value: u8) -> Result<(), NoMemory>
 }
 
 /// A number in two bytes.
-#[tactic(auto, unfolding(command_codec_spec::specs::Spelling::number))]
+#[tactic(auto, unfolding(command_codec_spec::specs::Encoding::number))]
 pub(crate) fn put_u16(out: &mut Vec<u8>, value: u16) -> Result<(), NoMemory>
     ensures ok { OnOk result (out.new.items ≡ out.old.items ++ number 2 value) }
 {
@@ -53,7 +53,7 @@ pub(crate) fn put_u16(out: &mut Vec<u8>, value: u16) -> Result<(), NoMemory>
 
 /// Writes a number in four bytes, the highest first, after what is there. The one error is
 /// `NoMemory`, where memory runs out.
-#[tactic(auto, unfolding(command_codec_spec::specs::Spelling::number))]
+#[tactic(auto, unfolding(command_codec_spec::specs::Encoding::number))]
 pub fn put_u32(out: &mut Vec<u8>, value: u32) -> Result<(), NoMemory>
     ensures ok { OnOk result (out.new.items ≡ out.old.items ++ number 4 value) }
 {
@@ -62,7 +62,7 @@ pub fn put_u32(out: &mut Vec<u8>, value: u32) -> Result<(), NoMemory>
 
 /// Writes a number in eight bytes, the highest first, after what is there. The one error is
 /// `NoMemory`, where memory runs out.
-#[tactic(auto, unfolding(command_codec_spec::specs::Spelling::number))]
+#[tactic(auto, unfolding(command_codec_spec::specs::Encoding::number))]
 pub fn put_u64(out: &mut Vec<u8>, value: u64) -> Result<(), NoMemory>
     ensures ok { OnOk result (out.new.items ≡ out.old.items ++ number 8 value) }
 {
@@ -81,7 +81,7 @@ pub fn write_name(out: &mut Vec<u8>, name: &Name) -> Result<(), NoMemory>
 }
 
 // Writes the spelling of a text of these bytes after what is there.
-#[tactic(auto, unfolding(command_codec_spec::specs::Spelling::number))]
+#[tactic(auto, unfolding(command_codec_spec::specs::Encoding::number))]
 fn write_text(out: &mut Vec<u8>, bytes: &[u8]) -> Result<(), NoMemory>
     requires { IsTxt bytes.now }
     ensures ok { OnOk result (out.new.items ≡ out.old.items ++ value_bytes (TextValue bytes.now)) }
@@ -92,7 +92,7 @@ fn write_text(out: &mut Vec<u8>, bytes: &[u8]) -> Result<(), NoMemory>
 }
 
 // Writes the spelling of a number as a value after what is there.
-#[tactic(auto, unfolding(command_codec_spec::specs::Spelling::number))]
+#[tactic(auto, unfolding(command_codec_spec::specs::Encoding::number))]
 fn write_int(out: &mut Vec<u8>, value: i64) -> Result<(), NoMemory>
     ensures ok { OnOk result (out.new.items ≡ out.old.items ++ value_bytes (IntValue value)) }
     ensures err { OnErr result (out.new.items ≡ out.old.items) }
@@ -127,7 +127,7 @@ pub fn write_borrowed(out: &mut Vec<u8>, value: &Val<'_>) -> Result<(), NoMemory
 /// Appends the spelling of a name. The one error is `NoMemory`, where memory runs out; the buffer
 /// then holds what it held.
 pub fn put_name(buffer: &mut Vec<u8>, name: &Name) -> Result<(), NoMemory>
-    ensures ok { OnOk result (Appends SpellsName name.now buffer.old.items buffer.new.items) }
+    ensures ok { OnOk result (Appends EncodesName name.now buffer.old.items buffer.new.items) }
     ensures err { OnErr result (buffer.new.items ≡ buffer.old.items) }
 {
     write_name(buffer, name)
@@ -136,7 +136,7 @@ pub fn put_name(buffer: &mut Vec<u8>, name: &Name) -> Result<(), NoMemory>
 /// Appends the spelling of a value. The one error is `NoMemory`, where memory runs out; the buffer
 /// then holds what it held.
 pub fn put_value(buffer: &mut Vec<u8>, value: &Value) -> Result<(), NoMemory>
-    ensures ok { OnOk result (Appends SpellsValue value.now buffer.old.items buffer.new.items) }
+    ensures ok { OnOk result (Appends EncodesValue value.now buffer.old.items buffer.new.items) }
     ensures err { OnErr result (buffer.new.items ≡ buffer.old.items) }
 {
     write_value(buffer, value)

@@ -8,11 +8,11 @@ ghost use Rattle.cond_expr.specs.Seen.{tree, test, trees_of, tests_of};
 ghost use Rattle.smo_ops_types.specs.Operators.{operator_of, operators_of, decompose_table};
 ghost use Rattle.smo_ops_types.specs.Changes.{change_of, changes_of, sets_of};
 ghost use Rattle.smo_ops_types.specs.Commands.{changing, evolving};
-ghost use Rattle.command_codec_spec.specs.Spelling.{name_bytes, value_bytes, tree_bytes};
-ghost use Rattle.command_codec_spec.specs.Spelling.{trees_bytes};
-ghost use Rattle.command_codec_spec.specs.Spelling.{test_bytes, tests_bytes, column_bytes};
-ghost use Rattle.command_codec_spec.specs.Spelling.{operator_bytes, cell_bytes, set_bytes};
-ghost use Rattle.command_codec_spec.specs.Spelling.{change_bytes, body_bytes};
+ghost use Rattle.command_codec_spec.specs.Encoding.{name_bytes, value_bytes, tree_bytes};
+ghost use Rattle.command_codec_spec.specs.Encoding.{trees_bytes};
+ghost use Rattle.command_codec_spec.specs.Encoding.{test_bytes, tests_bytes, column_bytes};
+ghost use Rattle.command_codec_spec.specs.Encoding.{operator_bytes, cell_bytes, set_bytes};
+ghost use Rattle.command_codec_spec.specs.Encoding.{change_bytes, body_bytes};
 
 use cond_expr::{Cond, Expr};
 use prima_base::{ColType, Name, Val, Value};

@@ -2,8 +2,8 @@
 
 ghost use Rattle.std.specs.Prelude.{◌≡◌, ◌<◌, ◌^◌, ◌++◌, ◌∷◌, [], map, length, OnOk};
 ghost use Rattle.cond_expr.specs.Seen.{tree, test, trees_of, tests_of};
-ghost use Rattle.command_codec_spec.specs.Spelling.{number, sign_tag, tree_bytes, trees_bytes};
-ghost use Rattle.command_codec_spec.specs.Spelling.{test_bytes, tests_bytes};
+ghost use Rattle.command_codec_spec.specs.Encoding.{number, sign_tag, tree_bytes, trees_bytes};
+ghost use Rattle.command_codec_spec.specs.Encoding.{test_bytes, tests_bytes};
 ghost use Rattle.command_codec_spec.specs.Valid.{TreeFits, TreesFit, TestFits, TestsFit, TreeNamed};
 ghost use Rattle.command_codec_spec.specs.Valid.{TreesNamed, TestNamed, TestsNamed};
 

@@ -8,7 +8,7 @@ use Rattle.prima_base.specs.OrderLaws.{value_total}
 use Rattle.prima_base.specs.declared.value.Value.{Value}
 use Rattle.cond_expr.specs.declared.expr.CmpOp.{CmpOp}
 use Rattle.cond_expr.specs.declared.expr.CmpOp.TheVariants.{Eq, Ne, Lt, Le, Gt, Ge}
-use Rattle.cond_expr.specs.Comparisons.{turned, same_way}
+use Rattle.cond_expr.specs.Comparisons.{turned_op, same_way}
 use Rattle.cond_expr.specs.Values.{agrees}
 
 pub same_way_is : (o p : CmpOp) → same_way o p ≡ true → o ≡ p
@@ -50,7 +50,7 @@ same_way_is Ge Gt e = absurd (cc)
 same_way_is Ge Ge e = refl
 
 pub agrees_reversed : (o : CmpOp) (r : Ordering)
-    → agrees (turned o) (ordering_reverse r) ≡ agrees o r
+    → agrees (turned_op o) (ordering_reverse r) ≡ agrees o r
 agrees_reversed Eq Less = refl
 agrees_reversed Eq Equal = refl
 agrees_reversed Eq Greater = refl
@@ -71,6 +71,6 @@ agrees_reversed Ge Equal = refl
 agrees_reversed Ge Greater = refl
 
 pub agrees_turned : (o : CmpOp) (x y : Value)
-    → agrees (turned o) (value_cmp y x) ≡ agrees o (value_cmp x y)
-agrees_turned o x y = ap (agrees (turned o)) (value_total.antisymm y x)
+    → agrees (turned_op o) (value_cmp y x) ≡ agrees o (value_cmp x y)
+agrees_turned o x y = ap (agrees (turned_op o)) (value_total.antisymm y x)
     ∙ agrees_reversed o (value_cmp x y)

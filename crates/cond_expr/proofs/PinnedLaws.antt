@@ -17,7 +17,7 @@ use Rattle.cond_expr.specs.Trees.{Tree, column, constant, length_of, joined, cho
 use Rattle.cond_expr.specs.Trees.{always, compared, all_of, some_of, fails, Tests, no_tests, a_test}
 use Rattle.cond_expr.specs.Values.{Cells, value, truth, all_true, agrees}
 use Rattle.cond_expr.specs.Parts.{parts, all_parts}
-use Rattle.cond_expr.specs.Comparisons.{turned, same_way}
+use Rattle.cond_expr.specs.Comparisons.{turned_op, same_way}
 use Rattle.cond_expr.proofs.ComparisonLaws.{same_way_is, agrees_turned}
 use Rattle.cond_expr.specs.PinnedParts.{is_column, constant_of, pinned_by, first_pinned, pinned}
 
@@ -68,9 +68,9 @@ module _ (at : Cells) (c : Column) where
   part_holds o always v h e = absurd (cc)
   part_holds o (compared p a b) v h e =
       elim (from_first (cond (same_way o p && is_column c a) (constant_of b) None)
-      (cond (same_way o (turned p) && is_column c b) (constant_of a) None) v e) [
+      (cond (same_way o (turned_op p) && is_column c b) (constant_of a) None) v e) [
         | inl f ↦ plain (taken (same_way o p && is_column c a) (constant_of b) v f)
-        | inr f ↦ opposite (taken (same_way o (turned p) && is_column c b) (constant_of a) v f)
+        | inr f ↦ opposite (taken (same_way o (turned_op p) && is_column c b) (constant_of a) v f)
       ]
     where
       plain : ((same_way o p && is_column c a) ≡ true) × (constant_of b ≡ Some v)
@@ -81,14 +81,14 @@ module _ (at : Cells) (c : Column) where
           ∙ ap (λ (x : Value). agrees p (value_cmp x v)) (sym (column_value a k.1))
           ∙ ap (λ (x : Value). agrees p (value_cmp (value at a) x)) (sym (is_constant at b v g)) ∙ h
 
-      opposite : ((same_way o (turned p) && is_column c b) ≡ true) × (constant_of a ≡ Some v)
+      opposite : ((same_way o (turned_op p) && is_column c b) ≡ true) × (constant_of a ≡ Some v)
           → agrees o (value_cmp (at (Atom c.atom) c.name) v) ≡ true
       opposite (f, g) =
-          let k = both (same_way o (turned p)) (is_column c b) f in
+          let k = both (same_way o (turned_op p)) (is_column c b) f in
           ap (λ (w : CmpOp). agrees w (value_cmp (at (Atom c.atom) c.name) v))
-          (same_way_is o (turned p) k.0)
-          ∙ ap (λ (x : Value). agrees (turned p) (value_cmp x v)) (sym (column_value b k.1))
-          ∙ ap (λ (x : Value). agrees (turned p) (value_cmp (value at b) x))
+          (same_way_is o (turned_op p) k.0)
+          ∙ ap (λ (x : Value). agrees (turned_op p) (value_cmp x v)) (sym (column_value b k.1))
+          ∙ ap (λ (x : Value). agrees (turned_op p) (value_cmp (value at b) x))
           (sym (is_constant at a v g))
           ∙ agrees_turned p (value at a) (value at b) ∙ h
   part_holds o (all_of cs) v h e = absurd (cc)

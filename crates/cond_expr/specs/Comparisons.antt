@@ -4,13 +4,13 @@ use Rattle.cond_expr.specs.declared.expr.CmpOp.{CmpOp}
 use Rattle.cond_expr.specs.declared.expr.CmpOp.TheVariants.{Eq, Ne, Lt, Le, Gt, Ge}
 
 -- the comparison of the right side with the left one
-abbrev pub turned : CmpOp → CmpOp
-turned Eq = Eq
-turned Ne = Ne
-turned Lt = Gt
-turned Le = Ge
-turned Gt = Lt
-turned Ge = Le
+abbrev pub turned_op : CmpOp → CmpOp
+turned_op Eq = Eq
+turned_op Ne = Ne
+turned_op Lt = Gt
+turned_op Le = Ge
+turned_op Gt = Lt
+turned_op Ge = Le
 
 -- the two comparisons are one
 abbrev pub same_way : CmpOp → CmpOp → Bool

@@ -12,4 +12,4 @@ pub mod AtomColumns
 pub mod PinnedParts
 pub mod Comparisons
 pub mod Walks
-pub mod Judgements
+pub mod TypeChecks

@@ -10,7 +10,7 @@ use Rattle.prima_base.specs.Columns.{IsValid}
 use Rattle.prima_base.specs.Order.{same}
 use Rattle.cond_expr.specs.declared.expr.Whose.TheVariants.{Free, Alias, Atom}
 use Rattle.cond_expr.specs.declared.expr.CmpOp.{CmpOp}
-use Rattle.cond_expr.specs.Comparisons.{turned}
+use Rattle.cond_expr.specs.Comparisons.{turned_op}
 use Rattle.cond_expr.specs.Trees.{Tree, column, constant, length_of, joined, choose, Test, never}
 use Rattle.cond_expr.specs.Trees.{always, compared, all_of, some_of, fails, Tests, no_tests, a_test}
 use Rattle.cond_expr.specs.Values.{truth}
@@ -65,7 +65,7 @@ column_with o (choose c a b) v = None
 
 -- a constant on the left, or else one on the right
 abbrev pub sides : CmpOp → Tree → Tree → Option Bound
-sides o (constant v) b = column_with (turned o) b v
+sides o (constant v) b = column_with (turned_op o) b v
 sides o a (constant v) = column_with o a v
 sides o a b = None
 

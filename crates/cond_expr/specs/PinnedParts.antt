@@ -5,7 +5,7 @@ use Rattle.std.specs.Option.{option_or}
 use Rattle.prima_base.specs.declared.value.Value.{Value}
 use Rattle.cond_expr.specs.declared.expr.CmpOp.{CmpOp}
 use Rattle.cond_expr.specs.declared.expr.Column.{Column}
-use Rattle.cond_expr.specs.Comparisons.{turned, same_way}
+use Rattle.cond_expr.specs.Comparisons.{turned_op, same_way}
 use Rattle.cond_expr.specs.Trees.{Tree, column, constant, length_of, joined, choose, Test, never}
 use Rattle.cond_expr.specs.Trees.{always, compared, all_of, some_of, fails}
 use Rattle.cond_expr.specs.Parts.{parts}
@@ -31,7 +31,7 @@ abbrev pub pinned_by : CmpOp → Column → Test → Option Value
 pinned_by o c never = None
 pinned_by o c always = None
 pinned_by o c (compared p a b) = option_or (cond (same_way o p && is_column c a) (constant_of b)
-    None) (cond (same_way o (turned p) && is_column c b) (constant_of a) None)
+    None) (cond (same_way o (turned_op p) && is_column c b) (constant_of a) None)
 pinned_by o c (all_of cs) = None
 pinned_by o c (some_of cs) = None
 pinned_by o c (fails d) = None

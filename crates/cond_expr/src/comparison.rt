@@ -1,13 +1,13 @@
 //! The six comparisons.
 
 ghost use Rattle.std.specs.Prelude.{◌≡◌};
-ghost use Rattle.cond_expr.specs.Comparisons.{turned, same_way};
+ghost use Rattle.cond_expr.specs.Comparisons.{turned_op, same_way};
 
 use crate::CmpOp;
 
 /// The comparison of the right side with the left one. It takes no memory.
-pub fn turned(op: CmpOp) -> CmpOp
-    ensures { result ≡ turned op }
+pub fn turned_op(op: CmpOp) -> CmpOp
+    ensures { result ≡ turned_op op }
 {
     match op {
         CmpOp::Eq => CmpOp::Eq,

@@ -10,7 +10,7 @@ ghost use Rattle.cond_expr.specs.Kinds.{kinds_of, kind_of, is_typed, value_kind}
 ghost use Rattle.cond_expr.specs.Faults.{references, trees_references, test_references};
 ghost use Rattle.cond_expr.specs.Faults.{tests_references, first_unknown, untyped, test_untyped};
 ghost use Rattle.cond_expr.specs.Faults.{first_of};
-ghost use Rattle.cond_expr.specs.Judgements.{Judged, TestJudged};
+ghost use Rattle.cond_expr.specs.TypeChecks.{Checked, TestChecked};
 ghost use Rattle.cond_expr.specs.Walks.{Walked, TreesWalked, TestWalked, TestsWalked};
 
 use crate::{ColRef, Column, Cond, Expr, TypeFault};
@@ -328,7 +328,7 @@ pub fn typed_cond(cond: &Cond, columns: &[Column]) -> Result<u32, u32>
 #[tactic(auto, using(crate::proofs::FaultLaws::known_typed))]
 pub fn type_of(expr: &Expr, columns: &[Column]) -> Result<ColType, TypeFault>
     requires { nodes_of (tree expr.now) < 2 ^ 32 }
-    ensures judged { Judged (kinds_of columns.now) (tree expr.now) result }
+    ensures checked { Checked (kinds_of columns.now) (tree expr.now) result }
     ensures typed { (k : Kind) → kind_of (kinds_of columns.now) (tree expr.now) ≡ Some k
         → result ≡ Ok k }
     ensures unknown { (n : List ℕ) → first_unknown (kinds_of columns.now)
@@ -356,7 +356,7 @@ pub fn type_of(expr: &Expr, columns: &[Column]) -> Result<ColType, TypeFault>
 #[tactic(auto, using(crate::proofs::FaultLaws::known_test))]
 pub fn check_cond(cond: &Cond, columns: &[Column]) -> Result<(), TypeFault>
     requires { test_nodes (test cond.now) < 2 ^ 32 }
-    ensures judged { TestJudged (kinds_of columns.now) (test cond.now) result }
+    ensures checked { TestChecked (kinds_of columns.now) (test cond.now) result }
     ensures typed { is_typed (kinds_of columns.now) (test cond.now) ≡ true → IsOk result }
     ensures unknown { (n : List ℕ) → first_unknown (kinds_of columns.now)
         (test_references (test cond.now)) ≡ Some n

@@ -22,7 +22,7 @@ mod size;
 
 pub use atom_column::{columns_at, push_columns_at};
 pub use borrowed::lend_row;
-pub use comparison::{same_way, turned};
+pub use comparison::{same_way, turned_op};
 pub use copy::Itself;
 pub use evaluation::{decide, eval, holds};
 pub use expr::{CmpOp, ColRef, Column, Cond, Expr, TreeSize, Whose};

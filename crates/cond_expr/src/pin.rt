@@ -10,13 +10,13 @@ ghost use Rattle.cond_expr.specs.declared.expr.Column.{Column as OneColumn};
 ghost use Rattle.cond_expr.specs.Trees.{Test};
 ghost use Rattle.cond_expr.specs.Values.{Cells, truth, agrees};
 ghost use Rattle.cond_expr.specs.Seen.{tree, test, tests_of};
-ghost use Rattle.cond_expr.specs.Comparisons.{turned, same_way};
+ghost use Rattle.cond_expr.specs.Comparisons.{turned_op, same_way};
 ghost use Rattle.cond_expr.specs.Parts.{all_parts};
 ghost use Rattle.cond_expr.specs.PinnedParts.{is_column, constant_of, pinned_by, first_pinned};
 ghost use Rattle.cond_expr.specs.PinnedParts.{pinned};
 ghost use Rattle.std.specs.Prelude.{Some};
 
-use crate::comparison::{same_way, turned};
+use crate::comparison::{same_way, turned_op};
 use crate::{CmpOp, Column, Cond, Expr};
 use prima_base::Value;
 
@@ -55,7 +55,7 @@ pub fn pinned<'e>(cond: &'e Cond, op: CmpOp, column: &Column) -> Option<&'e Valu
             if let Some(value) = beside(same_way(op, *by), left, right, column) {
                 return Some(value);
             }
-            beside(same_way(op, turned(*by)), right, left, column)
+            beside(same_way(op, turned_op(*by)), right, left, column)
         }
         Cond::And(parts) => pinned_of_all(parts, op, column),
         Cond::False | Cond::True | Cond::Or(_) | Cond::Not(_) => None,

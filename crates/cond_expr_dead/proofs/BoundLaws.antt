@@ -13,7 +13,7 @@ use Rattle.cond_expr.specs.Trees.{Tree, column, constant, length_of, joined, cho
 use Rattle.cond_expr.specs.Trees.{always, compared, all_of, some_of, fails}
 use Rattle.cond_expr.specs.Values.{Cells, truth, agrees}
 use Rattle.cond_expr.specs.Kinds.{Kinds, value_kind, same_type, same_kind, is_typed}
-use Rattle.cond_expr.specs.Comparisons.{turned}
+use Rattle.cond_expr.specs.Comparisons.{turned_op}
 use Rattle.cond_expr.proofs.ComparisonLaws.{agrees_reversed}
 use Rattle.cond_expr.specs.Parts.{Bound, column_with, sides, bound_of, is_on, compares_just, lets}
 
@@ -22,7 +22,7 @@ pub data IsBound : Test → Bound → Type 0 where
   on_left : (b : Bound) → IsBound (compared b.op (column (Atom b.atom) b.name) (constant b.limit)) b
   on_right : (o : CmpOp) (i : ℕ) (n : List ℕ) (v : Value)
       → IsBound (compared o (constant v) (column (Atom i) n))
-      (record { atom = i; name = n; op = turned o; limit = v })
+      (record { atom = i; name = n; op = turned_op o; limit = v })
 
 pub some_same : {A : Type 0} (a b : A) → Some a ≡ Some b → a ≡ b
 some_same a b e = cc
@@ -39,7 +39,8 @@ left_bound o (length_of t) v b h = absurd (cc)
 left_bound o (joined ts) v b h = absurd (cc)
 left_bound o (choose c x y) v b h = absurd (cc)
 
-right_bound : (o : CmpOp) (a : Tree) (v : Value) (b : Bound) → column_with (turned o) a v ≡ Some b
+right_bound : (o : CmpOp) (a : Tree) (v : Value) (b : Bound)
+    → column_with (turned_op o) a v ≡ Some b
     → IsBound (compared o (constant v) a) b
 right_bound o (column Free n) v b h = absurd (cc)
 right_bound o (column (Alias a) n) v b h = absurd (cc)
@@ -75,7 +76,7 @@ pub bound_truth : (at : Cells) (t : Test) (b : Bound) → IsBound t b
 bound_truth at t b (on_left _) = refl
 bound_truth at t b (on_right o i n v) =
     sym (agrees_reversed o (value_cmp v (at (Atom i) n)))
-    ∙ ap (agrees (turned o)) (sym (value_total.antisymm (at (Atom i) n) v))
+    ∙ ap (agrees (turned_op o)) (sym (value_total.antisymm (at (Atom i) n) v))
 
 pub on_column : (i : ℕ) (n : List ℕ) (b : Bound) → is_on i n (Some b) ≡ true → (b.atom ≡ i)
     × (b.name ≡ n)

@@ -79,7 +79,8 @@ next_begins k c v i e = elim (cases_Bool (has_next c)) [
 ]
 
 -- a value at which a comparison with a value of the type begins to hold is one of the type
-pub begins_of : (k : ColType) (o : CmpOp) (c v : Value) → IsOf k c → beginning o c ≡ Some v → IsOf k v
+pub begins_of : (k : ColType) (o : CmpOp) (c v : Value) → IsOf k c → beginning o c ≡ Some v
+    → IsOf k v
 begins_of k Eq c v i e = (let q : c ≡ v = cc in subst (IsOf k) q i)
 begins_of k Ne c v i e = next_begins k c v i e
 begins_of k Lt c v i e = absurd (cc)

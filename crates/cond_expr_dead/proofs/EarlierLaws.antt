@@ -1,4 +1,5 @@
--- To look at each column once, at the first of its parts, finds what to look at it at each part does.
+-- To look at each column once, at the first of its parts, finds what to look at it at each part
+-- does.
 use Rattle.std.proofs.Common.{◌≡◌, ℕ, Bool, true, false, List, [], ◌∷◌, ◌++◌, map}
 use Rattle.std.proofs.Common.{Bor, refl, sym, ap, ◌∙◌, inl, inr, rules}
 use Rattle.std.specs.Prelude.{◌||◌, ◌&&◌, not, Option, Some, None}

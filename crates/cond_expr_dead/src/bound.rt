@@ -4,7 +4,7 @@ ghost use Rattle.cond_expr.specs.Seen.{tree, test};
 ghost use Rattle.cond_expr.specs.Parts.{column_with, sides, bound_of};
 ghost use Rattle.cond_expr_dead.specs.Shown.{bounds_shown};
 
-use cond_expr::{CmpOp, Cond, Expr, Whose, turned};
+use cond_expr::{CmpOp, Cond, Expr, Whose, turned_op};
 use prima_base::{Name, Value};
 
 /// A column of an atom, how it is compared, and with which constant.
@@ -41,7 +41,7 @@ fn sides<'a>(op: CmpOp, left: &'a Expr, right: &'a Expr) -> Option<ColumnBound<'
     ensures valid { IfSome result (λ b. IsValid b.limit.now) }
 {
     match (left, right) {
-        (Expr::Const(limit), _) => column_with(turned(op), right, limit),
+        (Expr::Const(limit), _) => column_with(turned_op(op), right, limit),
         (_, Expr::Const(limit)) => column_with(op, left, limit),
         (_, _) => None,
     }

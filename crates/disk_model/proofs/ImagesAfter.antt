@@ -2,7 +2,8 @@
 use Rattle.std.proofs.Common.{◌≡◌, ℕ, zero, suc, ◌+◌, ◌-◌, ◌%◌, ◌<◌, ◌≤◌, List, [], ◌∷◌, ◌++◌}
 use Rattle.std.proofs.Common.{length, get_or, take, drop, refl, sym, ◌∙◌, ap, subst, arith, map}
 use Rattle.std.proofs.Common.{true, false, Bool, IsTrue, drop-drop, take-suc}
-use Rattle.std.specs.Prelude.{Some, None, Result, Ok, Err, IfOk, ◌≢◌, nat_eq, nat_le, ◌&&◌, ◌||◌, if◌then◌else◌}
+use Rattle.std.specs.Prelude.{Some, None, Result, Ok, Err, IfOk, ◌≢◌, nat_eq, nat_le, ◌&&◌, ◌||◌}
+use Rattle.std.specs.Prelude.{if◌then◌else◌}
 use Rattle.std.specs.List.{range_with_len}
 use Rattle.std.proofs.lemmas.Bool.{both_ways}
 use Rattle.std.proofs.lemmas.Bool.Decides.{nat_tests}
@@ -112,7 +113,8 @@ module _ (first : List ℕ) (calls front back : List Call) (written start : List
     (all : total calls ≤ length written)
     (fit : IsTrue (all_fit (begun first) (steps_of calls written))) (within : k ≤ length calls)
     (since : IsTrue (are_writes (drop k calls))) (sync : LastIsSync k calls)
-    (is_front : front ≡ take k calls) (is_back : back ≡ drop k calls) (is_start : start ≡ first) where
+    (is_front : front ≡ take k calls) (is_back : back ≡ drop k calls)
+    (is_start : start ≡ first) where
   halves : calls ≡ front ++ back
   halves = sym (ap (λ (l : List Call). l ++ back) is_front
       ∙ ap (λ (l : List Call). take k calls ++ l) is_back ∙ take-append-drop k calls)
@@ -177,7 +179,8 @@ module _ (first : List ℕ) (calls front back : List Call) (written start : List
 
       fit_rest : IsTrue (all_fit (begun left) (steps_of back (drop used written)))
       fit_rest = subst (λ n. IsTrue (all_fit (begun left) (steps_of back (drop n written))))
-          (sym is_used) (subst (λ s. IsTrue (all_fit s (steps_of back (drop (total front) written))))
+          (sym is_used) (subst (λ s. IsTrue (all_fit s
+          (steps_of back (drop (total front) written))))
           there (fit_right (begun first) (steps_of front written)
           (steps_of back (drop (total front) written)) fit_both))
 

@@ -1,7 +1,7 @@
 -- Calls that change nothing but the count of faults.
 use Rattle.std.proofs.Common.{inl, ℕ, ◌≤◌, List, refl, arith}
 use Rattle.std.specs.Prelude.{Option, Some, None}
-use Rattle.disk_model.specs.Meaning.{Meaning, IsValid, Told, with_faults}
+use Rattle.disk_model.specs.Meaning.{Meaning, IsValid, BothKnown, with_faults}
 use Rattle.disk_model.specs.Moments.{GoesOn}
 use Rattle.disk_model.specs.DeviceCalls.{Torn, Writes, Syncs, Reads}
 use Rattle.disk_model.proofs.Shapes.{torn_same}
@@ -51,7 +51,7 @@ module _ (d : Meaning) (law : IsValid d) (faults : ℕ) (counts : d.faults ≤ f
         λ honest c left. inl (law.only_now c left);
   }
     where
-      told : (seen : Option (List ℕ)) → Told (Torn at n) seen seen
+      told : (seen : Option (List ℕ)) → BothKnown (Torn at n) seen seen
       told None = tt
       told (Some file) = torn_same file at n
 
@@ -64,7 +64,7 @@ module _ (d : Meaning) (law : IsValid d) (faults : ℕ) (counts : d.faults ≤ f
     during = λ honest c left. inl (law.only_now c left);
   }
     where
-      told : (seen : Option (List ℕ)) → Told (λ _ _. Unit {0}) seen seen
+      told : (seen : Option (List ℕ)) → BothKnown (λ _ _. Unit {0}) seen seen
       told None = tt
       told (Some file) = tt
 

@@ -1,6 +1,7 @@
 -- A file with one byte in the place of a range, and of all ranges that some calls wrote.
 use Rattle.std.proofs.Common.{◌≡◌, inl, inr, ℕ, ◌+◌, ◌-◌, ◌<◌, ◌≤◌, min, List}
-use Rattle.std.proofs.Common.{◌++◌, length, get_or, take, drop, replicate, refl, sym, ◌∙◌, ap, arith}
+use Rattle.std.proofs.Common.{◌++◌, length, get_or, take, drop, replicate, refl, sym, ◌∙◌, ap}
+use Rattle.std.proofs.Common.{arith}
 use Rattle.std.proofs.Common.{true, false, Bool, drop-drop}
 use Rattle.std.specs.Prelude.{◌||◌, nat_le, if◌then◌else◌}
 use Rattle.std.proofs.lemmas.Bool.{cases_lt}

@@ -1,6 +1,6 @@
 -- What the calls of a disk do, of whatever answer.
 use Rattle.std.specs.Prelude.{◌≡◌, ℕ, ◌+◌, ◌≤◌, max, IsTrue, List, ◌++◌, length, take, drop, Some}
-use Rattle.disk_model.specs.Meaning.{Meaning, Told, Only}
+use Rattle.disk_model.specs.Meaning.{Meaning, BothKnown, Only}
 use Rattle.disk_model.specs.Moments.{GoesOn, BeforeOrAfter}
 
 -- the file with these bytes at this place, over what stood there and past the end
@@ -29,7 +29,7 @@ pub record Reads (old new : Meaning) : Type 0 where
 -- a write of n bytes, which may have failed: it leaves its range as a crash may leave it
 pub record Writes (at n : ℕ) (old new : Meaning) : Type 0 where
   pub goes : GoesOn old new
-  pub seen : Told (Torn at n) old.seen new.seen
+  pub seen : BothKnown (Torn at n) old.seen new.seen
   pub crash : IsTrue old.is_honest → Follows (Torn at n) old.may_leave new.may_leave
   pub during : IsTrue old.is_honest → BeforeOrAfter old new
 
@@ -37,7 +37,7 @@ pub record Writes (at n : ℕ) (old new : Meaning) : Type 0 where
 -- as a crash may leave them (what a read gives is one of the files that a crash may leave)
 pub record Syncs (old new : Meaning) : Type 0 where
   pub goes : GoesOn old new
-  pub tells : Told (λ _ _. Unit {0}) old.seen new.seen
+  pub tells : BothKnown (λ _ _. Unit {0}) old.seen new.seen
   pub crash : IsTrue old.is_honest → (c : List ℕ) → new.may_leave c → old.may_leave c
   pub during : IsTrue old.is_honest → BeforeOrAfter old new
 

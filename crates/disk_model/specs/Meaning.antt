@@ -29,17 +29,17 @@ pub record IsValid (d : Meaning) : Type 0 where
   pub stays : (file : List ℕ) → IsTrue d.is_honest → d.seen ≡ Some file → d.may_leave file
 
 -- of what a read gives, where the disk tells it
-abbrev pub Tells : Option (List ℕ) → (List ℕ → Type 0) → Type 0
-Tells None P = Unit {0}
-Tells (Some file) P = P file
+abbrev pub IfKnown : Option (List ℕ) → (List ℕ → Type 0) → Type 0
+IfKnown None P = Unit {0}
+IfKnown (Some file) P = P file
 
 -- a disk that tells its content goes on telling it, one that does not goes on so, and the two
 -- contents are related in this way
-abbrev pub Told : (List ℕ → List ℕ → Type 0) → Option (List ℕ) → Option (List ℕ) → Type 0
-Told step None None = Unit {0}
-Told step None (Some new) = ⊥
-Told step (Some old) None = ⊥
-Told step (Some old) (Some new) = step old new
+abbrev pub BothKnown : (List ℕ → List ℕ → Type 0) → Option (List ℕ) → Option (List ℕ) → Type 0
+BothKnown step None None = Unit {0}
+BothKnown step None (Some new) = ⊥
+BothKnown step (Some old) None = ⊥
+BothKnown step (Some old) (Some new) = step old new
 
 -- a crash leaves this file and no other
 abbrev pub Only : List ℕ → (List ℕ → Type 0) → Type 0

@@ -1,7 +1,7 @@
 ghost use Rattle.std.specs.Prelude.{◌≡◌, ◌+◌, ◌-◌, ◌^◌, ◌<◌, ◌≤◌, IsTrue, length, take, drop};
 ghost use Rattle.std.specs.Prelude.{IfOk, OnOk, OnErr};
 ghost use Rattle.prima_io.specs.Causes.{Rose};
-ghost use Rattle.disk_model.specs.Meaning.{Meaning, IsValid, Tells, Told, Only};
+ghost use Rattle.disk_model.specs.Meaning.{Meaning, IsValid, IfKnown, BothKnown, Only};
 ghost use Rattle.disk_model.specs.DeviceCalls.{Reads, Writes, Syncs, with_bytes};
 
 use prima_base::Failed;
@@ -18,7 +18,7 @@ pub trait Disk {
 
     /// The length of the file, which is below `u64::MAX`.
     fn len(&mut self) -> Result<u64, Failed>
-        ensures len { IfOk result (λ n. Tells (meaning self.old).seen (λ file. n ≡ length file)) }
+        ensures len { IfOk result (λ n. IfKnown (meaning self.old).seen (λ file. n ≡ length file)) }
         ensures below { IfOk result (λ n. n < 2 ^ 64 - 1) }
         ensures reads { Reads (meaning self.old) (meaning self.new) }
         ensures cause { OnErr result (Rose (meaning self.old).faults (meaning self.new).faults) }
@@ -28,9 +28,9 @@ pub trait Disk {
     /// within the file; one that tells none counts a fault for a range that it cannot serve.
     fn read_at(&mut self, at: u64, buf: &mut [u8]) -> Result<(), Failed>
         requires ends { at + length buf.old < 2 ^ 64 - 1 }
-        requires within { Tells (meaning self.old).seen
+        requires within { IfKnown (meaning self.old).seen
             (λ file. at + length buf.old ≤ length file) }
-        ensures bytes { OnOk result (Tells (meaning self.old).seen
+        ensures bytes { OnOk result (IfKnown (meaning self.old).seen
             (λ file. buf.new ≡ take (length buf.old) (drop at file))) }
         ensures reads { Reads (meaning self.old) (meaning self.new) }
         ensures cause { OnErr result (Rose (meaning self.old).faults (meaning self.new).faults) }
@@ -41,8 +41,8 @@ pub trait Disk {
     /// crash may leave it.
     fn write_at(&mut self, at: u64, bytes: &[u8]) -> Result<(), Failed>
         requires ends { at + length bytes.now < 2 ^ 64 - 1 }
-        requires begins { Tells (meaning self.old).seen (λ file. at ≤ length file) }
-        ensures written { OnOk result (Told (λ old new. new ≡ with_bytes old at bytes.now)
+        requires begins { IfKnown (meaning self.old).seen (λ file. at ≤ length file) }
+        ensures written { OnOk result (BothKnown (λ old new. new ≡ with_bytes old at bytes.now)
             (meaning self.old).seen (meaning self.new).seen) }
         ensures writes { Writes at (length bytes.now) (meaning self.old) (meaning self.new) }
         ensures cause { OnErr result (Rose (meaning self.old).faults (meaning self.new).faults) }
@@ -52,7 +52,7 @@ pub trait Disk {
     /// all ranges written since the last sync that succeeded as a crash may leave them.
     fn sync(&mut self) -> Result<(), Failed>
         ensures durable { OnOk result (IsTrue (meaning self.old).is_honest
-            → Tells (meaning self.old).seen (λ file. Only file (meaning self.new).may_leave)) }
+            → IfKnown (meaning self.old).seen (λ file. Only file (meaning self.new).may_leave)) }
         ensures same { OnOk result ((meaning self.new).seen ≡ (meaning self.old).seen) }
         ensures syncs { Syncs (meaning self.old) (meaning self.new) }
         ensures cause { OnErr result (Rose (meaning self.old).faults (meaning self.new).faults) }

@@ -8,8 +8,8 @@ use history_store_row_order::{
     find_change, place_in, splice, splice_fresh,
 };
 use history_store_writes::{
-    ValueIndex, carry_out, count_cells, empty_columns, gain_each, index_of, lose_each,
-    reserve_rows, rows_room,
+    ValueIndex, apply, count_cells, empty_columns, gain_each, index_of, lose_each, reserve_rows,
+    rows_room,
 };
 use prima_base::{ColType, Name, NoMemory, Period, Row, Value, copy_columns};
 use prima_base_rows::GivenRow;
@@ -201,7 +201,7 @@ impl StoredTable {
 
     // The change that loses the rows of these ids and gains these rows, with the room that
     // installing it needs.
-    fn make_ready<'a>(
+    fn prepare_parts<'a>(
         &mut self,
         stamp: u64,
         lost: Vec<usize>,
@@ -259,7 +259,7 @@ impl StoredTable {
             gained,
             after,
         } = find_change(self.alloc, &self.logs, &self.live, self.keys.len(), rows)?;
-        let prepared = self.make_ready(stamp, lost, gained, after)?;
+        let prepared = self.prepare_parts(stamp, lost, gained, after)?;
         Ok(prepared)
     }
 
@@ -304,7 +304,7 @@ impl StoredTable {
             self.keys.len(),
             &gained,
         )?;
-        let prepared = self.make_ready(stamp, found, gained, after)?;
+        let prepared = self.prepare_parts(stamp, found, gained, after)?;
         Ok(prepared)
     }
 
@@ -343,7 +343,7 @@ impl StoredTable {
             rows,
         )?;
         let lost = Vec::new(self.alloc);
-        let prepared = self.make_ready(stamp, lost, gained, after)?;
+        let prepared = self.prepare_parts(stamp, lost, gained, after)?;
         Ok(prepared)
     }
 
@@ -386,7 +386,7 @@ impl StoredTable {
         let next = self.keys.len();
         let count = gained.len();
         lose_each(&mut self.others, &self.logs, self.live.len(), &lost, count);
-        carry_out(&mut self.keys, &mut self.logs, &lost, gained, stamp);
+        apply(&mut self.keys, &mut self.logs, &lost, gained, stamp);
         gain_each(&mut self.others, &self.logs, &lost, next, count);
         change_index(&mut self.live, after);
     }

@@ -30,7 +30,7 @@ use Rattle.history_store_value_order.proofs.Places.{not_true}
 use Rattle.history_store_row_order.proofs.Sides.{set_is}
 use Rattle.history_store_row_order.proofs.Coming.{from_only}
 use Rattle.history_store_row_order.proofs.RowsOf.{rows_of_in, in_rows_of}
-use Rattle.history_store_change_spec.proofs.CarriedOut.{rows_other, next_rows, handed_is}
+use Rattle.history_store_change_spec.proofs.Applied.{rows_other, next_rows, handed_is}
 use Rattle.history_store_change_spec.proofs.Showing.{along_is, current_relation}
 use Rattle.history_store_change_spec.proofs.Making.{all_wide, more_room}
 use Rattle.history_store_change_spec.proofs.Moments.{same_id}

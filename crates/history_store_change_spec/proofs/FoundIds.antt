@@ -23,7 +23,7 @@ use Rattle.history_store_value_order.specs.ByValue.{Distinct}
 use Rattle.history_store_row_order.proofs.Sides.{exact_rows, not_self}
 use Rattle.relations_spec.proofs.SetLaws.{before_in, in_has, has_in}
 use Rattle.history_store_row_order.proofs.RowsOf.{rows_of_in}
-use Rattle.history_store_change_spec.proofs.CarriedOut.{next_is, next_rows}
+use Rattle.history_store_change_spec.proofs.Applied.{next_is, next_rows}
 
 is_equal : (o : Ordering) → is_eq o ≡ true → o ≡ Equal
 is_equal Less e = cc

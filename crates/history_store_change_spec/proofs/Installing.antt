@@ -24,9 +24,9 @@ use Rattle.history_store_change_spec.specs.Change.{rows_after}
 use Rattle.history_store_change_spec.specs.Change.{rows_along, cells_after, write_rows, close_all}
 use Rattle.history_store_row_order.specs.Indexes.{IsPlaced, later_ids}
 use Rattle.history_store_change_spec.proofs.Puts.{row_width}
-use Rattle.history_store_change_spec.proofs.CarriedOut.{stored_after, before_after, open_after}
-use Rattle.history_store_change_spec.proofs.CarriedOut.{started_after}
-use Rattle.history_store_change_spec.proofs.CarriedOut.{unpaired_in, not_both, rows_all}
+use Rattle.history_store_change_spec.proofs.Applied.{stored_after, before_after, open_after}
+use Rattle.history_store_change_spec.proofs.Applied.{started_after}
+use Rattle.history_store_change_spec.proofs.Applied.{unpaired_in, not_both, rows_all}
 use Rattle.history_store_change_spec.proofs.Now.{at_now}
 use Rattle.history_store_row_order.proofs.RowsOf.{rows_of_in}
 use Rattle.history_store_change_spec.proofs.Histories.{below_rows}

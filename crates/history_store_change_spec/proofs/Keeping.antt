@@ -15,9 +15,9 @@ use Rattle.prima_base.specs.Columns.{Column}
 use Rattle.history_store_change_spec.specs.Kept.{store_of, IsKept}
 use Rattle.history_store_row_order.specs.Indexes.{later_ids}
 use Rattle.history_store_change_spec.specs.Change.{PreparedChange, IsPrepared}
-use Rattle.history_store_writes.specs.ValueIndexes.{Indexed, IsIndexed, IsIndexReady, IsGaining}
+use Rattle.history_store_writes.specs.ValueIndexes.{Indexed, IsIndexed, IsIndexPrepared, IsGaining}
 use Rattle.history_store_columns.proofs.Puts.{put_other}
-use Rattle.history_store_change_spec.proofs.CarriedOut.{handed_is, handed_distinct}
+use Rattle.history_store_change_spec.proofs.Applied.{handed_is, handed_distinct}
 use Rattle.history_store_row_order.proofs.Cells.{length-cells_of}
 use Rattle.history_store_change_spec.proofs.Rule.{length-unpaired}
 use Rattle.history_store_change_spec.proofs.Installing.{rows_width, ids_then}
@@ -102,7 +102,7 @@ module _ (keys : List Span) (width : ℕ) (live lost : List ℕ) (gained : List 
 
     pub ready_later : (columns : List Log) (n : ℕ)
         → cells_of columns ≡ logs_handed keys logs lost gained stamp → All (λ c. c.ids ≡ n) columns
-        → length keys ≤ n → IsIndexReady columns x
+        → length keys ≤ n → IsIndexPrepared columns x
     ready_later columns n e a l =
         let within : x.column < length columns =
         subst (λ m. x.column < m) (sym (rows_width (handed lost (length keys) gained) gained
@@ -153,7 +153,7 @@ module _ {indexed : List ℕ} (columns : List Column) (keys : List Span) (logs :
 
   pub all_ready : (then' : List Log) (n : ℕ) → cells_of then'
       ≡ logs_handed keys logs p.lost p.gained p.stamp → All (λ c. c.ids ≡ n) then' → length keys ≤ n
-      → (xs : List Indexed) → All (IsIndexed logs live p.lost) xs → All (IsIndexReady then') xs
+      → (xs : List Indexed) → All (IsIndexed logs live p.lost) xs → All (IsIndexPrepared then') xs
   all_ready then' n e a l xs i j d h = ready_later keys (length columns) live p.lost p.gained
       (later_ids p.after live) hands k.stored.are_open k.stored.are_live logs p.stamp
       (get_or xs j d) (i j d h) then' n e a l

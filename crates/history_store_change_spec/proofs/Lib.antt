@@ -14,7 +14,7 @@ pub mod Entering
 pub mod Histories
 pub mod Now
 pub mod Puts
-pub mod CarriedOut
+pub mod Applied
 pub mod FoundIds
 pub mod Preparing
 pub mod Rule

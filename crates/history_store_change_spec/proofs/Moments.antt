@@ -24,12 +24,12 @@ use Rattle.history_store_row_order.specs.Handing.{handed}
 use Rattle.relations_spec.proofs.SetLaws.{before_in}
 use Rattle.history_store_change_spec.proofs.Now.{row_is_now}
 use Rattle.history_store_row_order.proofs.RowsOf.{rows_of_in}
-use Rattle.history_store_change_spec.proofs.CarriedOut.{rows_before, in_or_not, length-end_keys}
-use Rattle.history_store_change_spec.proofs.CarriedOut.{length-new_keys}
-use Rattle.history_store_change_spec.proofs.CarriedOut.{new_key, ended_start, ended_other}
-use Rattle.history_store_change_spec.proofs.CarriedOut.{ended_same}
-use Rattle.history_store_change_spec.proofs.CarriedOut.{holds_ended}
-use Rattle.history_store_change_spec.proofs.CarriedOut.{unpaired_in}
+use Rattle.history_store_change_spec.proofs.Applied.{rows_before, in_or_not, length-end_keys}
+use Rattle.history_store_change_spec.proofs.Applied.{length-new_keys}
+use Rattle.history_store_change_spec.proofs.Applied.{new_key, ended_start, ended_other}
+use Rattle.history_store_change_spec.proofs.Applied.{ended_same}
+use Rattle.history_store_change_spec.proofs.Applied.{holds_ended}
+use Rattle.history_store_change_spec.proofs.Applied.{unpaired_in}
 
 -- an id by its row
 pub same_id : (columns : List (List Write)) (ids : List ℕ) (p q : ℕ)

@@ -13,7 +13,7 @@ use Rattle.relations_spec.specs.Sets.{has}
 use Rattle.history_store_row_order.specs.Rows.{row_now, rows_of}
 use Rattle.history_store_row_order.specs.Handing.{only_in, lost_ids, gained_by, gained_rows, found}
 use Rattle.history_store_writes.specs.Writing.{unpaired, keys_handed, new_keys}
-use Rattle.history_store_change_spec.proofs.CarriedOut.{length-end_keys, length-new_keys}
+use Rattle.history_store_change_spec.proofs.Applied.{length-end_keys, length-new_keys}
 
 pub lost_rule : (columns : List (List Write)) (rows : List (List Value)) (ids : List ℕ)
     → rows_of (lost_ids columns ids rows) columns ≡ only_in (rows_of ids columns) rows

@@ -20,7 +20,7 @@ use Rattle.history_store_change_spec.specs.Handing.{IsHandOver, Pairs}
 use Rattle.history_store_row_order.specs.Indexes.{later_ids}
 use Rattle.history_store_change_spec.specs.Change.{PreparedChange, IsPrepared}
 use Rattle.history_store_change_spec.specs.Restoring.{store_with, AreCellsOf, AreEntriesOf}
-use Rattle.history_store_change_spec.proofs.CarriedOut.{rows_same, pairs_in}
+use Rattle.history_store_change_spec.proofs.Applied.{rows_same, pairs_in}
 use Rattle.history_store_change_spec.proofs.Installing.{prepared_kept, ids_then}
 use Rattle.history_store_change_spec.proofs.Keeping.{all_apart}
 

@@ -12,7 +12,7 @@ use Rattle.history_store_columns.specs.Log.{Log, Write}
 use Rattle.history_store_row_order.specs.Logs.{cells_of, few_of}
 use Rattle.history_store_writes.specs.ValueIndexes.{Indexed, indexed_columns, is_indexed}
 use Rattle.history_store_writes.specs.ValueIndexes.{indexed_after}
-use Rattle.history_store_writes.specs.ValueIndexes.{least_room, IsIndexed, IsIndexReady}
+use Rattle.history_store_writes.specs.ValueIndexes.{least_room, IsIndexed, IsIndexPrepared}
 use Rattle.history_store_value_order.specs.ByValue.{by_value, IsWithout}
 use Rattle.history_store_row_order.proofs.Cells.{length-cells_of}
 use Rattle.history_store_value_order.proofs.Places.{not_true}
@@ -144,7 +144,7 @@ same_others logs logs' live live' xs ys e f n s a k d h =
 
 pub one_ready : (columns : List Log) (n : ℕ) (live lost : List ℕ) (x : Indexed)
     → ((q : ℕ) → In q live → q < n) → All (λ c. c.ids ≡ n) columns
-    → IsIndexed (cells_of columns) live lost x → IsIndexReady columns x
+    → IsIndexed (cells_of columns) live lost x → IsIndexPrepared columns x
 one_ready columns n live lost x b a i = record {
   within = subst (λ m. x.column < m) (length-cells_of columns) i.within;
   known = λ q d j. subst (λ m. q < m) (sym (a x.column d
@@ -154,7 +154,7 @@ one_ready columns n live lost x b a i = record {
 
 pub ready_each : (columns : List Log) (n : ℕ) (live lost : List ℕ) (xs : List Indexed)
     → ((q : ℕ) → In q live → q < n) → All (λ c. c.ids ≡ n) columns
-    → All (IsIndexed (cells_of columns) live lost) xs → All (IsIndexReady columns) xs
+    → All (IsIndexed (cells_of columns) live lost) xs → All (IsIndexPrepared columns) xs
 ready_each columns n live lost xs b a i k d h =
     one_ready columns n live lost (get_or xs k d) b a (i k d h)
 

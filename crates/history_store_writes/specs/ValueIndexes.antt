@@ -40,7 +40,7 @@ pub record IsIndexed (logs : List (List Write)) (live lost : List ℕ) (x : Inde
   pub all : (q : ℕ) → In q live → (In q lost → ⊥) → In q x.ids
 
 -- the ids that the index has are known to its column, and stand in the order of the column's values
-pub record IsIndexReady (columns : List Log) (x : Indexed) : Type 0 where
+pub record IsIndexPrepared (columns : List Log) (x : Indexed) : Type 0 where
   pub within : x.column < length columns
   pub known : (q : ℕ) (d : Log) → In q x.ids → q < (slice_index_or columns x.column d).ids
   pub rises : Ascends (by_value (slice_index_or (cells_of columns) x.column [])) x.ids

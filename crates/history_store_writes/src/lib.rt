@@ -11,5 +11,5 @@ mod row_change;
 mod value_index;
 
 pub use other_index::{gain_each, index_of, lose_each};
-pub use row_change::{carry_out, count_cells, empty_columns, reserve_rows, rows_room};
+pub use row_change::{apply, count_cells, empty_columns, reserve_rows, rows_room};
 pub use value_index::ValueIndex;

@@ -8,7 +8,7 @@ ghost use Rattle.history_store_row_order.specs.Logs.{cells_of, few_of};
 ghost use Rattle.history_store_value_order.specs.ByValue.{Distinct, ids_handed};
 ghost use Rattle.history_store_writes.specs.ValueIndexes.{Indexed, indexed_columns, is_indexed};
 ghost use Rattle.history_store_writes.specs.ValueIndexes.{indexed_after};
-ghost use Rattle.history_store_writes.specs.ValueIndexes.{least_room, IsIndexed, IsIndexReady};
+ghost use Rattle.history_store_writes.specs.ValueIndexes.{least_room, IsIndexed, IsIndexPrepared};
 ghost use Rattle.history_store_writes.specs.ValueIndexes.{IsLosing};
 ghost use Rattle.history_store_writes.specs.ValueIndexes.{IsGaining};
 
@@ -51,7 +51,7 @@ pub fn reserve_each(others: &mut Vec<ValueIndex>, more: usize) -> Result<(), NoM
 
 // Takes the ids of lost rows out of each.
 fn lose_all(others: &mut Vec<ValueIndex>, columns: &[Column], lost: &[usize])
-    requires ready { All (IsIndexReady columns.now) others.old.items }
+    requires ready { All (IsIndexPrepared columns.now) others.old.items }
     requires there { All (λ x. (q : ℕ) → In q lost.now → In q x.ids) others.old.items }
     requires distinct { Distinct lost.now }
     ensures len { vec_len others.new ≡ vec_len others.old }
@@ -74,7 +74,7 @@ pub fn lose_each(
     lost: &[usize],
     gained: usize,
 )
-    requires ready { All (IsIndexReady columns.now) others.old.items }
+    requires ready { All (IsIndexPrepared columns.now) others.old.items }
     requires there { All (λ x. (q : ℕ) → In q lost.now → In q x.ids) others.old.items }
     requires distinct { Distinct lost.now }
     requires room { gained ≤ few_of rows → All (λ x. gained ≤ x.room) others.old.items }
@@ -101,7 +101,7 @@ pub fn gain_each(
     count: usize,
 )
     requires few { next + count < 2 ^ 64 }
-    requires ready { All (IsIndexReady columns.now) others.old.items }
+    requires ready { All (IsIndexPrepared columns.now) others.old.items }
     requires new { (q : ℕ) (k : ℕ) (d : Log) → In q (ids_handed lost.now next count)
         → k < length columns.now → q < (slice_index_or columns.now k d).ids }
     requires fresh { All (λ x. (q : ℕ) → In q (ids_handed lost.now next count) → In q x.ids → ⊥)

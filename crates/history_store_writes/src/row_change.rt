@@ -104,7 +104,7 @@ fn hand_rows(
 
 /// Writes the gained rows, and ends the keys of the lost rows that have no partner. It takes no
 /// memory.
-pub fn carry_out(
+pub fn apply(
     keys: &mut Vec<Period>,
     columns: &mut Vec<Column>,
     lost: &[usize],

@@ -32,7 +32,7 @@ impl ValueIndex {
     ghost use Rattle.history_store_row_order.specs.Logs.{cells_of, few_of};
     ghost use Rattle.history_store_row_order.specs.Rows.{row_now, rows_of};
     ghost use Rattle.history_store_value_order.specs.ByValue.{Distinct, ids_handed, ids_with};
-    ghost use Rattle.history_store_writes.specs.ValueIndexes.{IsIndexed, IsIndexReady, IsLosing};
+    ghost use Rattle.history_store_writes.specs.ValueIndexes.{IsIndexed, IsIndexPrepared, IsLosing};
     ghost use Rattle.history_store_writes.specs.ValueIndexes.{IsGaining};
 
     /// The index of the column at this place, with room for all ids that are put in by one change
@@ -76,7 +76,7 @@ impl ValueIndex {
 
     /// Takes the ids of lost rows out. It takes no memory.
     pub fn lose(&mut self, columns: &[Column], lost: &[usize])
-        requires ready { IsIndexReady columns.now self.old }
+        requires ready { IsIndexPrepared columns.now self.old }
         requires there { (q : ℕ) → In q lost.now → In q self.old.ids }
         requires distinct { Distinct lost.now }
         ensures { IsLosing columns.now lost.now self.old self.new }
@@ -87,7 +87,7 @@ impl ValueIndex {
     /// Puts the ids of so many gained rows in. It takes no memory.
     pub fn gain(&mut self, columns: &[Column], lost: &[usize], next: usize, count: usize)
         requires few { next + count < 2 ^ 64 }
-        requires ready { IsIndexReady columns.now self.old }
+        requires ready { IsIndexPrepared columns.now self.old }
         requires new { (q : ℕ) (d : Log) → In q (ids_handed lost.now next count)
             → q < (slice_index_or columns.now self.old.column d).ids }
         requires fresh { (q : ℕ) → In q (ids_handed lost.now next count) → In q self.old.ids → ⊥ }
@@ -101,7 +101,7 @@ impl ValueIndex {
     /// The rows that have this value in the column, borrowed, in the order of their ids. They are
     /// found by binary search. It takes no memory.
     pub fn rows_with<'a>(&'a self, columns: &'a [Column], value: &Value) -> BorrowedRows<'a>
-        requires ready { IsIndexReady columns.now self.now }
+        requires ready { IsIndexPrepared columns.now self.now }
         requires known { (q : ℕ) → In q self.now.ids → (k : ℕ) (d : Log) → k < length columns.now
             → q < (slice_index_or columns.now k d).ids }
         requires whole { (q : ℕ) → In q self.now.ids

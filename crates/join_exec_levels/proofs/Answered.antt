@@ -8,7 +8,7 @@ use Rattle.prima_base.specs.Order.{row_cmp}
 use Rattle.cond_expr.specs.declared.expr.Column.{Column}
 use Rattle.cond_expr.specs.Trees.{Tree, Test}
 use Rattle.join_exec_levels.specs.declared.source.Source.{Source}
-use Rattle.join_exec_spec.specs.Choosing.{completed}
+use Rattle.join_exec_spec.specs.Choosing.{complete_choices}
 use Rattle.join_exec_spec.specs.Keeping.{meets, meets_all}
 use Rattle.cond_expr.specs.Parts.{parts}
 use Rattle.join_exec_spec.specs.Answering.{one_row, outputs}
@@ -33,12 +33,12 @@ same_met cs c ps gathered xs ys h = by_parts cs c ps gathered xs ∙ h
 pub all_answered : (cs : List Column) (outs : List Tree) (c : Test) (ps : List Test) → ps ≡ parts c
     → (sources : List Source) (m : ℕ) (xs : List (List Value))
     → filter (meets_all cs ps) xs ≡ filter (meets_all cs ps)
-    (completed ([] ∷ []) (held_of sources m))
+    (complete_choices ([] ∷ []) (held_of sources m))
     → set_of row_cmp (map (outputs cs outs) (filter (meets cs c) xs))
     ≡ set_of row_cmp (map (outputs cs outs)
     (filter (meets cs c) (map one_row (choices (relations_of sources m)))))
 all_answered cs outs c ps gathered sources m xs h =
     ap (λ (ys : List (List Value)). set_of row_cmp (map (outputs cs outs) ys))
-    (same_met cs c ps gathered xs (completed ([] ∷ []) (held_of sources m)) h
+    (same_met cs c ps gathered xs (complete_choices ([] ∷ []) (held_of sources m)) h
     ∙ ap (filter (meets cs c)) (all_choices (held_of sources m)))
     ∙ of_relations sources m (meets cs c) (outputs cs outs)

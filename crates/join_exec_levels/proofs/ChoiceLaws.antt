@@ -14,7 +14,7 @@ use Rattle.prima_base.specs.Order.{row_cmp}
 use Rattle.prima_base.specs.OrderLaws.{row_exact}
 use Rattle.prima_base.specs.Timed.{rows_at}
 use Rattle.join_exec_levels.specs.declared.source.Source.{Source}
-use Rattle.join_exec_spec.specs.Choosing.{with_each, extended, completed}
+use Rattle.join_exec_spec.specs.Choosing.{with_each, extend_choices, complete_choices}
 use Rattle.join_exec_spec.specs.Answering.{one_row}
 use Rattle.join_exec_levels.specs.Sources.{held, held_of, relations_of}
 
@@ -65,10 +65,10 @@ module _ {V : Type 0} where
       ∙ ap (λ (l : List (List V)). (p ++ []) ∷ l) (nothing_after ps)
 
   completed_is : (ps : List (List V)) (rest : List (List (List V)))
-      → completed ps rest ≡ flat_map (after rest) ps
+      → complete_choices ps rest ≡ flat_map (after rest) ps
   completed_is ps [] = nothing_after ps
   completed_is ps (ys ∷ rest) =
-      completed_is (extended ps ys) rest
+      completed_is (extend_choices ps ys) rest
       ∙ flat_flat (after rest) (λ (p : List V). with_each p ys) ps
       ∙ flat_like (λ (p : List V). flat_map (after rest) (with_each p ys)) (after (ys ∷ rest)) ps
       (λ p. flat_of_map (after rest) (λ (y : List V). p ++ y) ys
@@ -79,7 +79,7 @@ module _ {V : Type 0} where
       (λ (y : List V). map (λ (c : List (List V)). y ∷ c) (choices rest)) ys))
 
   pub all_choices : (rest : List (List (List V)))
-      → completed ([] ∷ []) rest ≡ map one_row (choices rest)
+      → complete_choices ([] ∷ []) rest ≡ map one_row (choices rest)
   all_choices rest = completed_is ([] ∷ []) rest ∙ append-nil (map one_row (choices rest))
 
 -- lists with the same members have the same choices

@@ -134,7 +134,7 @@ fn put_choice_answers<'a>(
 
 // Coalesces the rows, where they are as many as the limit, and packs them. Answered is at how many
 // they are coalesced next.
-fn settled(alloc: Global, rows: &mut TimedRows<'_>, slice: Period, limit: usize) -> usize
+fn settled_count(alloc: Global, rows: &mut TimedRows<'_>, slice: Period, limit: usize) -> usize
     ensures borrowed { (which : BorrowedValues) → (outs : List Tree)
         → AllStayBorrowed which outs rows.old.items
         → AllStayBorrowed which outs rows.new.items }
@@ -183,6 +183,6 @@ pub(crate) fn answer_made<'a>(
         columns,
         choices,
     )?;
-    answered.limit = settled(alloc, &mut answered.rows, slice, answered.limit);
+    answered.limit = settled_count(alloc, &mut answered.rows, slice, answered.limit);
     Ok(())
 }

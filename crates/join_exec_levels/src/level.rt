@@ -12,7 +12,7 @@ ghost use Rattle.prima_base.specs.Order.{row_cmp};
 ghost use Rattle.prima_base.specs.Timed.{entries_of, rows_at};
 ghost use Rattle.cond_expr.specs.Seen.{tree, test};
 ghost use Rattle.join_exec_spec.specs.Answering.{answers};
-ghost use Rattle.join_exec_spec.specs.Choosing.{completed};
+ghost use Rattle.join_exec_spec.specs.Choosing.{complete_choices};
 ghost use Rattle.join_exec_spec.specs.Fitting.{Fit};
 ghost use Rattle.join_exec_spec.specs.Keeping.{meets_all, borrowed_tests, AllValid};
 ghost use Rattle.cond_expr.specs.declared.expr.Column.{Column as OneColumn};
@@ -61,9 +61,9 @@ fn level_of<'a, 'c>(
     ensures joined { (ps : List (Entry (List OneValue))) → Fit taken ps → (m : ℕ)
         → (rest : List (List (List OneValue))) → IfOk result (λ level.
         filter (meets_all columns.now (borrowed_tests parts.now))
-        (completed (held_at (made_on columns.now level ps) m) rest)
+        (complete_choices (held_at (made_on columns.now level ps) m) rest)
         ≡ filter (meets_all columns.now (borrowed_tests parts.now))
-        (completed (held_at ps m) (held source.entry m ∷ rest))) }
+        (complete_choices (held_at ps m) (held source.entry m ∷ rest))) }
 {
     let Source { width, rows } = source;
     let tests = tests_of(alloc, columns, parts, taken, width)?;
@@ -90,7 +90,7 @@ pub(crate) fn levels_of<'a, 'c>(
         filter (meets_all columns.now (borrowed_tests parts.now))
         (held_at (made_through columns.now levels.items ps) m)
         ≡ filter (meets_all columns.now (borrowed_tests parts.now))
-        (completed (held_at ps m) (held_of sources.entry.items m))) }
+        (complete_choices (held_at ps m) (held_of sources.entry.items m))) }
 {
     let mut taken = 0;
     let mut levels = Vec::new(alloc);

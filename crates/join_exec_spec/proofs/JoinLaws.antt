@@ -14,7 +14,8 @@ use Rattle.prima_base.specs.Order.{row_cmp}
 use Rattle.prima_base.specs.OrderLaws.{row_exact}
 use Rattle.cond_expr.specs.declared.expr.Column.{Column}
 use Rattle.cond_expr.specs.Trees.{Tree, Test}
-use Rattle.join_exec_spec.specs.Choosing.{extended_where, completed, Wide, IsSound, in_period, pair}
+use Rattle.join_exec_spec.specs.Choosing.{extended_where, complete_choices, Wide, IsSound}
+use Rattle.join_exec_spec.specs.Choosing.{in_period, pair}
 use Rattle.join_exec_spec.specs.Choosing.{paired, pairs}
 use Rattle.join_exec_spec.specs.Keeping.{values_at, meets, meets_all, passing, kept, IsValidRow}
 use Rattle.join_exec_spec.specs.Keeping.{AllValid}
@@ -109,10 +110,11 @@ module _ (cs : List Column) (own other : List ℕ) (tests : List Test) (n w : �
       (due : (p y z : List Value) → length p ≡ n → length y ≡ w
       → meets_all cs parts ((p ++ y) ++ z) ≡ true → meets_all cs tests (p ++ y) ≡ true) where
     pub one_joined : (m : ℕ) (rest : List (List (List Value)))
-        → filter (meets_all cs parts) (completed (held_at es m) rest)
-        ≡ filter (meets_all cs parts) (completed (held_at ps m) (held_at ys m ∷ rest))
+        → filter (meets_all cs parts) (complete_choices (held_at es m) rest)
+        ≡ filter (meets_all cs parts) (complete_choices (held_at ps m) (held_at ys m ∷ rest))
     one_joined m rest =
-        ap (λ (l : List (List Value)). filter (meets_all cs parts) (completed l rest)) (at_moment m)
+        ap (λ (l : List (List Value)). filter (meets_all cs parts) (complete_choices l rest))
+        (at_moment m)
         ∙ pruned (meets_all cs parts) n w (kept cs own other tests)
         (sound_plan cs parts own other tests n w keys due) (held_at ps m) (held_at ys m) rest
         (held_wide n ps m fp) (held_wide w ys m fy)

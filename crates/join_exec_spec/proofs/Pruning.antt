@@ -6,22 +6,23 @@ use Rattle.std.proofs.lemmas.List.{append-nil}
 use Rattle.std.proofs.lemmas.List.Elements.{filter-append}
 use Rattle.std.proofs.lemmas.List.Concat.{flat_map-append}
 use Rattle.relations_spec.specs.Sets.{In}
-use Rattle.join_exec_spec.specs.Choosing.{with_each, extended, extended_where, completed, Hopeless}
+use Rattle.join_exec_spec.specs.Choosing.{with_each, extend_choices, extended_where}
+use Rattle.join_exec_spec.specs.Choosing.{complete_choices, Hopeless}
 use Rattle.join_exec_spec.specs.Choosing.{Wide, IsSound}
 
 module _ {V : Type 0} (met : List V → Bool) where
   completed_append : (ps qs : List (List V)) (rest : List (List (List V)))
-      → completed (ps ++ qs) rest ≡ completed ps rest ++ completed qs rest
+      → complete_choices (ps ++ qs) rest ≡ complete_choices ps rest ++ complete_choices qs rest
   completed_append ps qs [] = refl
-  completed_append ps qs (ys ∷ rest) = ap (λ (l : List (List V)). completed l rest)
+  completed_append ps qs (ys ∷ rest) = ap (λ (l : List (List V)). complete_choices l rest)
       (flat_map-append (λ (p : List V). with_each p ys) ps qs)
-      ∙ completed_append (extended ps ys) (extended qs ys) rest
+      ∙ completed_append (extend_choices ps ys) (extend_choices qs ys) rest
 
   passing_append : (ps qs : List (List V)) (rest : List (List (List V)))
-      → filter met (completed (ps ++ qs) rest) ≡ filter met (completed ps rest)
-      ++ filter met (completed qs rest)
+      → filter met (complete_choices (ps ++ qs) rest) ≡ filter met (complete_choices ps rest)
+      ++ filter met (complete_choices qs rest)
   passing_append ps qs rest = ap (filter met) (completed_append ps qs rest)
-      ∙ filter-append met (completed ps rest) (completed qs rest)
+      ∙ filter-append met (complete_choices ps rest) (complete_choices qs rest)
 
   abbrev AllHopeless : List (List V) → Type 0
   AllHopeless ps = (p : List V) → In p ps → Hopeless met p
@@ -45,34 +46,35 @@ module _ {V : Type 0} (met : List V → Bool) where
   in_either q (x ∷ xs) ys f g (inl e) = f q (inl e)
   in_either q (x ∷ xs) ys f g (inr n) = in_either q xs ys (λ r k. f r (inr k)) g n
 
-  still_hopeless : (ps ys : List (List V)) → AllHopeless ps → AllHopeless (extended ps ys)
+  still_hopeless : (ps ys : List (List V)) → AllHopeless ps → AllHopeless (extend_choices ps ys)
   still_hopeless [] ys h = λ q k. absurd k
-  still_hopeless (p ∷ ps) ys h = λ q k. in_either q (with_each p ys) (extended ps ys)
+  still_hopeless (p ∷ ps) ys h = λ q k. in_either q (with_each p ys) (extend_choices ps ys)
       (each_hopeless p ys (h p (inl refl))) (still_hopeless ps ys (λ r n. h r (inr n))) k
 
   none_complete : (ps : List (List V)) (rest : List (List (List V))) → AllHopeless ps
-      → filter met (completed ps rest) ≡ []
+      → filter met (complete_choices ps rest) ≡ []
   none_complete ps [] h = none_pass ps h
-  none_complete ps (ys ∷ rest) h = none_complete (extended ps ys) rest (still_hopeless ps ys h)
+  none_complete ps (ys ∷ rest) h = none_complete (extend_choices ps ys) rest
+      (still_hopeless ps ys h)
 
   module _ (n w : ℕ) (keep : List V → List V → Bool) (sound : IsSound met n w keep) where
     pruned_row : (p : List V) (ys : List (List V)) (rest : List (List (List V))) → length p ≡ n
-        → Wide w ys → filter met (completed (with_each p (filter (keep p) ys)) rest)
-        ≡ filter met (completed (with_each p ys) rest)
+        → Wide w ys → filter met (complete_choices (with_each p (filter (keep p) ys)) rest)
+        ≡ filter met (complete_choices (with_each p ys) rest)
     pruned_row p [] rest lp wide = refl
     pruned_row p (y ∷ ys) rest lp wide = step (pruned_row p ys rest lp (λ x k. wide x (inr k)))
         (keep p y) refl
       where
-        step : filter met (completed (with_each p (filter (keep p) ys)) rest)
-            ≡ filter met (completed (with_each p ys) rest) → (b : Bool) → keep p y ≡ b
-            → filter met (completed (with_each p
+        step : filter met (complete_choices (with_each p (filter (keep p) ys)) rest)
+            ≡ filter met (complete_choices (with_each p ys) rest) → (b : Bool) → keep p y ≡ b
+            → filter met (complete_choices (with_each p
             (cond b (y ∷ filter (keep p) ys) (filter (keep p) ys))) rest)
-            ≡ filter met (completed ((p ++ y) ∷ with_each p ys) rest)
+            ≡ filter met (complete_choices ((p ++ y) ∷ with_each p ys) rest)
         step h true e = passing_append ((p ++ y) ∷ []) (with_each p (filter (keep p) ys)) rest
-            ∙ ap (λ (l : List (List V)). filter met (completed ((p ++ y) ∷ []) rest) ++ l) h
+            ∙ ap (λ (l : List (List V)). filter met (complete_choices ((p ++ y) ∷ []) rest) ++ l) h
             ∙ sym (passing_append ((p ++ y) ∷ []) (with_each p ys) rest)
         step h false e = h ∙ ap (λ (l : List (List V)).
-            l ++ filter met (completed (with_each p ys) rest))
+            l ++ filter met (complete_choices (with_each p ys) rest))
             (sym (none_complete ((p ++ y) ∷ []) rest (λ q k. elim k [
               | inl i ↦ λ c. ap (λ (r : List V). met (r ++ c)) (sym i)
                   ∙ sound p y lp (wide y (inl refl)) e c
@@ -80,13 +82,14 @@ module _ {V : Type 0} (met : List V → Bool) where
             ]))) ∙ sym (passing_append ((p ++ y) ∷ []) (with_each p ys) rest)
 
     pub pruned : (ps ys : List (List V)) (rest : List (List (List V))) → Wide n ps → Wide w ys
-        → filter met (completed (extended_where keep ps ys) rest)
-        ≡ filter met (completed (extended ps ys) rest)
+        → filter met (complete_choices (extended_where keep ps ys) rest)
+        ≡ filter met (complete_choices (extend_choices ps ys) rest)
     pruned [] ys rest wp wy = refl
     pruned (p ∷ ps) ys rest wp wy =
         passing_append (with_each p (filter (keep p) ys)) (extended_where keep ps ys) rest
-        ∙ ap (λ (l : List (List V)). l ++ filter met (completed (extended_where keep ps ys) rest))
+        ∙ ap (λ (l : List (List V)). l ++ filter met
+        (complete_choices (extended_where keep ps ys) rest))
         (pruned_row p ys rest (wp p (inl refl)) wy)
-        ∙ ap (λ (l : List (List V)). filter met (completed (with_each p ys) rest) ++ l)
+        ∙ ap (λ (l : List (List V)). filter met (complete_choices (with_each p ys) rest) ++ l)
         (pruned ps ys rest (λ x k. wp x (inr k)) wy)
-        ∙ sym (passing_append (with_each p ys) (extended ps ys) rest)
+        ∙ sym (passing_append (with_each p ys) (extend_choices ps ys) rest)

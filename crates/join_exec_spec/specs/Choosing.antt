@@ -12,17 +12,17 @@ abbrev pub with_each : {V : Type 0} → List V → List (List V) → List (List 
 with_each {V} p ys = map (λ (y : List V). p ++ y) ys
 
 -- each choice with each of the rows after, and with those alone that are kept beside it
-abbrev pub extended : {V : Type 0} → List (List V) → List (List V) → List (List V)
-extended {V} ps ys = flat_map (λ (p : List V). with_each p ys) ps
+abbrev pub extend_choices : {V : Type 0} → List (List V) → List (List V) → List (List V)
+extend_choices {V} ps ys = flat_map (λ (p : List V). with_each p ys) ps
 
 abbrev pub extended_where : {V : Type 0} → (List V → List V → Bool) → List (List V) → List (List V)
     → List (List V)
 extended_where {V} keep ps ys = flat_map (λ (p : List V). with_each p (filter (keep p) ys)) ps
 
 -- the choices with a row of each further list after
-abbrev pub completed : {V : Type 0} → List (List V) → List (List (List V)) → List (List V)
-completed ps [] = ps
-completed ps (ys ∷ rest) = completed (extended ps ys) rest
+abbrev pub complete_choices : {V : Type 0} → List (List V) → List (List (List V)) → List (List V)
+complete_choices ps [] = ps
+complete_choices ps (ys ∷ rest) = complete_choices (extend_choices ps ys) rest
 
 -- no choice that begins with these rows passes
 abbrev pub Hopeless : {V : Type 0} → (List V → Bool) → List V → Type 0

@@ -5,7 +5,8 @@ ghost use Rattle.prima_base.specs.declared.value.Value.{Value};
 ghost use Rattle.cond_expr.specs.Trees.{Tree, Test};
 ghost use Rattle.cond_expr.specs.Parts.{parts};
 ghost use Rattle.join_exec_spec.specs.Blocks.{Block, answered, IsBlock, IsPruned, Apart, AreBlocks};
-ghost use Rattle.join_exec_spec.specs.Choosing.{pairs, extended, extended_where, completed, Wide};
+ghost use Rattle.join_exec_spec.specs.Choosing.{pairs, extend_choices, extended_where};
+ghost use Rattle.join_exec_spec.specs.Choosing.{complete_choices, Wide};
 ghost use Rattle.join_exec_spec.specs.Choosing.{IsSound};
 
 /// Pairs hold at a moment the choices that hold then, each with the rows after that hold then and
@@ -24,8 +25,8 @@ pub fn what_is_hopeless_is_left_out()
         → (keep : List Value → List Value → Bool) → IsSound met n w keep
         → (choices : List (List Value)) → (rows : List (List Value))
         → (rest : List (List (List Value))) → Wide n choices → Wide w rows
-        → filter met (completed (extended_where keep choices rows) rest)
-        ≡ filter met (completed (extended choices rows) rest) }
+        → filter met (complete_choices (extended_where keep choices rows) rest)
+        ≡ filter met (complete_choices (extend_choices choices rows) rest) }
 {}
 
 /// Of what is answered nothing is lost where an atom is left without the rows that lead to nothing

@@ -1,10 +1,10 @@
 pub mod Bytes
 pub mod Putting
-pub mod Spelled
+pub mod RecordBytes
 pub mod Walked
 pub mod Moments
 pub mod Emptied
 pub mod Examples
-pub mod Whole
+pub mod FileCases
 pub mod PutEach
 pub mod MountAndPut

@@ -1,7 +1,7 @@
 -- What a crash leaves of the two parts of a mount.
 use Rattle.std.proofs.Common.{◌≡◌, inl, inr, ℕ, ◌≤◌, List, ◌∙◌, subst, IsTrue, length}
 use Rattle.std.specs.Prelude.{Some}
-use Rattle.disk_model.specs.Meaning.{Meaning, Only, Tells}
+use Rattle.disk_model.specs.Meaning.{Meaning, Only, IfKnown}
 use Rattle.disk_model.specs.Moments.{GoesOn, Leaves, Turns}
 use Rattle.disk_model.specs.DeviceCalls.{Reads, Syncs}
 use Rattle.disk_model.specs.MomentLaws.{still_honest, then_leaves, reads_only, reads_leaves}
@@ -25,12 +25,12 @@ short_leaves old mid new file honest seen only short reads goes nine =
 -- the first sync has succeeded, and what comes after it keeps to the file
 module _ (old mid new : Meaning) (file : List ℕ) (honest : IsTrue old.is_honest)
     (seen : old.seen ≡ Some file) (syncs : Syncs old mid) (same : mid.seen ≡ old.seen)
-    (durable : IsTrue old.is_honest → Tells old.seen (λ f. Only f mid.may_leave)) where
+    (durable : IsTrue old.is_honest → IfKnown old.seen (λ f. Only f mid.may_leave)) where
   pub mount_turns : GoesOn mid new
       → (IsTrue mid.is_honest → mid.seen ≡ Some file → Only file mid.may_leave
       → Leaves mid new (SameOrNine file))
       → Turns old new (SameOrNine file)
   mount_turns goes leaves =
-      let only = subst (λ o. Tells o (λ f. Only f mid.may_leave)) seen (durable honest) in
+      let only = subst (λ o. IfKnown o (λ f. Only f mid.may_leave)) seen (durable honest) in
       synced_turns old mid new (SameOrNine file) honest syncs goes
       (leaves (still_honest old mid syncs.goes honest) (same ∙ seen) only)

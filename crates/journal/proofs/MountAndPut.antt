@@ -2,7 +2,7 @@
 use Rattle.std.proofs.Common.{◌≡◌, ◌⊎◌, inl, inr, ℕ, IsTrue, List, length, sym}
 use Rattle.std.proofs.Common.{◌∙◌, ap, subst}
 use Rattle.std.specs.Prelude.{Some, Result, Err}
-use Rattle.disk_model.specs.Meaning.{Meaning, Tells}
+use Rattle.disk_model.specs.Meaning.{Meaning, IfKnown}
 use Rattle.disk_model.specs.Moments.{GoesOn, Leaves}
 use Rattle.disk_model.specs.MomentLaws.{still_honest, turns_weaker}
 use Rattle.journal.specs.MountLaws.{opened_records, mount_then, none_yet}
@@ -33,7 +33,7 @@ refused old new limit rs X (inr keeps) file opening honest seen stands_for =
 
 -- it was mounted
 module _ (old start new : Meaning) (limit at : ℕ) (recs : List Rec) (rs : List Record)
-    (opened : Tells old.seen (λ file. IsOpened file recs at))
+    (opened : IfKnown old.seen (λ file. IsOpened file recs at))
     (stands : (file : List ℕ) → IsTrue old.is_honest → old.seen ≡ Some file
     → Stands start at (records_in recs))
     (one : GoesOn old start) (keeps : KeepsFile old start) (two : GoesOn start new) where
@@ -41,7 +41,7 @@ module _ (old start new : Meaning) (limit at : ℕ) (recs : List Rec) (rs : List
       (stands_for : StandsFor file opening) where
     opening_is : opening ≡ records_in recs
     opening_is = opened_records file opening recs at stands_for
-        (subst (λ o. Tells o (λ f. IsOpened f recs at)) seen opened)
+        (subst (λ o. IfKnown o (λ f. IsOpened f recs at)) seen opened)
 
     module _ (honest : IsTrue old.is_honest) where
       stands_now : Stands start at opening

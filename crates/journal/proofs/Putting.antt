@@ -4,7 +4,7 @@ use Rattle.std.proofs.Common.{◌++◌, length, get_or, drop, refl, sym, ◌∙�
 use Rattle.std.proofs.Common.{append_assoc, length-append, IsTrue}
 use Rattle.std.proofs.lemmas.Bool.{cases_eq}
 use Rattle.std.specs.Prelude.{Option, Some, None}
-use Rattle.disk_model.specs.Meaning.{Meaning, IsValid, Only, Told, Tells}
+use Rattle.disk_model.specs.Meaning.{Meaning, IsValid, Only, BothKnown, IfKnown}
 use Rattle.disk_model.specs.MomentLaws.{goes_refl, goes_trans}
 use Rattle.journal.specs.Puts.{Puts}
 use Rattle.disk_model.specs.Moments.{Leaves}
@@ -45,17 +45,17 @@ opened rs r rest =
     ∙ ap (λ (l : List ℕ). l ++ 0 ∷ rest) (sym (before_gate-push rs r))
 
 told_some : (step : List ℕ → List ℕ → Type 0) (old new : Option (List ℕ)) (file : List ℕ)
-    → old ≡ Some file → Told step old new → (f : List ℕ) × (new ≡ Some f) × step file f
-told_some step old new file is told = go new (subst (λ o. Told step o new) is told)
+    → old ≡ Some file → BothKnown step old new → (f : List ℕ) × (new ≡ Some f) × step file f
+told_some step old new file is told = go new (subst (λ o. BothKnown step o new) is told)
   where
-    go : (new : Option (List ℕ)) → Told step (Some file) new
+    go : (new : Option (List ℕ)) → BothKnown step (Some file) new
         → (f : List ℕ) × (new ≡ Some f) × step file f
     go None told = absurd told
     go (Some f) told = (f, refl, told)
 
 tells_some : (P : List ℕ → Type 0) (old : Option (List ℕ)) (file : List ℕ) → old ≡ Some file
-    → Tells old P → P file
-tells_some P old file is tells = subst (λ o. Tells o P) is tells
+    → IfKnown old P → P file
+tells_some P old file is tells = subst (λ o. IfKnown o P) is tells
 
 -- a record's bytes stand after the closed gate, all of it on the disk
 pub record IsStaged (d : Meaning) (at : ℕ) (rs : List Record) (r : Record) : Type 0 where

@@ -16,19 +16,19 @@ use Rattle.journal.specs.RecordLaws.{head_is, tail_is, last_part, after, one_rec
 whole : (r : Record) (rest xs : List ℕ) (at place : ℕ) → IsKnown r.0 → length r.1 < 2 ^ 64
     → 0 < length xs → rest ≡ body r ++ xs → IsBadFrame at rest place → ⊥
 whole r rest xs at place known short some is bad =
-    let spelled : rest ≡ r.0 ∷ (to_be_bytes w64 (length r.1) ++ (r.1 ++ xs)) = is ∙ after r xs in
+    let encoded : rest ≡ r.0 ∷ (to_be_bytes w64 (length r.1) ++ (r.1 ++ xs)) = is ∙ after r xs in
     ⊎_elim
     (λ no_kind. let h : IsTrue (not (is_known r.0)) =
-    subst (λ l. IsTrue (has_no_kind l)) spelled no_kind.0 in
+    subst (λ l. IsTrue (has_no_kind l)) encoded no_kind.0 in
     both_ways (is_known r.0) (not_true (is_known r.0) h) known)
     (λ cut. let size : from_be_bytes w64 (take 8 (drop 1 rest)) ≡ length r.1 =
-    ap (λ (l : List ℕ). from_be_bytes w64 (take 8 (drop 1 l))) spelled
+    ap (λ (l : List ℕ). from_be_bytes w64 (take 8 (drop 1 l))) encoded
     ∙ ap (from_be_bytes w64) (take_at (to_be_bytes w64 (length r.1)) (r.1 ++ xs) 8 refl)
     ∙ from_be_bytes-to_be_bytes_8 (length r.1) short in
     let long : length rest ≡ 9 + (length r.1 + length xs) =
     omega (
       arith,
-      ap length spelled,
+      ap length encoded,
       length-append (to_be_bytes w64 (length r.1)) (r.1 ++ xs),
       length-append r.1 xs,
     ) in

@@ -1,6 +1,6 @@
 -- A journal over a disk.
 use Rattle.std.specs.Prelude.{◌≡◌, ◌⊎◌, ℕ, ◌+◌, ◌<◌, List, [], ◌∷◌, ◌++◌, length, Some}
-use Rattle.disk_model.specs.Meaning.{Meaning, Only, Tells}
+use Rattle.disk_model.specs.Meaning.{Meaning, Only, IfKnown}
 use Rattle.disk_model.specs.DeviceCalls.{with_bytes}
 use Rattle.journal.specs.Records.{Record, Holds, before_gate, body}
 use Rattle.journal.specs.Sealing.{record_in}
@@ -17,7 +17,7 @@ pub record Stands (d : Meaning) (at : ℕ) (rs : List Record) : Type 0 where
 
 -- what a read gives, where the disk tells it, reaches past the gate at this place
 abbrev pub HasGate : Meaning → ℕ → Type 0
-HasGate d at = Tells d.seen (λ file. at < length file)
+HasGate d at = IfKnown d.seen (λ file. at < length file)
 
 abbrev pub sealed_bytes : Sealed → List ℕ
 sealed_bytes s = s.bytes.items

@@ -35,11 +35,11 @@ one_record r s xs ys short_r short_s e =
     let whole = sym (after r xs) ∙ e ∙ after s ys in
     let kind : r.0 ≡ s.0 = head_is r.0 s.0 _ _ whole in
     let rest = tail_is r.0 s.0 _ _ whole in
-    let spelled : to_be_bytes w64 (length r.1) ≡ to_be_bytes w64 (length s.1) =
+    let encoded : to_be_bytes w64 (length r.1) ≡ to_be_bytes w64 (length s.1) =
     first_part 8 (to_be_bytes w64 (length r.1)) (to_be_bytes w64 (length s.1)) (r.1 ++ xs)
     (s.1 ++ ys) refl refl rest in
     let size : length r.1 ≡ length s.1 =
-    sym (from_be_bytes-to_be_bytes_8 (length r.1) short_r) ∙ ap (from_be_bytes w64) spelled
+    sym (from_be_bytes-to_be_bytes_8 (length r.1) short_r) ∙ ap (from_be_bytes w64) encoded
     ∙ from_be_bytes-to_be_bytes_8 (length s.1) short_s in
     let paid = last_part 8 (to_be_bytes w64 (length r.1)) (to_be_bytes w64 (length s.1)) (r.1 ++ xs)
     (s.1 ++ ys) refl refl rest in

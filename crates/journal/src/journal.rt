@@ -1,6 +1,6 @@
 ghost use Rattle.std.specs.Prelude.{◌≡◌, ◌+◌, ◌-◌, ◌^◌, ◌<◌, ◌↔◌, ℕ, Err, IfErr, OnOk};
 ghost use Rattle.prima_io.specs.Causes.{Rose};
-ghost use Rattle.disk_model.specs.Meaning.{Told};
+ghost use Rattle.disk_model.specs.Meaning.{BothKnown};
 ghost use Rattle.journal.specs.Puts.{Puts, Acknowledges};
 ghost use Rattle.journal.specs.JournalFiles.{HasGate, sealed_record, needs, with_record};
 ghost use Rattle.journal.specs.declared.fault.PutFault.TheVariants as put;
@@ -42,7 +42,7 @@ impl<D: Disk> Journal<D> {
         ensures place { OnOk result
             (place_of self.new + 1 ≡ place_of self.old + needs (sealed_record sealed.now)) }
         ensures ready { OnOk result (HasGate (below self.new) (place_of self.new)) }
-        ensures written { OnOk result (Told
+        ensures written { OnOk result (BothKnown
             (λ old new. new ≡ with_record old (place_of self.old) (sealed_record sealed.now))
             (below self.old).seen (below self.new).seen) }
         ensures cause { result ≡ Err put.Disk

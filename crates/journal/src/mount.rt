@@ -4,7 +4,7 @@
 ghost use Rattle.std.specs.Prelude.{◌≡◌, ◌+◌, ◌-◌, ◌^◌, ◌<◌, ◌≤◌, IsTrue, List, ℕ, [], length, min};
 ghost use Rattle.std.specs.Prelude.{◌⊎◌, Some, Err, IfOk, IfErr, OnOk, OnErr};
 ghost use Rattle.prima_io.specs.Causes.{Rose};
-ghost use Rattle.disk_model.specs.Meaning.{Tells, Told, Only};
+ghost use Rattle.disk_model.specs.Meaning.{IfKnown, BothKnown, Only};
 ghost use Rattle.disk_model.specs.Moments.{GoesOn, Leaves};
 ghost use Rattle.disk_model.specs.DeviceCalls.{Reads};
 ghost use Rattle.journal.specs.Damage.{IsDamagedAt};
@@ -27,7 +27,7 @@ const EMPTY: [u8; 9] = *b"PRIMA001\0";
 // Makes the empty journal of a file of at most nine bytes, unless it is one.
 fn begin<D: Disk>(disk: &mut D, len: u64) -> Result<(), Failed>
     requires short { len ≤ 9 }
-    requires len { Tells (D.meaning disk.old).seen (λ file. len ≡ length file) }
+    requires len { IfKnown (D.meaning disk.old).seen (λ file. len ≡ length file) }
     ensures goes { GoesOn (D.meaning disk.old) (D.meaning disk.new) }
     ensures nine { (file : List ℕ) → IsTrue (D.meaning disk.old).is_honest
         → (D.meaning disk.old).seen ≡ Some file → Only file (D.meaning disk.old).may_leave
@@ -35,7 +35,7 @@ fn begin<D: Disk>(disk: &mut D, len: u64) -> Result<(), Failed>
     ensures stands { OnOk result ((file : List ℕ) → IsTrue (D.meaning disk.old).is_honest
         → (D.meaning disk.old).seen ≡ Some file → Only file (D.meaning disk.old).may_leave
         → Stands (D.meaning disk.new) 8 []) }
-    ensures file { OnOk result (Told (λ old new. new ≡ empty_journal)
+    ensures file { OnOk result (BothKnown (λ old new. new ≡ empty_journal)
         (D.meaning disk.old).seen (D.meaning disk.new).seen) }
     ensures cause { OnErr result (Rose (D.meaning disk.old).faults (D.meaning disk.new).faults) }
     ensures unfailed { OnOk result ((D.meaning disk.new).faults ≡ (D.meaning disk.old).faults) }
@@ -54,10 +54,10 @@ fn begin<D: Disk>(disk: &mut D, len: u64) -> Result<(), Failed>
 // The whole file.
 fn read_whole<D: Disk>(alloc: Global, disk: &mut D, len: u64) -> Result<Vec<u8>, JournalFault>
     requires short { len < 2 ^ 64 - 1 }
-    requires len { Tells (D.meaning disk.old).seen (λ file. len ≡ length file) }
+    requires len { IfKnown (D.meaning disk.old).seen (λ file. len ≡ length file) }
     ensures len { IfOk result (λ bytes. length bytes.items ≡ len) }
     ensures bytes { IfOk result
-        (λ bytes. Tells (D.meaning disk.old).seen (λ file. bytes.items ≡ file)) }
+        (λ bytes. IfKnown (D.meaning disk.old).seen (λ file. bytes.items ≡ file)) }
     ensures reads { Reads (D.meaning disk.old) (D.meaning disk.new) }
     ensures damaged { (place : _) → result ≡ Err (mounting.Damaged place) → ⊥ }
     ensures cause { result ≡ Err mounting.Disk
@@ -77,18 +77,18 @@ fn open_synced<D: Disk>(alloc: Global, disk: &mut D) -> Result<(Vec<Rec>, u64), 
         → (D.meaning disk.old).seen ≡ Some file → Only file (D.meaning disk.old).may_leave
         → Leaves (D.meaning disk.old) (D.meaning disk.new) (SameOrNine file) }
     ensures opened { IfOk result
-        (λ it. Tells (D.meaning disk.old).seen (λ file. IsOpened file it.0.items it.1)) }
+        (λ it. IfKnown (D.meaning disk.old).seen (λ file. IsOpened file it.0.items it.1)) }
     ensures in_place { IfOk result (λ it. AreInPlace it.0.items) }
     ensures stands { IfOk result (λ it. (file : List ℕ) → IsTrue (D.meaning disk.old).is_honest
         → (D.meaning disk.old).seen ≡ Some file → Only file (D.meaning disk.old).may_leave
         → Stands (D.meaning disk.new) it.1 (records_in it.0.items)) }
     ensures ready { IfOk result (λ it. HasGate (D.meaning disk.new) it.1) }
-    ensures file { OnOk result (Told (λ old new. new ≡ opened_file old)
+    ensures file { OnOk result (BothKnown (λ old new. new ≡ opened_file old)
         (D.meaning disk.old).seen (D.meaning disk.new).seen) }
     ensures untouched { IfErr result (λ e. (e ≡ mounting.Disk → ⊥)
         → (D.meaning disk.new).seen ≡ (D.meaning disk.old).seen) }
     ensures damaged { (place : _) → result ≡ Err (mounting.Damaged place)
-        → Tells (D.meaning disk.old).seen (λ file. IsDamagedAt file place) }
+        → IfKnown (D.meaning disk.old).seen (λ file. IsDamagedAt file place) }
     ensures cause { result ≡ Err mounting.Disk
         → Rose (D.meaning disk.old).faults (D.meaning disk.new).faults }
     ensures unfailed { (result ≡ Err mounting.Disk → ⊥)
@@ -118,11 +118,11 @@ impl<D: Disk> Journal<D> {
         limit: u64,
     ) -> Result<(Journal<D>, Vec<Rec>), (D, JournalFault)>
         ensures limit { IfOk result (λ it. limit_of it.0 ≡ min limit (2 ^ 64 - 2)) }
-        ensures opened { IfOk result (λ it. Tells (D.meaning disk).seen
+        ensures opened { IfOk result (λ it. IfKnown (D.meaning disk).seen
             (λ file. IsOpened file it.1.items (place_of it.0))) }
         ensures in_place { IfOk result (λ it. AreInPlace it.1.items) }
         ensures ready { IfOk result (λ it. HasGate (below it.0) (place_of it.0)) }
-        ensures file { IfOk result (λ it. Told (λ old new. new ≡ opened_file old)
+        ensures file { IfOk result (λ it. BothKnown (λ old new. new ≡ opened_file old)
             (D.meaning disk).seen (below it.0).seen) }
         ensures stands { IfOk result (λ it. (file : List ℕ) → IsTrue (D.meaning disk).is_honest
             → (D.meaning disk).seen ≡ Some file
@@ -134,7 +134,7 @@ impl<D: Disk> Journal<D> {
             ((it.1 ≡ mounting.Disk) × IsNotSynced (D.meaning disk) (D.meaning it.0))
             ⊎ KeepsFile (D.meaning disk) (D.meaning it.0)) }
         ensures damaged { IfErr result (λ it. (place : ℕ) → it.1 ≡ mounting.Damaged place
-            → Tells (D.meaning disk).seen (λ file. IsDamagedAt file place)) }
+            → IfKnown (D.meaning disk).seen (λ file. IsDamagedAt file place)) }
         ensures untouched { IfErr result (λ it. (it.1 ≡ mounting.Disk → ⊥)
             → (D.meaning it.0).seen ≡ (D.meaning disk).seen) }
         ensures cause { IfErr result (λ it. it.1 ≡ mounting.Disk

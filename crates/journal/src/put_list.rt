@@ -2,7 +2,7 @@ ghost use Rattle.std.specs.Prelude.{◌≡◌, ◌+◌, ◌-◌, ◌^◌, ◌<�
 ghost use Rattle.std.specs.Prelude.{min};
 ghost use Rattle.std.specs.Prelude.{Err, IfOk, IfErr, OnOk, OnErr};
 ghost use Rattle.prima_io.specs.Causes.{Rose};
-ghost use Rattle.disk_model.specs.Meaning.{Tells};
+ghost use Rattle.disk_model.specs.Meaning.{IfKnown};
 ghost use Rattle.disk_model.specs.Moments.{GoesOn};
 ghost use Rattle.journal.specs.Damage.{IsDamagedAt};
 ghost use Rattle.journal.specs.Fields.{below, place_of, limit_of};
@@ -83,7 +83,7 @@ pub fn mount_and_put<D: Disk>(
     ensures unmounted { (fault : _) → result.0 ≡ Err (puts.NotMounted fault)
         → MountsAndPuts (D.meaning disk) (D.meaning result.1) (min limit (2 ^ 64 - 2)) [] }
     ensures damaged { (place : ℕ) → result.0 ≡ Err (puts.NotMounted (mounting.Damaged place))
-        → Tells (D.meaning disk).seen (λ file. IsDamagedAt file place) }
+        → IfKnown (D.meaning disk).seen (λ file. IsDamagedAt file place) }
     ensures cause { IfErr result.0 (λ e. ((n : ℕ) → e ≡ puts.Stopped n
         → Rose (D.meaning disk).faults (D.meaning result.1).faults)
         × (e ≡ puts.NotMounted mounting.Disk

@@ -7,7 +7,7 @@ ghost use Rattle.prima_base.specs.declared.refusal.What.TheVariants as what;
 ghost use Rattle.cond_expr.specs.Seen.{tree, test};
 ghost use Rattle.cond_expr.specs.Trees.{constant, always, never};
 ghost use Rattle.prima_base.specs.Bytes.{IsName};
-ghost use Rattle.lexer_spec.specs.Lexemes.{is_word, is_sign, integer, signed, is_name};
+ghost use Rattle.lexer_spec.specs.Lexemes.{is_word, is_sign, integer, signed_value, is_name};
 ghost use Rattle.lexer_spec.specs.Lexemes.{is_one_of, reserved};
 ghost use Rattle.lexer_spec.specs.Bytes.{text_value};
 ghost use Rattle.lexer_combinators.specs.Reads.{Reads, ReadsMore, ahead, sees};

@@ -3,8 +3,8 @@
 ghost use Rattle.std.specs.Prelude.{◌≡◌, ◌+◌, ◌≤◌, ◌<◌, length, drop, map, IfOk, IfErr, codes};
 ghost use Rattle.prima_base.specs.Bytes.{IsName};
 ghost use Rattle.lexer_spec.specs.declared.kind.TokenKind.TheVariants as kind;
-ghost use Rattle.lexer_spec.specs.declared.scanned.Scanned.TheVariants.{Of};
-ghost use Rattle.lexer_spec.specs.Bytes.{text_value, scanned};
+ghost use Rattle.lexer_spec.specs.declared.scan_of.Scanned.TheVariants.{Of};
+ghost use Rattle.lexer_spec.specs.Bytes.{text_value, scan_of};
 ghost use Rattle.lexer_spec.specs.Lexemes.{is_sign};
 ghost use Rattle.lexer_combinators.specs.Reads.{Reads, ReadsMore, ahead};
 ghost use Rattle.lexer_trees_spec.specs.Constants as spec;
@@ -51,7 +51,7 @@ pub fn name_of(alloc: Global, text: &[u8]) -> Result<Name, Stop>
 /// The text that a whole literal stands for. Only memory can be missing.
 #[tactic(auto, using(lexer_spec::proofs::Valid::texted))]
 pub fn text_of(alloc: Global, literal: &[u8]) -> Result<Txt, Stop>
-    requires { scanned literal.now ≡ Of kind.Text (length literal.now) }
+    requires { scan_of literal.now ≡ Of kind.Text (length literal.now) }
     ensures ok { IfOk result (λ t. t ≡ text_value (drop 1 literal.now)) }
     ensures err { IfErr result (λ e. e ≡ stop.NoMemory) }
 {

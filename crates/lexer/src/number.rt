@@ -1,14 +1,14 @@
 //! The values of number tokens.
 
 ghost use Rattle.std.specs.Prelude.{◌≡◌, ◌^◌, ◌≤◌, ◌<◌, length};
-ghost use Rattle.lexer_spec.specs.Lexemes.{integer, signed};
+ghost use Rattle.lexer_spec.specs.Lexemes.{integer, signed_value};
 ghost use Rattle.lexer.specs.Numbers.{in_range, natural_in};
 
 use crate::scanned::magnitude;
 
 // The integer of 64 bits with this magnitude.
 fn in_range(negative: bool, number: u64) -> Option<i64>
-    ensures { result ≡ in_range (signed negative number) }
+    ensures { result ≡ in_range (signed_value negative number) }
 {
     if !negative || number == 0 {
         return if number <= 9_223_372_036_854_775_807 {
@@ -43,7 +43,7 @@ pub fn int_value(text: &[u8]) -> Option<i64>
 
 // The natural number with this magnitude: there is no other below zero than zero itself.
 fn above_zero(negative: bool, number: u64, most: u64) -> Option<u64>
-    ensures { result ≡ natural_in most (signed negative number) }
+    ensures { result ≡ natural_in most (signed_value negative number) }
 {
     if negative && number > 0 {
         return None;

@@ -4,8 +4,8 @@ ghost use Rattle.std.specs.Prelude.{◌≡◌, ◌≤◌, length, drop};
 ghost use Rattle.cond_expr.specs.Seen.{tree, test};
 ghost use Rattle.lexer_combinators.specs.declared.cursor.Stop.TheVariants as stop;
 ghost use Rattle.lexer_trees_spec.specs.Grammar.{IsExpr, IsCond};
-ghost use Rattle.lexer_combinators.specs.Crossings.{IsFaultOf, RefusesFirst};
-ghost use Rattle.lexer_trees_spec.specs.TreeCounts.{expr_crossings, cond_crossings};
+ghost use Rattle.lexer_combinators.specs.Overflows.{IsFaultOf, RefusesFirst};
+ghost use Rattle.lexer_trees_spec.specs.TreeCounts.{expr_overflows, cond_overflows};
 ghost use Rattle.lexer_combinators.specs.Parsing.{limit};
 ghost use Rattle.lexer_trees_spec.specs.Reader.{follow_expr, follow_cond, outermost};
 ghost use Rattle.lexer_combinators.specs.Found.{IsRead, FindsStopped, FindsLongest, AnswersAs};
@@ -89,10 +89,10 @@ pub fn parse_expr(
     ensures longest { FindsLongest tree (IsExpr qualified) list.now from result }
     // A fault is at the first token with which nothing of the grammar goes on, or at which a count
     // passes its limit.
-    ensures fault { IsFaultOf (IsExpr qualified) (expr_crossings qualified) list.now from result }
+    ensures fault { IsFaultOf (IsExpr qualified) (expr_overflows qualified) list.now from result }
     // A prefix that passes a limit at its last token is refused there for this count, whatever
     // stands after it.
-    ensures over { RefusesFirst (IsExpr qualified) (expr_crossings qualified) list.now from result }
+    ensures over { RefusesFirst (IsExpr qualified) (expr_overflows qualified) list.now from result }
     ensures exact { AnswersAs tree ((outermost qualified).expr 0 (lexemes_from list.now from))
         list.now result }
 {
@@ -118,8 +118,8 @@ pub fn parse_cond(
     ensures read { IsRead test (IsCond qualified) list.now from result }
     ensures only { FindsStopped test (IsCond qualified) (follow_cond qualified) list.now from result }
     ensures longest { FindsLongest test (IsCond qualified) list.now from result }
-    ensures fault { IsFaultOf (IsCond qualified) (cond_crossings qualified) list.now from result }
-    ensures over { RefusesFirst (IsCond qualified) (cond_crossings qualified) list.now from result }
+    ensures fault { IsFaultOf (IsCond qualified) (cond_overflows qualified) list.now from result }
+    ensures over { RefusesFirst (IsCond qualified) (cond_overflows qualified) list.now from result }
     ensures exact { AnswersAs test ((outermost qualified).cond 0 (lexemes_from list.now from))
         list.now result }
 {

@@ -107,7 +107,7 @@ fn text_size(bytes: &[u8]) -> usize
 
 // The text after an opening quote.
 fn scanned_text(bytes: &[u8]) -> Scanned
-    ensures value { result ≡ spec.sized (length (spec.text_value bytes.now))
+    ensures value { result ≡ spec.scan_sized (length (spec.text_value bytes.now))
         (spec.text_from 1 bytes.now) }
     ensures within { spec.Within (length bytes.now + 1) result }
 {
@@ -217,7 +217,7 @@ fn sign(first: u8, next: u8, len: usize) -> Scanned
 #[tactic(auto, unfolding(lexer_spec::specs::Bytes::scanned_from))]
 pub fn scan_at(bytes: &[u8]) -> Scanned
     requires { length bytes.now ≤ 1048576 }
-    ensures value { result ≡ spec.scanned bytes.now }
+    ensures value { result ≡ spec.scan_of bytes.now }
     ensures within { spec.Within (length bytes.now) result }
 {
     if bytes.is_empty() {

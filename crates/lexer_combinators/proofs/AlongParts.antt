@@ -16,11 +16,11 @@ use Rattle.lexer_combinators.specs.Parsing.{many, more, fresh, set_back}
 use Rattle.lexer_combinators.specs.Grammar.{Size, nothing_counted, both, AreMore, no_end, so_wide}
 use Rattle.lexer_combinators.specs.Grammar as grammar
 use Rattle.lexer_combinators.specs.TokenCounts.{TokenCounts}
-use Rattle.lexer_combinators.specs.Crossings.{no_crossings}
-use Rattle.lexer_combinators.specs.ListCrossings.{Crossing, none_crossing, fresh_crossing}
-use Rattle.lexer_combinators.specs.ListCrossings.{lead_crossing, map_crossing, bind_crossing}
-use Rattle.lexer_combinators.specs.ListCrossings.{option_crossing, more_crossing, list_crossing}
-use Rattle.lexer_combinators.specs.ListCrossings.{full_at, counted_crossing}
+use Rattle.lexer_combinators.specs.Overflows.{no_overflows}
+use Rattle.lexer_combinators.specs.ListOverflows.{Overflow, none_overflow, fresh_overflow}
+use Rattle.lexer_combinators.specs.ListOverflows.{lead_overflow, map_overflow, bind_overflow}
+use Rattle.lexer_combinators.specs.ListOverflows.{option_overflow, more_overflow, list_overflow}
+use Rattle.lexer_combinators.specs.ListOverflows.{full_at, counted_overflow}
 use Rattle.lexer_combinators.specs.Reads.{sees}
 use Rattle.lexer_combinators.proofs.Parsing.{valid_none, valid_both, got_fewer, many_some, side}
 use Rattle.lexer_combinators.proofs.Alternatives.{or_left}
@@ -28,19 +28,20 @@ use Rattle.lexer_combinators.proofs.Fresh.{fresh_correct}
 use Rattle.lexer_combinators.proofs.Counted.{along, or_else, by_crossed}
 use Rattle.lexer_combinators.proofs.ManySteps.{many_first, many_done}
 use Rattle.lexer_combinators.proofs.ReadSteps.{option_not, option_takes, option_refuses}
-use Rattle.lexer_combinators.proofs.Crossing.{same_prefix, by_crossings, fresh_along}
-use Rattle.lexer_combinators.proofs.Crossing.{nothing_crossings, no_crossings_length}
-use Rattle.lexer_combinators.proofs.Crossing.{crossings_length, Along, along_prefix, along_value}
-use Rattle.lexer_combinators.proofs.Crossing.{along_map, along_bind, along_lead}
+use Rattle.lexer_combinators.proofs.OverflowSteps.{same_prefix, by_overflows, fresh_along}
+use Rattle.lexer_combinators.proofs.OverflowSteps.{nothing_overflows, no_overflows_length}
+use Rattle.lexer_combinators.proofs.OverflowSteps.{overflows_length, Along, along_prefix}
+use Rattle.lexer_combinators.proofs.OverflowSteps.{along_value}
+use Rattle.lexer_combinators.proofs.OverflowSteps.{along_map, along_bind, along_lead}
 
 -- each of its texts is read along its tokens, up to what it does not go on with
 abbrev pub GoesAlong : {A : Type 0} (p : Parser A) (G : Grammar A) (follow : Lexeme → Bool)
-    → Crossing G → Type 0
+    → Overflow G → Type 0
 GoesAlong {A} p G follow ps = (a : A) (s : Size) (f : List Lexeme) (h : G a s f) (us : List Lexeme)
     → Stops follow us → Along p a 0 (ps a s f h) f us
 
 pub stops_along : {A : Type 0} (p : Parser A) (G : Grammar A) (follow goes2 : Lexeme → Bool)
-    (ps : Crossing G) → ((x : Lexeme) → goes2 x ≡ false → follow x ≡ false)
+    (ps : Overflow G) → ((x : Lexeme) → goes2 x ≡ false → follow x ≡ false)
     → GoesAlong p G follow ps → GoesAlong p G goes2 ps
 stops_along p G follow goes2 ps fewer k a s f h us stops = k a s f h us (by_rest us stops)
   where
@@ -49,9 +50,9 @@ stops_along p G follow goes2 ps fewer k a s f h us stops = k a s f h us (by_rest
     by_rest (x ∷ us) e = fewer x e
 
 pub lead_follow : {A : Type 0} (is : Lexeme → Bool) (x : Lexeme) → is x ≡ true
-    → (p : Parser A) (G : Grammar A) (follow : Lexeme → Bool) (ps : Crossing G)
+    → (p : Parser A) (G : Grammar A) (follow : Lexeme → Bool) (ps : Overflow G)
     → GoesAlong p G follow ps → GoesAlong (lead is p) (grammar.lead x G) follow
-    (lead_crossing x G ps)
+    (lead_overflow x G ps)
 lead_follow is x e p G follow ps k a s f h us stops =
     along_prefix (lead is p) a 0 (None ∷ ps a s h.0 h.2) f (x ∷ h.0) us h.1
     (along_lead is x p a 0 (ps a s h.0 h.2) h.0 us e (k a s h.0 h.2 us stops))
@@ -59,28 +60,28 @@ lead_follow is x e p G follow ps k a s f h us stops =
 -- after its first lexeme it is read by another reader
 pub after_follow : {A : Type 0} (p q : Parser A) (x : Lexeme)
     → ((ts : List Lexeme) → p 0 (x ∷ ts) ≡ q 0 ts)
-    → (G : Grammar A) (follow : Lexeme → Bool) (ps : Crossing G) → GoesAlong q G follow ps
-    → GoesAlong p (grammar.lead x G) follow (lead_crossing x G ps)
+    → (G : Grammar A) (follow : Lexeme → Bool) (ps : Overflow G) → GoesAlong q G follow ps
+    → GoesAlong p (grammar.lead x G) follow (lead_overflow x G ps)
 after_follow p q x e G follow ps k a s f h us stops =
     let r = k a s h.0 h.2 us stops in
     along_prefix p a 0 (None ∷ ps a s h.0 h.2) f (x ∷ h.0) us h.1
     (record { reads = e (h.0 ++ us) ∙ r.reads; sized = ap suc r.sized })
 
 pub map_follow : {A B : Type 0} (m : A → B) (p : Parser A) (G : Grammar A) (follow : Lexeme → Bool)
-    (ps : Crossing G) → GoesAlong p G follow ps
-    → GoesAlong (map_to m p) (grammar.map m G) follow (map_crossing m G ps)
+    (ps : Overflow G) → GoesAlong p G follow ps
+    → GoesAlong (map_to m p) (grammar.map m G) follow (map_overflow m G ps)
 map_follow m p G follow ps k b s f h us stops =
     along_value (map_to m p) (m h.0) b 0 (ps h.0 s f h.2) f us h.1
     (along_map m p h.0 0 (ps h.0 s f h.2) f us (k h.0 s f h.2 us stops))
 
 pub bind_follow : {A B : Type 0} (p : Parser A) (k : A → Parser B) (G : Grammar A) (H : A
-    → Grammar B) (follow goes2 : Lexeme → Bool) (ps : Crossing G) (qs : (a : A) → Crossing (H a)) →
+    → Grammar B) (follow goes2 : Lexeme → Bool) (ps : Overflow G) (qs : (a : A) → Overflow (H a)) →
     GoesAlong p G follow ps → ((a : A) → GoesAlong (k a) (H a) goes2 (qs a))
     → ((a : A) (b : B) (s : Size) (ts rest : List Lexeme) → H a b s ts → Stops goes2 rest
     → Stops follow (ts ++ rest)) → GoesAlong (bind p k) (grammar.seq G H) goes2
-    (bind_crossing G H ps qs)
+    (bind_overflow G H ps qs)
 bind_follow p k G H follow goes2 ps qs gp gk stopping b s f h us stops =
-    along_prefix (bind p k) b 0 (bind_crossing G H ps qs b s f h) f (h.3 ++ h.4) us h.6
+    along_prefix (bind p k) b 0 (bind_overflow G H ps qs b s f h) f (h.3 ++ h.4) us h.6
     (along_bind p k h.0 b 0 (ps h.0 h.1 h.3 h.7) (qs h.0 b h.2 h.4 h.8) h.3 h.4 us
     (gp h.0 h.1 h.3 h.7 (h.4 ++ us) (stopping h.0 b h.2 h.4 us h.8 stops))
     (gk h.0 b h.2 h.4 h.8 us stops))
@@ -92,9 +93,9 @@ sees_no is follow covers (x ∷ us) h = covers x h
 
 pub option_follow : {A : Type 0} (is : Lexeme → Bool) (x : Lexeme) → is x ≡ true
     → (p : Parser A) (v : A) (G : Grammar A) (follow : Lexeme → Bool)
-    → ((y : Lexeme) → follow y ≡ false → is y ≡ false) → (ps : Crossing G) →
+    → ((y : Lexeme) → follow y ≡ false → is y ≡ false) → (ps : Overflow G) →
     GoesAlong p G follow ps → GoesAlong (option is (Takes p) v) (grammar.option v x G) follow
-    (option_crossing v x G ps)
+    (option_overflow v x G ps)
 option_follow is x e p v G follow covers ps k b s f (inl h) us stops =
     along_prefix (option is (Takes p) v) b 0 [] f [] us h.2
     (along_value (option is (Takes p) v) v b 0 [] [] us h.0
@@ -178,16 +179,16 @@ fine_got a s us (LimitExceeded w c r) few l h = absurd (within_none w s few l h)
 pub light_along : {A : Type 0} (p : Parser A) (G : Grammar A) (follow : Lexeme → Bool)
     → IsCorrectParser 0 32 p G follow → (a : A) (s : Size) (f : List Lexeme) → G a s f
     → (s.nodes ≡ 0) × Valid 32 s → (us : List Lexeme) → Stops follow us
-    → Along p a 0 (no_crossings f) f us
+    → Along p a 0 (no_overflows f) f us
 light_along p G follow correct a s f h l us stops = record {
   reads = fine_got a s us (p 0 (f ++ us)) (omega (arith, l.0)) l.1
       (correct.complete 0 (omega arith) a s f us h stops) ∙ ap (λ n. Parsed a n us) l.0
-      ∙ sym (nothing_crossings 0 f us (Parsed a 0 us));
-  sized = no_crossings_length f;
+      ∙ sym (nothing_overflows 0 f us (Parsed a 0 us));
+  sized = no_overflows_length f;
 }
 
 pub light_follow : {A : Type 0} (p : Parser A) (G : Grammar A) (follow : Lexeme → Bool)
-    → IsCorrectParser 0 32 p G follow → Light G → GoesAlong p G follow (none_crossing G)
+    → IsCorrectParser 0 32 p G follow → Light G → GoesAlong p G follow (none_overflow G)
 light_follow p G follow correct light a s f h us stops =
     light_along p G follow correct a s f h (light a s f h) us stops
 
@@ -196,10 +197,10 @@ light_follow p G follow correct light a s f h us stops =
 -- along these either all is read, or a token is refused, whatever follows
 abbrev Ended : {A : Type 0} → A → List (Option What) → List Lexeme → Type 0
 Ended {A} a ps f =
-    ((us : List Lexeme) → by_crossings 0 ps (f ++ us) (Parsed a 0 us) ≡ Parsed a 0 us) ⊎
+    ((us : List Lexeme) → by_overflows 0 ps (f ++ us) (Parsed a 0 us) ≡ Parsed a 0 us) ⊎
     ((w : What) × (prefix : List Lexeme) × (x : Lexeme) × (rest : List Lexeme)
     × (f ≡ prefix ++ x ∷ rest) × ((us : List Lexeme)
-    → by_crossings 0 ps (f ++ us) (Parsed a 0 us) ≡ LimitExceeded w 0 (x ∷ (rest ++ us))))
+    → by_overflows 0 ps (f ++ us) (Parsed a 0 us) ≡ LimitExceeded w 0 (x ∷ (rest ++ us))))
 
 ended : {A : Type 0} (a : A) (ps : List (Option What)) (f : List Lexeme) → length ps ≡ length f
     → Ended a ps f
@@ -214,13 +215,13 @@ ended {A} a (p ∷ ps) (x ∷ f) e = by_crossed p
       f,
       refl,
       λ us. ap (λ o.
-          or_else o 0 (x ∷ (f ++ us)) (by_crossings 0 ps (f ++ us) (Parsed a 0 us))) q,
+          or_else o 0 (x ∷ (f ++ us)) (by_overflows 0 ps (f ++ us) (Parsed a 0 us))) q,
     ))
     (λ q. later q (ended a ps f (omega (arith, e))))
   where
     later : p ≡ None → Ended a ps f → Ended a (p ∷ ps) (x ∷ f)
     later q (inl h) = inl (λ us. ap (λ o. or_else o 0 (x ∷ (f ++ us))
-        (by_crossings 0 ps (f ++ us) (Parsed a 0 us))) q ∙ h us)
+        (by_overflows 0 ps (f ++ us) (Parsed a 0 us))) q ∙ h us)
     later q (inr h) = inr (
       h.0,
       x ∷ h.1,
@@ -228,7 +229,7 @@ ended {A} a (p ∷ ps) (x ∷ f) e = by_crossed p
       h.3,
       ap (λ l. x ∷ l) h.4,
       λ us.
-          ap (λ o. or_else o 0 (x ∷ (f ++ us)) (by_crossings 0 ps (f ++ us) (Parsed a 0 us))) q
+          ap (λ o. or_else o 0 (x ∷ (f ++ us)) (by_overflows 0 ps (f ++ us) (Parsed a 0 us))) q
           ∙ h.5 us,
     )
 
@@ -237,13 +238,13 @@ module _ {A : Type 0} (p : Parser A) (G : A → Size → List Lexeme → Type 0)
   -- what is read whole along these is read so before what it does not go on with
   before : (a : A) (s : Size) (f : List Lexeme) (ps : List (Option What)) → G a s f
       → Along p a 0 ps f [] → (us : List Lexeme) → Stops follow us
-      → p 0 (f ++ us) ≡ by_crossings 0 ps (f ++ us) (Parsed a 0 us)
+      → p 0 (f ++ us) ≡ by_overflows 0 ps (f ++ us) (Parsed a 0 us)
   before a s f ps g whole us stops = by_end (ended a ps f whole.sized)
     where
-      alone : (o : Out A) → by_crossings 0 ps (f ++ []) (Parsed a 0 []) ≡ o → p 0 f ≡ o
+      alone : (o : Out A) → by_overflows 0 ps (f ++ []) (Parsed a 0 []) ≡ o → p 0 f ≡ o
       alone o e = ap (p 0) (sym (append-nil f)) ∙ whole.reads ∙ e
 
-      by_end : Ended a ps f → p 0 (f ++ us) ≡ by_crossings 0 ps (f ++ us) (Parsed a 0 us)
+      by_end : Ended a ps f → p 0 (f ++ us) ≡ by_overflows 0 ps (f ++ us) (Parsed a 0 us)
       by_end (inl h) =
           let e : p 0 f ≡ Parsed a 0 [] = alone (Parsed a 0 []) (h []) in
           let Q : Out A → Type 0 = λ o. Fine 32 a s 0 [] o in
@@ -267,7 +268,7 @@ module _ {A : Type 0} (p : Parser A) (G : A → Size → List Lexeme → Type 0)
           ∙ append_assoc h.1 (x ∷ rest) us ∙ ap (λ l. l ++ x ∷ (rest ++ us)) same in
           ap (p 0) whole_prefix ∙ k.3 (rest ++ us) ∙ sym (h.5 us)
 
-  pub whole_follow : (ps : Crossing G) → ((a : A) (s : Size) (f : List Lexeme) (h : G a s f)
+  pub whole_follow : (ps : Overflow G) → ((a : A) (s : Size) (f : List Lexeme) (h : G a s f)
       → Along p a 0 (ps a s f h) f []) → GoesAlong p G follow ps
   whole_follow ps whole a s f h us stops = record {
     reads =
@@ -282,14 +283,14 @@ module _ {A : Type 0} (p : Parser A) (G : A → Size → List Lexeme → Type 0)
   pub fresh_follow : (counts : (a : A) (s : Size) (f : List Lexeme) → G a s f → List TokenCounts)
       → ((a : A) (s : Size) (f : List Lexeme) (h : G a s f) → length (counts a s f h) ≡ length f) →
       ((a : A) (s : Size) (f : List Lexeme) (h : G a s f) → p 0 f ≡ along 32 a 0 (counts a s f h) f)
-      → GoesAlong (fresh p) (grammar.fresh G) follow (fresh_crossing G counts)
+      → GoesAlong (fresh p) (grammar.fresh G) follow (fresh_overflow G counts)
   fresh_follow counts len whole = whole_follow (fresh p) (grammar.fresh G) follow
-      (fresh_correct 32 p G 0 follow correct) (fresh_crossing G counts)
+      (fresh_correct 32 p G 0 follow correct) (fresh_overflow G counts)
       (λ a s f h. record {
         reads = ap (λ l. set_back 0 (p 0 l)) (append-nil f) ∙ ap (set_back 0) (whole a h.0 f h.2)
             ∙ ap (λ l. set_back 0 (along 32 a 0 (counts a h.0 f h.2) l)) (sym (append-nil f))
             ∙ fresh_along a 0 0 (counts a h.0 f h.2) f [] (len a h.0 f h.2);
-        sized = crossings_length 0 (counts a h.0 f h.2) ∙ len a h.0 f h.2;
+        sized = overflows_length 0 (counts a h.0 f h.2) ∙ len a h.0 f h.2;
       })
 
 -- ---- lists
@@ -297,7 +298,7 @@ module _ {A : Type 0} (p : Parser A) (G : A → Size → List Lexeme → Type 0)
 module _ {A : Type 0} (is : Lexeme → Bool) (sep : Lexeme) (is_sep : is sep ≡ true)
     (exact : (x : Lexeme) → is x ≡ true → x ≡ sep) (item : Parser A) (G : A → Size → List Lexeme
     → Type 0) (follow : Lexeme → Bool) (correct : IsCorrectParser 0 32 item G follow)
-    (apart : follow sep ≡ false) (ps : Crossing G) (k : GoesAlong item G follow ps) where
+    (apart : follow sep ≡ false) (ps : Overflow G) (k : GoesAlong item G follow ps) where
   abbrev more_go : Lexeme → Bool
   more_go x = is x || follow x
 
@@ -318,35 +319,35 @@ module _ {A : Type 0} (is : Lexeme → Bool) (sep : Lexeme) (is_sep : is sep ≡
       (many_first is 32 item G follow correct 0 us) (sees_no is more_go no_sep us h)
 
   pub more_follow : (j : ℕ) → GoesAlong (many is item) (AreMore sep no_end G j) more_go
-      (more_crossing sep G ps j)
+      (more_overflow sep G ps j)
   more_follow j [] s f h us stops = along_prefix (many is item) [] 0 [] f [] us h.1
       (record { reads = no_more us stops; sized = refl })
   more_follow j (a ∷ l) s f h us stops =
       let r = along_bind item (λ a. map_to (λ l. a ∷ l) (many is item)) a (a ∷ l) 0
-      (ps a h.0 h.2 h.6) (more_crossing sep G ps (j + 1) l h.1 h.3 h.7) h.2 h.3 us
+      (ps a h.0 h.2 h.6) (more_overflow sep G ps (j + 1) l h.1 h.3 h.7) h.2 h.3 us
       (k a h.0 h.2 h.6 (h.3 ++ us) (side is sep is_sep exact 32 item G follow correct apart no_end
       (j + 1) l h.1 h.3 us h.7 stops))
-      (along_map (λ l. a ∷ l) (many is item) l 0 (more_crossing sep G ps (j + 1) l h.1 h.3 h.7) h.3
+      (along_map (λ l. a ∷ l) (many is item) l 0 (more_overflow sep G ps (j + 1) l h.1 h.3 h.7) h.3
       us (more_follow (j + 1) l h.1 h.3 h.7 us stops)) in
-      along_prefix (many is item) (a ∷ l) 0 (more_crossing sep G ps j (a ∷ l) s f h) f
+      along_prefix (many is item) (a ∷ l) 0 (more_overflow sep G ps j (a ∷ l) s f h) f
       (sep ∷ (h.2 ++ h.3)) us h.5 (record
       { reads = one_more 0 ((h.2 ++ h.3) ++ us) ∙ r.reads; sized = ap suc r.sized })
 
   pub list_follow : GoesAlong (one_and (many is item)) (grammar.list sep G) more_go
-      (list_crossing sep G ps)
+      (list_overflow sep G ps)
   list_follow = bind_follow item (λ a. map_to (λ l. a ∷ l) (many is item)) G
       (λ a. grammar.map (λ l. a ∷ l) (AreMore sep no_end G 0)) follow more_go ps
-      (λ a. map_crossing (λ l. a ∷ l) (AreMore sep no_end G 0) (more_crossing sep G ps 0)) k
+      (λ a. map_overflow (λ l. a ∷ l) (AreMore sep no_end G 0) (more_overflow sep G ps 0)) k
       (λ a. map_follow (λ l. a ∷ l) (many is item) (AreMore sep no_end G 0) more_go
-      (more_crossing sep G ps 0) (more_follow 0))
+      (more_overflow sep G ps 0) (more_follow 0))
       (λ a b s ts rest h stops. side is sep is_sep exact 32 item G follow correct apart no_end 0 h.0
       s ts rest h.2 stops)
 
   -- ---- counted
 
   module _ (w : What) where
-    abbrev counted : (j : ℕ) → Crossing (AreMore sep (so_wide w) G j)
-    counted j = counted_crossing w sep G ps j
+    abbrev counted : (j : ℕ) → Overflow (AreMore sep (so_wide w) G j)
+    counted j = counted_overflow w sep G ps j
 
     counted_length : (j : ℕ) (l : List A) (s : Size) (f : List Lexeme)
         (h : AreMore sep (so_wide w) G j l s f) → length (counted j l s f h) ≡ length f
@@ -391,7 +392,7 @@ module _ {A : Type 0} (is : Lexeme → Bool) (sep : Lexeme) (is_sep : is sep ≡
         (sep ∷ (h.2 ++ h.3)) us h.5 (record {
           reads = option_refuses is w [] 0 (sep ∷ ts) is_sep
               ∙ sym (ap (λ o. or_else o 0 (sep ∷ ts)
-              (by_crossings 0 later ts (Parsed (a ∷ l) 0 us))) (full j (omega (arith, e))));
+              (by_overflows 0 later ts (Parsed (a ∷ l) 0 us))) (full j (omega (arith, e))));
           sized = counted_length j (a ∷ l) s f h ∙ ap length h.5;
         })
     counted_follow (suc m) j e (a ∷ l) s f h us stops =
@@ -407,6 +408,6 @@ module _ {A : Type 0} (is : Lexeme → Bool) (sep : Lexeme) (is_sep : is sep ≡
         (sep ∷ (h.2 ++ h.3)) us h.5 (record {
           reads = option_takes is (one_and (more is w item m)) [] 0 (sep ∷ ts) is_sep ∙ r.reads
               ∙ sym (ap (λ o. or_else o 0 (sep ∷ ts)
-              (by_crossings 0 later ts (Parsed (a ∷ l) 0 us))) (room j (omega (arith, e))));
+              (by_overflows 0 later ts (Parsed (a ∷ l) 0 us))) (room j (omega (arith, e))));
           sized = counted_length j (a ∷ l) s f h ∙ ap length h.5;
         })

@@ -2,7 +2,7 @@ pub mod Parsing
 pub mod Fresh
 pub mod Alternatives
 pub mod Counted
-pub mod Crossing
+pub mod OverflowSteps
 pub mod ReadSteps
 pub mod ManySteps
 pub mod Places

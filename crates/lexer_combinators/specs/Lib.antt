@@ -4,6 +4,6 @@ pub mod Parsing
 pub mod Reads
 pub mod TokenCounts
 pub mod Found
-pub mod Crossings
-pub mod ListCrossings
+pub mod Overflows
+pub mod ListOverflows
 pub mod Prefixes

@@ -4,7 +4,7 @@
 //! counted meanwhile, and `IsCorrectParser`: what is read is in the grammar, what is in it is read,
 //! and a fault stands at the first place. It says how a crate above makes a production.
 //! `specs/TokenCounts.antt` has what is counted at each token, `specs/Crossings.antt` which is the
-//! first at which a count passes its limit, `ListCrossings.antt` the same by how a grammar is made
+//! first at which a count passes its limit, `ListOverflows.antt` the same by how a grammar is made
 //! of others, and `specs/Prefixes.antt` how a value and what stands after it determine each other.
 //!
 //! Code reads with a `Cursor` over tokens, whose own steps are here; `specs/Reads.antt` says what a
@@ -12,7 +12,7 @@
 //!
 //! The laws are the lemmas of `proofs/`, each for any grammar: `Parsing`, `Fresh` and
 //! `Alternatives` say which combinations are good, `ReadSteps` and `ManySteps` lead from the
-//! cursor's steps to them, `Places` to the places of tokens, and `Counted`, `Crossing` and
+//! cursor's steps to them, `Places` to the places of tokens, and `Counted`, `Overflow` and
 //! `AlongParts` to the first token that is too much.
 #![tactic(auto)]
 

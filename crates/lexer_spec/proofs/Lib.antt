@@ -1,6 +1,6 @@
 pub mod Cases
 pub mod Cuts
-pub mod Whole
+pub mod WholeTokens
 pub mod Gaps
 pub mod Shapes
 pub mod Once

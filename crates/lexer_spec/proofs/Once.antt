@@ -3,9 +3,9 @@ use Rattle.std.proofs.Common.{◌≡◌, ℕ, ◌+◌, List, [], ◌∷◌, map,
 use Rattle.std.proofs.Common.{sym, ap, ◌∙◌, subst}
 use Rattle.lexer_spec.specs.declared.token.Token.{Token}
 use Rattle.lexer_spec.specs.declared.kind.TokenKind.{TokenKind}
-use Rattle.lexer_spec.specs.declared.scanned.Scanned.{Scanned}
-use Rattle.lexer_spec.specs.declared.scanned.Scanned.TheVariants.{End, Of, Bad, Open, Long}
-use Rattle.lexer_spec.specs.declared.scanned.Scanned.TheVariants.{Big}
+use Rattle.lexer_spec.specs.declared.scan_of.Scanned.{Scanned}
+use Rattle.lexer_spec.specs.declared.scan_of.Scanned.TheVariants.{End, Of, Bad, Open, Long}
+use Rattle.lexer_spec.specs.declared.scan_of.Scanned.TheVariants.{Big}
 use Rattle.lexer_spec.specs.declared.fault.LexFault.{LexFault}
 use Rattle.lexer_spec.specs.Lexed.{Lexes, EndsBy, key, after_gap}
 

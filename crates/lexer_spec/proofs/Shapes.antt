@@ -7,15 +7,15 @@ use Rattle.std.proofs.lemmas.Bool.Decides.{nat_tests}
 use Rattle.prima_base.specs.Bytes.{is_control, is_digit, is_name_byte}
 use Rattle.lexer_spec.specs.declared.kind.TokenKind.{TokenKind}
 use Rattle.lexer_spec.specs.declared.kind.TokenKind.TheVariants.{Word, Number, Text, Sign}
-use Rattle.lexer_spec.specs.declared.scanned.Scanned.{Scanned}
-use Rattle.lexer_spec.specs.declared.scanned.Scanned.TheVariants.{End, Of, Bad, Open, Long}
-use Rattle.lexer_spec.specs.declared.scanned.Scanned.TheVariants.{Big}
+use Rattle.lexer_spec.specs.declared.scan_of.Scanned.{Scanned}
+use Rattle.lexer_spec.specs.declared.scan_of.Scanned.TheVariants.{End, Of, Bad, Open, Long}
+use Rattle.lexer_spec.specs.declared.scan_of.Scanned.TheVariants.{Big}
 use Rattle.lexer_spec.specs.declared.token.Token.{Token}
 use Rattle.lexer_spec.specs.declared.fault.LexFault.{LexFault}
 use Rattle.lexer_spec.specs.declared.fault.LexFault.TheVariants.{BadByte, OpenQuote, BigNumber}
 use Rattle.lexer_spec.specs.declared.fault.LexFault.TheVariants.{LongText}
 use Rattle.lexer_spec.specs.Bytes.{is_word_start, digits_of, number, scanned_number, is_big}
-use Rattle.lexer_spec.specs.Bytes.{text_value, text_from, sized, sign, scanned_from, scanned}
+use Rattle.lexer_spec.specs.Bytes.{text_value, text_from, scan_sized, sign, scanned_from, scan_of}
 use Rattle.lexer_spec.specs.Bytes.{gap_len}
 use Rattle.lexer_spec.specs.Lexed.{Lexes, EndsBy, after_gap}
 use Rattle.lexer_spec.specs.Spaced as s
@@ -23,11 +23,11 @@ use Rattle.lexer_spec.specs.Spaced.{Each, NoneNext, IsGap, GapEnds, is_quote, Is
 use Rattle.lexer_spec.specs.Spaced.{are_sign, is_one_sign, IsToken, IsOpen, BeginsNothing}
 use Rattle.lexer_spec.specs.Spaced.{IsFault, EndsSo, Spaced}
 use Rattle.lexer_spec.proofs.Cases.{true_false, by_test}
-use Rattle.lexer_spec.proofs.Whole.{len_of, is_of, at_word, at_digit, at_quote, at_minus}
-use Rattle.lexer_spec.proofs.Whole.{at_sign, quote_step, plain_step, bad_step, open_step}
-use Rattle.lexer_spec.proofs.Whole.{last_step, doubled_step, closed_step, value_plain}
-use Rattle.lexer_spec.proofs.Whole.{value_doubled, value_closed, value_last, sized_of}
-use Rattle.lexer_spec.proofs.Whole.{and_left, and_right}
+use Rattle.lexer_spec.proofs.WholeTokens.{len_of, is_of, at_word, at_digit, at_quote, at_minus}
+use Rattle.lexer_spec.proofs.WholeTokens.{at_sign, quote_step, plain_step, bad_step, open_step}
+use Rattle.lexer_spec.proofs.WholeTokens.{last_step, doubled_step, closed_step, value_plain}
+use Rattle.lexer_spec.proofs.WholeTokens.{value_doubled, value_closed, value_last, sized_of}
+use Rattle.lexer_spec.proofs.WholeTokens.{and_left, and_right}
 use Rattle.lexer_spec.proofs.Gaps.{gap_is}
 
 -- ---- runs of bytes
@@ -286,7 +286,8 @@ short_enough : (n : ℕ) → nat_lt 4096 n ≡ false → n ≤ 4096
 short_enough n e = grind (arith, nat_tests)
 
 text_shape : (b : ℕ) (bytes : List ℕ) (kind : TokenKind) (n : ℕ) → (b == 39) ≡ true
-    → sized (length (text_value bytes)) (text_from 1 bytes) ≡ Of kind n → Shaped kind n (b ∷ bytes)
+    → scan_sized (length (text_value bytes)) (text_from 1 bytes) ≡ Of kind n
+    → Shaped kind n (b ∷ bytes)
 text_shape b bytes kind n q e =
     let z = sized_of (length (text_value bytes)) (text_from 1 bytes) kind n e in
     let h = literal 1 bytes kind n z.0 in
@@ -341,7 +342,7 @@ sign_shape b bytes kind n e = by_two bytes e
 
 -- ---- whatever is scanned
 
-pub shape : (bytes : List ℕ) (kind : TokenKind) (n : ℕ) → scanned bytes ≡ Of kind n
+pub shape : (bytes : List ℕ) (kind : TokenKind) (n : ℕ) → scan_of bytes ≡ Of kind n
     → Shaped kind n bytes
 shape [] kind n e = true_false (sym (ap is_of e))
 shape (b ∷ bytes) kind n e =
@@ -451,7 +452,8 @@ minus_end at b (c ∷ bytes) e m h = by_test (is_big true (number (digits_of (c 
         )
 
 text_end : (at b : ℕ) (bytes : List ℕ) (e : Option LexFault) → (b == 39) ≡ true
-    → EndsBy at (sized (length (text_value bytes)) (text_from 1 bytes)) e → EndsSo at (b ∷ bytes) e
+    → EndsBy at (scan_sized (length (text_value bytes)) (text_from 1 bytes)) e
+    → EndsSo at (b ∷ bytes) e
 text_end at b bytes e q h = by_scanned (text_from 1 bytes) (text_ends 1 bytes) h
   where
     quote : b ≡ 39
@@ -471,7 +473,7 @@ text_end at b bytes e q h = by_scanned (text_from 1 bytes) (text_ends 1 bytes) h
     )
 
     by_scanned : (p : Scanned) → TextEnds 1 bytes p
-        → EndsBy at (sized (length (text_value bytes)) p) e
+        → EndsBy at (scan_sized (length (text_value bytes)) p) e
         → EndsSo at (b ∷ bytes) e
     by_scanned (Of kind n) t k = by_test (nat_lt 4096 (length (text_value bytes)))
         (λ f. by_fault at (b ∷ bytes) e (LongText at)
@@ -510,7 +512,7 @@ sign_end at b bytes e w d q m h = by_test (are_sign b (get_or bytes 0 0))
         (ends_by at (single b) (Bad 0) e (ap (λ u. cond u (Of Sign 1) (Bad 0)) t) k)
         (inl (omega arith, (w, d, q, t, m))))
 
-ends : (at : ℕ) (bytes : List ℕ) (e : Option LexFault) → EndsBy at (scanned bytes) e
+ends : (at : ℕ) (bytes : List ℕ) (e : Option LexFault) → EndsBy at (scan_of bytes) e
     → EndsSo at bytes e
 ends at [] e h = by_none at [] e h refl
 ends at (b ∷ bytes) e h =
@@ -520,7 +522,8 @@ ends at (b ∷ bytes) e h =
     (ends_by at (scanned_from b bytes) (scanned_number false 0 (digits_of (b ∷ bytes))) e
     (at_digit b bytes w d) h)) (λ d.
     by_test (b == 39) (λ q. text_end at b bytes e q
-    (ends_by at (scanned_from b bytes) (sized (length (text_value bytes)) (text_from 1 bytes)) e
+    (ends_by at (scanned_from b bytes) (scan_sized (length (text_value bytes)) (text_from 1 bytes))
+    e
     (at_quote b bytes w d q) h)) (λ q.
     by_test (b == 45 && is_digit (get_or bytes 0 0))
     (λ m. minus_end at b bytes e m (ends_by at (scanned_from b bytes)

@@ -7,12 +7,12 @@ use Rattle.prima_base.specs.Bytes.{is_control, is_digit, is_name_byte, first_fro
 use Rattle.prima_base.specs.Bytes.{IsName, IsTxt}
 use Rattle.lexer_spec.specs.declared.kind.TokenKind.{TokenKind}
 use Rattle.lexer_spec.specs.declared.kind.TokenKind.TheVariants.{Word, Number, Text, Sign}
-use Rattle.lexer_spec.specs.declared.scanned.Scanned.TheVariants.{Of}
-use Rattle.lexer_spec.specs.Bytes.{is_word_start, text_value, scanned}
+use Rattle.lexer_spec.specs.declared.scan_of.Scanned.TheVariants.{Of}
+use Rattle.lexer_spec.specs.Bytes.{is_word_start, text_value, scan_of}
 use Rattle.lexer_spec.specs.Lexemes.{is_name, is_one_of, reserved}
 use Rattle.lexer_spec.specs.Spaced as s
 use Rattle.lexer_spec.specs.Spaced.{Each, IsLiteral, IsToken}
-use Rattle.lexer_spec.proofs.Whole.{value_plain, value_doubled, value_last, and_left}
+use Rattle.lexer_spec.proofs.WholeTokens.{value_plain, value_doubled, value_last, and_left}
 use Rattle.lexer_spec.proofs.Shapes.{shape}
 
 none_left : (text prefix suffix : List ℕ) → text ≡ prefix ++ suffix → length text ≡ length prefix
@@ -22,7 +22,7 @@ none_left text prefix (b ∷ suffix) e h = absurd
     (omega (arith, h, ap length e, length-append prefix (b ∷ suffix)))
 
 -- a token alone has its kind's form
-alone : (kind : TokenKind) (text : List ℕ) → scanned text ≡ Of kind (length text)
+alone : (kind : TokenKind) (text : List ℕ) → scan_of text ≡ Of kind (length text)
     → (suffix : List ℕ)
     × IsToken kind text suffix
 alone kind text e =
@@ -57,7 +57,7 @@ word_is_name text b more e start h few =
     (no_digit b start) ∙ no_bad 0 (b ∷ more) (name_start b start, h) in
     record { some = omega (arith, ap length e); short = few; valid = ap first_bad e ∙ valid }
 
-pub named : (kind : TokenKind) (text : List ℕ) → scanned text ≡ Of kind (length text) → kind ≡ Word
+pub named : (kind : TokenKind) (text : List ℕ) → scan_of text ≡ Of kind (length text) → kind ≡ Word
     → is_name text ≡ true → IsName text
 named Word text e k ok = let h = alone Word text e in let t = h.1 in
     word_is_name text t.0 t.1 t.2 t.3 t.4 (short text ok)
@@ -81,7 +81,7 @@ stands_for value bytes (s.a_byte b v l q c h) = value_plain b l q
 stands_for value bytes (s.a_quote v l h) = value_doubled 39 39 l refl refl
     ∙ ap (λ t. 39 ∷ t) (stands_for v l h)
 
-pub texted : (literal : List ℕ) → scanned literal ≡ Of Text (length literal) → (0 < length literal)
+pub texted : (literal : List ℕ) → scan_of literal ≡ Of Text (length literal) → (0 < length literal)
     × IsTxt (text_value (drop 1 literal))
 texted literal e =
     let h = alone Text literal e in

@@ -6,9 +6,9 @@ use Rattle.std.specs.List.{prefix_len}
 use Rattle.prima_base.specs.Bytes.{is_control, is_digit, is_name_byte}
 use Rattle.prima_base.specs.Limits.{max_text}
 use Rattle.lexer_spec.specs.declared.kind.TokenKind.TheVariants.{Word, Number, Text, Sign}
-use Rattle.lexer_spec.specs.declared.scanned.Scanned.{Scanned}
-use Rattle.lexer_spec.specs.declared.scanned.Scanned.TheVariants.{End, Of, Bad, Open, Long}
-use Rattle.lexer_spec.specs.declared.scanned.Scanned.TheVariants.{Big}
+use Rattle.lexer_spec.specs.declared.scan_of.Scanned.{Scanned}
+use Rattle.lexer_spec.specs.declared.scan_of.Scanned.TheVariants.{End, Of, Bad, Open, Long}
+use Rattle.lexer_spec.specs.declared.scan_of.Scanned.TheVariants.{Big}
 
 abbrev pub is_word_start : ℕ → Bool
 is_word_start b = (nat_le 97 b && nat_le b 122) || ((nat_le 65 b && nat_le b 90) || b == 95)
@@ -82,9 +82,9 @@ unfoldable mutual
   text_quote n (b ∷ bytes) = if b == 39 then text_from (n + 2) bytes else Of Text (n + 1)
 
 -- a text that ends is too long when it stands for more bytes than a text has at most
-abbrev pub sized : ℕ → Scanned → Scanned
-sized size (Of kind n) = if nat_lt max_text size then Long else Of kind n
-sized size scanned = scanned
+abbrev pub scan_sized : ℕ → Scanned → Scanned
+scan_sized size (Of kind n) = if nat_lt max_text size then Long else Of kind n
+scan_sized size scan_of = scan_of
 
 -- ---- one token
 
@@ -100,13 +100,13 @@ unfoldable pub scanned_from : ℕ → List ℕ → Scanned
 scanned_from b bytes =
     if is_word_start b then Of Word (prefix_len is_name_byte bytes + 1)
     else (if is_digit b then scanned_number false 0 (digits_of (b ∷ bytes))
-    else (if b == 39 then sized (length (text_value bytes)) (text_from 1 bytes)
+    else (if b == 39 then scan_sized (length (text_value bytes)) (text_from 1 bytes)
     else (if b == 45 && is_digit (get_or bytes 0 0) then scanned_number true 1 (digits_of bytes)
     else sign b (get_or bytes 0 0))))
 
-abbrev pub scanned : List ℕ → Scanned
-scanned [] = End
-scanned (b ∷ bytes) = scanned_from b bytes
+abbrev pub scan_of : List ℕ → Scanned
+scan_of [] = End
+scan_of (b ∷ bytes) = scanned_from b bytes
 
 -- what is scanned lies within this many bytes
 abbrev pub Within : ℕ → Scanned → Type 0

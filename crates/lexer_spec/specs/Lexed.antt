@@ -3,13 +3,13 @@ use Rattle.std.specs.Prelude.{◌≡◌, ℕ, ◌+◌, ◌≤◌, false, List, [
 use Rattle.std.specs.Prelude.{Option, Some, None}
 use Rattle.lexer_spec.specs.declared.token.Token.{Token}
 use Rattle.lexer_spec.specs.declared.kind.TokenKind.{TokenKind}
-use Rattle.lexer_spec.specs.declared.scanned.Scanned.{Scanned}
-use Rattle.lexer_spec.specs.declared.scanned.Scanned.TheVariants.{End, Of, Bad, Open, Long}
-use Rattle.lexer_spec.specs.declared.scanned.Scanned.TheVariants.{Big}
+use Rattle.lexer_spec.specs.declared.scan_of.Scanned.{Scanned}
+use Rattle.lexer_spec.specs.declared.scan_of.Scanned.TheVariants.{End, Of, Bad, Open, Long}
+use Rattle.lexer_spec.specs.declared.scan_of.Scanned.TheVariants.{Big}
 use Rattle.lexer_spec.specs.declared.fault.LexFault.{LexFault}
 use Rattle.lexer_spec.specs.declared.fault.LexFault.TheVariants.{NoMemory, BadByte, OpenQuote}
 use Rattle.lexer_spec.specs.declared.fault.LexFault.TheVariants.{BigNumber, LongText}
-use Rattle.lexer_spec.specs.Bytes.{gap_len, scanned}
+use Rattle.lexer_spec.specs.Bytes.{gap_len, scan_of}
 
 -- how the tokens end, by what stands after the last gap
 abbrev pub EndsBy : ℕ → Scanned → Option LexFault → Type 0
@@ -25,8 +25,8 @@ after_gap bytes = drop (gap_len false 0 bytes) bytes
 
 -- from the place on these are the tokens, and then the end or a fault
 abbrev pub Lexes : ℕ → List ℕ → List Token → Option LexFault → Type 0
-Lexes at bytes [] e = EndsBy (at + gap_len false 0 bytes) (scanned (after_gap bytes)) e
-Lexes at bytes (t ∷ ts) e = (scanned (after_gap bytes) ≡ Of t.kind (length t.text.now))
+Lexes at bytes [] e = EndsBy (at + gap_len false 0 bytes) (scan_of (after_gap bytes)) e
+Lexes at bytes (t ∷ ts) e = (scan_of (after_gap bytes) ≡ Of t.kind (length t.text.now))
     × (t.text.now ≡ take (length t.text.now) (after_gap bytes))
     × (t.at ≡ at + gap_len false 0 bytes)
     × Lexes (t.at + length t.text.now) (drop (length t.text.now) (after_gap bytes)) ts e

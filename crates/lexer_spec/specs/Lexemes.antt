@@ -16,16 +16,16 @@ pub data Lexeme : Type 0 where
   sign : List ℕ → Lexeme
 
 -- the number, or the one below zero
-abbrev pub signed : Bool → ℕ → ℤ
-signed false n = pos n
-signed true zero = pos zero
-signed true (suc n) = negsuc n
+abbrev pub signed_value : Bool → ℕ → ℤ
+signed_value false n = pos n
+signed_value true zero = pos zero
+signed_value true (suc n) = negsuc n
 
 -- a number by its bytes
 abbrev pub integer : List ℕ → ℤ
 integer [] = pos 0
-integer (b ∷ bytes) = if b == 45 then signed true (value_of bytes)
-    else signed false (value_of (b ∷ bytes))
+integer (b ∷ bytes) = if b == 45 then signed_value true (value_of bytes)
+    else signed_value false (value_of (b ∷ bytes))
 
 abbrev pub says : TokenKind → List ℕ → Lexeme
 says Word bytes = word bytes

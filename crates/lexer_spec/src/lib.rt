@@ -12,11 +12,11 @@
 mod fault;
 mod kind;
 mod laws;
-mod scanned;
+mod scan_of;
 mod token;
 
 pub use fault::LexFault;
 pub use kind::TokenKind;
 pub use laws::{lexes_once, tokens_are_spaced, tokens_in_place};
-pub use scanned::Scanned;
+pub use scan_of::Scanned;
 pub use token::Token;

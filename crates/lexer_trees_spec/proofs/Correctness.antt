@@ -19,7 +19,8 @@ use Rattle.lexer_combinators.specs.Grammar.{Size, nothing_counted, both, one_nod
 use Rattle.lexer_combinators.specs.Grammar.{AreMore, no_end}
 use Rattle.lexer_combinators.specs.Grammar as grammar
 use Rattle.lexer_trees_spec.specs.Grammar as g
-use Rattle.lexer_trees_spec.specs.Grammar.{spelled, leaf, IsExpr, AreParts, IsFact, AreFacts}
+use Rattle.lexer_trees_spec.specs.Grammar.{comparison_lexeme, leaf, IsExpr, AreParts, IsFact}
+use Rattle.lexer_trees_spec.specs.Grammar.{AreFacts}
 use Rattle.lexer_trees_spec.specs.Grammar.{IsConj}
 use Rattle.lexer_trees_spec.specs.Grammar.{AreConjs, IsCond}
 use Rattle.lexer_trees_spec.specs.Constants.{name, name_grammar}
@@ -306,7 +307,7 @@ module _ (q may : Bool) (d : ℕ) (inside : Level) (deep : may ≡ true → (e :
 
   -- ---- comparisons
 
-  spelled_op : (o : CmpOp) → sign_op (spelled o) ≡ Some o
+  spelled_op : (o : CmpOp) → sign_op (comparison_lexeme o) ≡ Some o
   spelled_op Eq = refl
   spelled_op Ne = refl
   spelled_op Lt = refl
@@ -314,7 +315,7 @@ module _ (q may : Bool) (d : ℕ) (inside : Level) (deep : may ≡ true → (e :
   spelled_op Gt = refl
   spelled_op Ge = refl
 
-  no_point : (o : CmpOp) → follow_expr q (spelled o) ≡ false
+  no_point : (o : CmpOp) → follow_expr q (comparison_lexeme o) ≡ false
   no_point Eq = refl
   no_point Ne = refl
   no_point Lt = refl
@@ -331,10 +332,10 @@ module _ (q may : Bool) (d : ℕ) (inside : Level) (deep : may ≡ true → (e :
   compare_grammar a = op_grammar (λ o. grammar.node (right_grammar q a o))
 
   compare_down : (a : Tree) (o : CmpOp) (c : Test) (s : Size) (l : List Lexeme)
-      → compare_grammar a c s (spelled o ∷ l) → grammar.node (right_grammar q a o) c s l
+      → compare_grammar a c s (comparison_lexeme o ∷ l) → grammar.node (right_grammar q a o) c s l
   compare_down a o c s l h =
       let e = h.1.1 in
-      let z : spelled o ≡ spelled h.0 = cc in
+      let z : comparison_lexeme o ≡ comparison_lexeme h.0 = cc in
       let same : Some o ≡ Some h.0 = sym (spelled_op o) ∙ ap sign_op z ∙ spelled_op h.0 in
       let k : o ≡ h.0 = cc in
       let m : l ≡ h.1.0 = cc in
@@ -345,24 +346,24 @@ module _ (q may : Bool) (d : ℕ) (inside : Level) (deep : may ≡ true → (e :
   op_arms : (a : Tree) (x : Lexeme) (o : Option CmpOp) → sign_op x ≡ o
       → ArmCorrect 0 d (op_arm (λ o. Counts (map_to (λ b. compared o a b) (expr q may inside))) o) x
       (compare_grammar a) (follow_expr q)
-  op_arms a x None e = λ c s l h. let k = h.1.1 in let z : x ≡ spelled h.0 = cc in
+  op_arms a x None e = λ c s l h. let k = h.1.1 in let z : x ≡ comparison_lexeme h.0 = cc in
       let m : None ≡ Some h.0 = sym e ∙ ap sign_op z ∙ spelled_op h.0 in cc
   op_arms a x (Some o) e =
       let R : Lexeme → Type 0 = λ y. ArmCorrect 0 d
       (Counts (map_to (λ b. compared o a b) (expr q may inside))) y (compare_grammar a)
       (follow_expr q) in
       subst R (sym (op_exact x o e))
-      (counts_correct 0 d (map_to (λ b. compared o a b) (expr q may inside)) (spelled o)
+      (counts_correct 0 d (map_to (λ b. compared o a b) (expr q may inside)) (comparison_lexeme o)
       (compare_grammar a) (right_grammar q a o) (follow_expr q)
       (λ c s l h. (o, (l, refl, (s, refl, h)))) (compare_down a o) (right_correct a o))
     where
       by_op : (b : Bool) (o p : CmpOp) (rest : Option CmpOp) (y : Lexeme)
-          → (b ≡ true → y ≡ spelled p) → (rest ≡ Some o → y ≡ spelled o)
-          → cond b (Some p) rest ≡ Some o → y ≡ spelled o
-      by_op true o p rest y h k f = let m : p ≡ o = cc in h refl ∙ ap spelled m
+          → (b ≡ true → y ≡ comparison_lexeme p) → (rest ≡ Some o → y ≡ comparison_lexeme o)
+          → cond b (Some p) rest ≡ Some o → y ≡ comparison_lexeme o
+      by_op true o p rest y h k f = let m : p ≡ o = cc in h refl ∙ ap comparison_lexeme m
       by_op false o p rest y h k f = k f
 
-      op_exact : (x : Lexeme) (o : CmpOp) → sign_op x ≡ Some o → x ≡ spelled o
+      op_exact : (x : Lexeme) (o : CmpOp) → sign_op x ≡ Some o → x ≡ comparison_lexeme o
       op_exact x o =
           by_op (is_sign (codes "=") x) o Eq _ x (sign_exact (codes "=") x)
           (by_op (is_sign (codes "<>") x) o Ne _ x (sign_exact (codes "<>") x)

@@ -17,7 +17,7 @@ use Rattle.lexer_combinators.specs.Parsing.{Out, Parsed, LimitExceeded, Parser, 
 use Rattle.lexer_combinators.specs.Parsing.{and_then, bind, pure, lead, map_to, more, choose}
 use Rattle.lexer_combinators.specs.Parsing.{arm_run, single_arm, No, Takes, Counts}
 use Rattle.lexer_combinators.specs.Grammar.{Size}
-use Rattle.lexer_trees_spec.specs.Grammar.{spelled, IsExpr}
+use Rattle.lexer_trees_spec.specs.Grammar.{comparison_lexeme, IsExpr}
 use Rattle.lexer_combinators.specs.TokenCounts.{TokenCounts, plain, node, begins, opened}
 use Rattle.lexer_trees_spec.specs.Constants.{name}
 use Rattle.lexer_trees_spec.specs.Reader.{level, can, inside, ref_rest, sign_op, op_arm, expr}
@@ -376,7 +376,7 @@ of_alias_read a m e f d n h rest stops =
     (sign POINT ∷ word m ∷ rest))
 
 module _ (q : Bool) where
-  pub no_point : (o : CmpOp) → follow_expr q (spelled o) ≡ false
+  pub no_point : (o : CmpOp) → follow_expr q (comparison_lexeme o) ≡ false
   no_point Eq = refl
   no_point Ne = refl
   no_point Lt = refl
@@ -428,7 +428,7 @@ module _ (q : Bool) where
         ∙ sym (open_along d c n (plain ∷ (ms ++ plain ∷ []))
         (sign OPEN ∷ ((k ++ sign CLOSE ∷ []) ++ rest)))
 
-  pub spelled_op : (o : CmpOp) → sign_op (spelled o) ≡ Some o
+  pub spelled_op : (o : CmpOp) → sign_op (comparison_lexeme o) ≡ Some o
   spelled_op Eq = refl
   spelled_op Ne = refl
   spelled_op Lt = refl
@@ -454,23 +454,23 @@ module _ (q : Bool) where
         (sign_op x))
 
     right_part : (d n : ℕ) → n ≤ 256 → (rest : List Lexeme) → Stops (follow_expr fb) rest
-        → rest_of d a n (spelled o ∷ (m ++ rest))
-        ≡ along d (compared o a b) n (node ∷ ks) (spelled o ∷ (m ++ rest))
+        → rest_of d a n (comparison_lexeme o ∷ (m ++ rest))
+        ≡ along d (compared o a b) n (node ∷ ks) (comparison_lexeme o ∷ (m ++ rest))
     right_part d n h rest stops =
         ap (λ p. arm_run (op_arm (λ p. Counts (map_to (λ v. compared p a v) (level q d).expr)) p)
-        (spelled o) n (m ++ rest)) (spelled_op o)
+        (comparison_lexeme o) n (m ++ rest)) (spelled_op o)
         ∙ in_room n (map_to (λ v. compared o a v) (level q d).expr (n + 1) (m ++ rest))
         (along d (compared o a b) (n + 1) ks (m ++ rest)) _
         (λ i. ap (λ r. and_then r (λ v. pure (compared o a v))) (right d (n + 1) i rest stops)
         ∙ map_along d (λ v. compared o a v) b (n + 1) ks (m ++ rest))
-        ∙ sym (node_along d (compared o a b) n h ks (spelled o) (m ++ rest))
+        ∙ sym (node_along d (compared o a b) n h ks (comparison_lexeme o) (m ++ rest))
 
     both_parts : (d n : ℕ) → n ≤ 256 → (rest : List Lexeme) → Stops (follow_expr fb) rest
-        → bind (level q d).expr (rest_of d) n (k ++ spelled o ∷ (m ++ rest))
-        ≡ along d (compared o a b) n (ms ++ node ∷ ks) (k ++ spelled o ∷ (m ++ rest))
+        → bind (level q d).expr (rest_of d) n (k ++ comparison_lexeme o ∷ (m ++ rest))
+        ≡ along d (compared o a b) n (ms ++ node ∷ ks) (k ++ comparison_lexeme o ∷ (m ++ rest))
     both_parts d n h rest stops = bind_along d (level q d).expr (rest_of d) a (compared o a b) ms
-        (node ∷ ks) k (spelled o ∷ (m ++ rest)) n h len
-        (left d n h (spelled o ∷ (m ++ rest)) (no_point fa o))
+        (node ∷ ks) k (comparison_lexeme o ∷ (m ++ rest)) n h len
+        (left d n h (comparison_lexeme o ∷ (m ++ rest)) (no_point fa o))
         (λ j i z. right_part d j i rest stops)
 
     as_fact : (d n : ℕ) (ts : List Lexeme) → fact_at q d n ts ≡ (level q d).fact n ts
@@ -490,9 +490,10 @@ module _ (q : Bool) where
         (λ x. op_arm (λ p. Counts (map_to (λ v. compared p u v) L.expr)) (sign_op x))) n
         (k ++ us)) (level_is q d))
 
-    pub compared_read : FactRead q fb (compared o a b) (k ++ spelled o ∷ m) (ms ++ node ∷ ks)
+    pub compared_read : FactRead q fb (compared o a b) (k ++ comparison_lexeme o ∷ m)
+        (ms ++ node ∷ ks)
     compared_read d n h rest stops =
         at (fact_at q d n) (along d (compared o a b) n (ms ++ node ∷ ks))
-        ((k ++ spelled o ∷ m) ++ rest) (k ++ spelled o ∷ (m ++ rest))
-        (append_assoc k (spelled o ∷ m) rest)
-        (as_compared d n (spelled o ∷ (m ++ rest)) ∙ both_parts d n h rest stops)
+        ((k ++ comparison_lexeme o ∷ m) ++ rest) (k ++ comparison_lexeme o ∷ (m ++ rest))
+        (append_assoc k (comparison_lexeme o ∷ m) rest)
+        (as_compared d n (comparison_lexeme o ∷ (m ++ rest)) ∙ both_parts d n h rest stops)

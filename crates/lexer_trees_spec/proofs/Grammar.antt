@@ -18,7 +18,8 @@ use Rattle.lexer_combinators.specs.Grammar as grammar
 use Rattle.lexer_combinators.specs.Derivations.{Derivation, derivation, after_lexeme}
 use Rattle.lexer_trees_spec.specs.Constants.{name_grammar}
 use Rattle.lexer_trees_spec.specs.Grammar as g
-use Rattle.lexer_trees_spec.specs.Grammar.{spelled, leaf, IsExpr, AreParts, IsFact, AreFacts}
+use Rattle.lexer_trees_spec.specs.Grammar.{comparison_lexeme, leaf, IsExpr, AreParts, IsFact}
+use Rattle.lexer_trees_spec.specs.Grammar.{AreFacts}
 use Rattle.lexer_trees_spec.specs.Grammar.{IsConj}
 use Rattle.lexer_trees_spec.specs.Grammar.{AreConjs, IsCond}
 use Rattle.lexer_spec.proofs.Cases.{true_false}
@@ -435,7 +436,7 @@ expr_not_none q e s h = let k = expr_some q e s [] h in let z = k.2 in cc
 -- ---- the forms of a fact
 
 abbrev pub op_grammar : (CmpOp → Grammar Test) → Grammar Test
-op_grammar K c s ts = (o : CmpOp) × grammar.lead (spelled o) (K o) c s ts
+op_grammar K c s ts = (o : CmpOp) × grammar.lead (comparison_lexeme o) (K o) c s ts
 
 -- the sign of a comparison, and what stands after it
 abbrev pub sign_of : {K : CmpOp → Grammar Test} → Derivation (op_grammar K) → CmpOp
@@ -444,7 +445,7 @@ sign_of d = d.derives.0
 abbrev pub after_sign : {K : CmpOp → Grammar Test} (d : Derivation (op_grammar K))
     → Derivation (K (sign_of d))
 after_sign {K} d =
-    let led : Derivation (grammar.lead (spelled (sign_of d)) (K (sign_of d))) =
+    let led : Derivation (grammar.lead (comparison_lexeme (sign_of d)) (K (sign_of d))) =
     derivation d.value d.size d.lexemes d.derives.1 in
     after_lexeme led
 
@@ -500,7 +501,7 @@ fact_inv q c s ts (g.comparison p o a b u v f k ha hb) =
       u,
       one_node v,
       f,
-      spelled o ∷ k,
+      comparison_lexeme o ∷ k,
       refl,
       refl,
       ha,

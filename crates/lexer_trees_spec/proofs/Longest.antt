@@ -9,7 +9,8 @@ use Rattle.lexer_combinators.specs.Grammar.{Grammar}
 use Rattle.lexer_combinators.specs.Parsing.{Stops, CanGoOn, Fine, Exceeds}
 use Rattle.lexer_combinators.specs.Grammar.{Size, both, one_node, one_open, nothing_counted}
 use Rattle.lexer_trees_spec.specs.Grammar as g
-use Rattle.lexer_trees_spec.specs.Grammar.{spelled, leaf, IsExpr, IsFact, AreFacts, IsConj}
+use Rattle.lexer_trees_spec.specs.Grammar.{comparison_lexeme, leaf, IsExpr, IsFact, AreFacts}
+use Rattle.lexer_trees_spec.specs.Grammar.{IsConj}
 use Rattle.lexer_trees_spec.specs.Grammar.{AreConjs}
 use Rattle.lexer_trees_spec.specs.Grammar.{IsCond}
 use Rattle.lexer_combinators.specs.TokenCounts.{TokenCounts, crossed_by}
@@ -66,7 +67,7 @@ fact_grows q c s f (g.falsehood p) r = true_false (sym r)
 fact_grows q c s f (g.comparison p o a b u v k m ha hb) r =
     let i = expr_grows p b v m hb r in
     let P : List Lexeme → Type 0 = λ l. (d : Test) × (t : Size) × IsFact p d t l in
-    subst P (sym (append_assoc k (spelled o ∷ m) after))
+    subst P (sym (append_assoc k (comparison_lexeme o ∷ m) after))
     (_, _, g.comparison p o a i.0 u i.1 k (m ++ after) ha i.2)
 
 -- ---- the last of what AND joins, and what stands in its place

@@ -19,7 +19,8 @@ use Rattle.lexer_combinators.specs.Derivations.{rest_of, source_of, in_node}
 use Rattle.lexer_combinators.proofs.DerivationLaws.{given_value, made_value}
 use Rattle.lexer_trees_spec.specs.Constants.{name_grammar}
 use Rattle.lexer_trees_spec.specs.Grammar as g
-use Rattle.lexer_trees_spec.specs.Grammar.{spelled, leaf, IsExpr, AreParts, IsFact, AreFacts}
+use Rattle.lexer_trees_spec.specs.Grammar.{comparison_lexeme, leaf, IsExpr, AreParts, IsFact}
+use Rattle.lexer_trees_spec.specs.Grammar.{AreFacts}
 use Rattle.lexer_trees_spec.specs.Grammar.{IsConj}
 use Rattle.lexer_trees_spec.specs.Grammar.{AreConjs, IsCond}
 use Rattle.lexer_trees_spec.specs.Reader.{follow_expr, follow_cond}
@@ -349,17 +350,18 @@ module _ (q : Bool) where
       (one_counted (grammar.pure never) never [] (one_pure never))
 
   one_sign : (o : CmpOp) (a b : Tree) (k : List Lexeme) → OnePrefix (IsExpr q) b k
-      → OnePrefix (sign_grammar q a) (compared o a b) (spelled o ∷ k)
+      → OnePrefix (sign_grammar q a) (compared o a b) (comparison_lexeme o ∷ k)
   one_sign o a b k ob t m us vs h e =
       let whole : Derivation (sign_grammar q a) = derivation _ t m h in
       let side : Derivation (right_grammar q a (sign_of whole)) = in_node (after_sign whole) in
       let same : o ≡ sign_of whole =
       told (sign_of whole) (source_of side).value (made_value side) in
-      let P : CmpOp → Type 0 = λ p. grammar.lead (spelled p) (grammar.node (right_grammar q a p))
+      let P : CmpOp → Type 0 = λ p. grammar.lead (comparison_lexeme p)
+      (grammar.node (right_grammar q a p))
       (compared o a b) t m in
       let right : OnePrefix (right_grammar q a o) (compared o a b) k =
       one_map (λ y. compared o a y) (IsExpr q) b k (λ y r. cc) ob in
-      one_lead (grammar.node (right_grammar q a o)) (compared o a b) k (spelled o)
+      one_lead (grammar.node (right_grammar q a o)) (compared o a b) k (comparison_lexeme o)
       (one_counted (right_grammar q a o) (compared o a b) k right) t m us vs
       (subst P (sym same) h.1) e
     where
@@ -367,9 +369,10 @@ module _ (q : Bool) where
       told p y r = cc
 
   one_cmp : (o : CmpOp) (a b : Tree) (f k : List Lexeme) → OnePrefix (IsExpr q) a f
-      → OnePrefix (IsExpr q) b k → OnePrefix (cmp_grammar q) (compared o a b) (f ++ spelled o ∷ k)
+      → OnePrefix (IsExpr q) b k → OnePrefix (cmp_grammar q) (compared o a b)
+      (f ++ comparison_lexeme o ∷ k)
   one_cmp o a b f k oa ob = one_bind (IsExpr q) (sign_grammar q) a (compared o a b) f
-      (spelled o ∷ k) same_left oa (one_sign o a b k ob)
+      (comparison_lexeme o ∷ k) same_left oa (one_sign o a b k ob)
     where
       same_left : (x : Tree) (u : Size) (l : List Lexeme)
           → sign_grammar q x (compared o a b) u l → x ≡ a
@@ -586,7 +589,7 @@ mutual
   fact_prefix q c s f (g.truth p) = one_truth p
   fact_prefix q c s f (g.falsehood p) = one_falsehood p
   fact_prefix q c s f (g.comparison p o a b u v k m ha hb) =
-      by_cmp p a u k ha (compared o a b) (spelled o ∷ m)
+      by_cmp p a u k ha (compared o a b) (comparison_lexeme o ∷ m)
       (one_cmp p o a b k m (expr_prefix p a u k ha) (expr_prefix p b v m hb))
 
   facts_prefix : (q : Bool) (j : ℕ) (l : List Test) (s : Size) (f : List Lexeme) → AreFacts q l s f

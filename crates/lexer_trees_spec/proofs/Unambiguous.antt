@@ -18,7 +18,8 @@ use Rattle.lexer_combinators.specs.Grammar.{so_wide, AreMore, no_end}
 use Rattle.lexer_combinators.specs.Grammar as grammar
 use Rattle.lexer_trees_spec.specs.Constants.{as_name, name_grammar}
 use Rattle.lexer_trees_spec.specs.Grammar as g
-use Rattle.lexer_trees_spec.specs.Grammar.{spelled, leaf, IsExpr, AreParts, IsFact, AreFacts}
+use Rattle.lexer_trees_spec.specs.Grammar.{comparison_lexeme, leaf, IsExpr, AreParts, IsFact}
+use Rattle.lexer_trees_spec.specs.Grammar.{AreFacts}
 use Rattle.lexer_trees_spec.specs.Grammar.{IsConj}
 use Rattle.lexer_trees_spec.specs.Grammar.{AreConjs, IsCond}
 use Rattle.lexer_trees_spec.specs.Reader.{sign_op, follow_expr, follow_conj, follow_cond}
@@ -403,10 +404,11 @@ module _ (q : Bool) where
 
   only_sign : (a : Tree) (o : CmpOp) (c : Test) (s : Size) (f : List Lexeme)
       → Only (grammar.node (right_grammar q a o)) follow c s f
-      → Only (sign_grammar a) follow c s (spelled o ∷ f)
+      → Only (sign_grammar a) follow c s (comparison_lexeme o ∷ f)
   only_sign a o c s f r b t k us vs h su sv e =
-      let z : spelled o ∷ (f ++ us) ≡ spelled h.0 ∷ (h.1.0 ++ vs) = e ∙ ap (λ l. l ++ vs) h.1.1 in
-      let y : spelled o ≡ spelled h.0 = cc in
+      let z : comparison_lexeme o ∷ (f ++ us) ≡ comparison_lexeme h.0 ∷ (h.1.0 ++ vs) = e
+      ∙ ap (λ l. l ++ vs) h.1.1 in
+      let y : comparison_lexeme o ≡ comparison_lexeme h.0 = cc in
       let w : Some o ≡ Some h.0 = sym (spelled_op q o) ∙ ap sign_op y ∙ spelled_op q h.0 in
       let v : o ≡ h.0 = cc in
       let P : CmpOp → Type 0 = λ p. grammar.node (right_grammar q a p) b t h.1.0 in
@@ -419,10 +421,11 @@ module _ (q : Bool) where
 
   only_cmp : (o : CmpOp) (a b : Tree) (s t : Size) (f k : List Lexeme) → IsExpr q b t k
       → Only (IsExpr q) follow a s f → Only (IsExpr q) follow b t k
-      → Only (cmp_grammar q) follow (compared o a b) (both s (one_node t)) (f ++ spelled o ∷ k)
+      → Only (cmp_grammar q) follow (compared o a b) (both s (one_node t))
+      (f ++ comparison_lexeme o ∷ k)
   only_cmp o a b s t f k hb oa ob =
       only_bind (IsExpr q) sign_grammar follow follow a (compared o a b) s (one_node t) f
-      (spelled o ∷ k) (o, (k, refl, (t, refl, (b, refl, hb)))) sign_side oa
+      (comparison_lexeme o ∷ k) (o, (k, refl, (t, refl, (b, refl, hb)))) sign_side oa
       (only_sign a o (compared o a b) (one_node t) k
       (only_node (right_grammar q a o) follow (compared o a b) t k
       (only_map (λ y. compared o a y) (IsExpr q) follow b t k ob)))
@@ -566,7 +569,7 @@ mutual
   only_fact q c s f (g.truth p) = only_truth p
   only_fact q c s f (g.falsehood p) = only_falsehood p
   only_fact q c s f (g.comparison p o a b u v k m ha hb) =
-      by_cmp p a u k ha (compared o a b) (both u (one_node v)) (spelled o ∷ m)
+      by_cmp p a u k ha (compared o a b) (both u (one_node v)) (comparison_lexeme o ∷ m)
       (only_cmp p o a b u v k m hb (only_expr p a u k ha) (only_expr p b v m hb))
 
   only_facts : (q : Bool) (j : ℕ) (l : List Test) (s : Size) (f : List Lexeme) → AreFacts q l s f

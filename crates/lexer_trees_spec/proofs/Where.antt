@@ -4,13 +4,13 @@ use Rattle.cond_expr.specs.Trees.{always}
 use Rattle.lexer_spec.specs.Lexemes.{Lexeme, word, is_word}
 use Rattle.lexer_combinators.specs.Parsing.{IsCorrectParser, fresh}
 use Rattle.lexer_combinators.specs.Grammar as grammar
-use Rattle.lexer_combinators.specs.ListCrossings.{fresh_crossing}
+use Rattle.lexer_combinators.specs.ListOverflows.{fresh_overflow}
 use Rattle.lexer_trees_spec.specs.Grammar.{IsCond}
 use Rattle.lexer_trees_spec.specs.Reader.{outermost, follow_cond}
 use Rattle.lexer_trees_spec.specs.TreeCounts.{cond_counts}
 use Rattle.lexer_trees_spec.specs.Where.{IsWhere, IsFreshWhere, outer_where, fresh_where}
 use Rattle.lexer_trees_spec.specs.Where.{follow_where}
-use Rattle.lexer_trees_spec.specs.Where.{where_crossings}
+use Rattle.lexer_trees_spec.specs.Where.{where_overflows}
 use Rattle.lexer_spec.proofs.LexemeTests.{word_exact, word_is}
 use Rattle.lexer_combinators.proofs.Parsing.{correct_follow, option_takes_correct}
 use Rattle.lexer_combinators.proofs.Alternatives.{or_left, or_right}
@@ -45,14 +45,14 @@ fresh_where_correct q = option_takes_correct (is_word (codes "WHERE")) (word (co
     (follow_where q) (stops_cond q) (fresh_cond_correct q 0))
 
 pub fresh_where_along : (q : Bool) → GoesAlong (fresh_where q) (IsFreshWhere q) (follow_where q)
-    (where_crossings q)
+    (where_overflows q)
 unfolding fresh_where
 fresh_where_along q = option_follow (is_word (codes "WHERE")) (word (codes "WHERE"))
     (word_is (codes "WHERE")) (fresh (outermost q).cond) always (grammar.fresh (IsCond q))
     (follow_where q)
     (λ x h. or_left (is_word (codes "WHERE") x) (follow_cond q x) h)
-    (fresh_crossing (IsCond q) (cond_counts q))
+    (fresh_overflow (IsCond q) (cond_counts q))
     (stops_along (fresh (outermost q).cond) (grammar.fresh (IsCond q)) (follow_cond q)
-    (follow_where q) (fresh_crossing (IsCond q) (cond_counts q)) (stops_cond q)
+    (follow_where q) (fresh_overflow (IsCond q) (cond_counts q)) (stops_cond q)
     (fresh_follow (outermost q).cond (IsCond q) (follow_cond q) (outermost_correct q).cond
     (cond_counts q) (cond_length q) (cond_counted q)))

@@ -13,13 +13,13 @@ use Rattle.lexer_spec.specs.Lexemes.{Lexeme, word, number, text, sign, is_name, 
 use Rattle.lexer_combinators.specs.Grammar.{Size, nothing_counted, both, one_node, one_open}
 use Rattle.lexer_combinators.specs.Grammar.{so_wide}
 
-abbrev pub spelled : CmpOp → Lexeme
-spelled Eq = sign (codes "=")
-spelled Ne = sign (codes "<>")
-spelled Lt = sign (codes "<")
-spelled Le = sign (codes "<=")
-spelled Gt = sign (codes ">")
-spelled Ge = sign (codes ">=")
+abbrev pub comparison_lexeme : CmpOp → Lexeme
+comparison_lexeme Eq = sign (codes "=")
+comparison_lexeme Ne = sign (codes "<>")
+comparison_lexeme Lt = sign (codes "<")
+comparison_lexeme Le = sign (codes "<=")
+comparison_lexeme Gt = sign (codes ">")
+comparison_lexeme Ge = sign (codes ">=")
 
 -- a single node
 abbrev pub leaf : Size
@@ -66,7 +66,7 @@ mutual
     falsehood : (q : Bool) → IsFact q never leaf (word (codes "FALSE") ∷ [])
     comparison : (q : Bool) (o : CmpOp) (a b : Tree) (s t : Size) (f g : List Lexeme)
         → IsExpr q a s f → IsExpr q b t g → IsFact q (compared o a b) (both s (one_node t))
-        (f ++ spelled o ∷ g)
+        (f ++ comparison_lexeme o ∷ g)
 
   -- { AND fact }
   pub data AreFacts : Bool → List Test → Size → List Lexeme → Type 0 where

@@ -4,7 +4,7 @@ use Rattle.cond_expr.specs.Trees.{Tree, Test}
 use Rattle.lexer_spec.specs.Lexemes.{Lexeme}
 use Rattle.lexer_combinators.specs.Grammar.{Size}
 use Rattle.lexer_combinators.specs.TokenCounts.{TokenCounts, plain, node, begins, opened}
-use Rattle.lexer_combinators.specs.ListCrossings.{Crossing, count_crossing}
+use Rattle.lexer_combinators.specs.ListOverflows.{Overflow, count_overflow}
 use Rattle.lexer_trees_spec.specs.Grammar as g
 use Rattle.lexer_trees_spec.specs.Grammar.{IsExpr, AreParts, IsFact, AreFacts, IsConj, AreConjs}
 use Rattle.lexer_trees_spec.specs.Grammar.{IsCond}
@@ -69,8 +69,8 @@ unfoldable mutual
       conj_counts p d u k hd ++ node ∷ (conj_counts p e v m he ++ conjs_counts p l w o hl)
 
 -- at which of them a count passes its limit
-abbrev pub expr_crossings : (q : Bool) → Crossing (IsExpr q)
-expr_crossings q = count_crossing (IsExpr q) (expr_counts q)
+abbrev pub expr_overflows : (q : Bool) → Overflow (IsExpr q)
+expr_overflows q = count_overflow (IsExpr q) (expr_counts q)
 
-abbrev pub cond_crossings : (q : Bool) → Crossing (IsCond q)
-cond_crossings q = count_crossing (IsCond q) (cond_counts q)
+abbrev pub cond_overflows : (q : Bool) → Overflow (IsCond q)
+cond_overflows q = count_overflow (IsCond q) (cond_counts q)

@@ -5,7 +5,7 @@ use Rattle.lexer_spec.specs.Lexemes.{Lexeme, word, is_word}
 use Rattle.lexer_combinators.specs.Parsing.{Parser, Takes, option, fresh}
 use Rattle.lexer_combinators.specs.Grammar.{Grammar}
 use Rattle.lexer_combinators.specs.Grammar as grammar
-use Rattle.lexer_combinators.specs.ListCrossings.{Crossing, option_crossing, fresh_crossing}
+use Rattle.lexer_combinators.specs.ListOverflows.{Overflow, option_overflow, fresh_overflow}
 use Rattle.lexer_trees_spec.specs.Grammar.{IsCond}
 use Rattle.lexer_trees_spec.specs.Reader.{outermost, follow_cond}
 use Rattle.lexer_trees_spec.specs.TreeCounts.{cond_counts}
@@ -39,6 +39,6 @@ follow_where q x = is_word (codes "WHERE") x || follow_cond q x
 
 -- ---- at which of its tokens a count passes its limit
 
-abbrev pub where_crossings : (q : Bool) → Crossing (IsFreshWhere q)
-where_crossings q = option_crossing always (word (codes "WHERE")) (grammar.fresh (IsCond q))
-    (fresh_crossing (IsCond q) (cond_counts q))
+abbrev pub where_overflows : (q : Bool) → Overflow (IsFreshWhere q)
+where_overflows q = option_overflow always (word (codes "WHERE")) (grammar.fresh (IsCond q))
+    (fresh_overflow (IsCond q) (cond_counts q))

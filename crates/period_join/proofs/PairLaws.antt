@@ -45,7 +45,7 @@ module _ (relation : Relation) (d : TimedRow) where
           → In pair (cond b ((i, j) ∷ with_each relation i p (j + 1) right)
           (with_each relation i p (j + 1) right))
           → (In pair (with_each relation i p (j + 1) right)
-              → IsWith relation i p (j + 1) right d pair)
+          → IsWith relation i p (j + 1) right d pair)
           → IsWith relation i p j (q ∷ right) d pair
       step true e (inl h) f = record {
         place = sym (ap (λ (w : ℕ × ℕ). w.0) h);

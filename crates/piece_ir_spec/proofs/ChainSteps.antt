@@ -15,14 +15,14 @@ use Rattle.smo_ops_spec.specs.Effects.{rows_under}
 use Rattle.smo_ops_spec.specs.OperatorTable.{Made, line, made_names}
 use Rattle.smo_ops_spec.specs.Touching.{makes, consumes, made_of}
 use Rattle.smo_ops_spec.specs.Losses.{IsDatabaseWithLosses, Loss, loss_of, loss_in, first_loss}
-use Rattle.smo_ops_spec.specs.After.{op_fault, schema_after, carried, IsValid}
+use Rattle.smo_ops_spec.specs.After.{op_fault, schema_after, migrate, IsValid}
 use Rattle.smo_ops_spec.specs.ValidValues.{OperatorHolds, HoldsValues}
 use Rattle.smo_ops_spec.proofs.NameLaws.{among_in}
 use Rattle.smo_ops_spec.proofs.LossLaws.{losses_handed_on}
 use Rattle.smo_ops_spec.proofs.TouchedTables.{entry_stays, table_stays, table_gone}
-use Rattle.smo_ops_spec.proofs.CarriedDatabases.{carried_with_losses}
-use Rattle.smo_ops_spec.proofs.ValueLaws.{carried_values}
-use Rattle.smo_ops_versions_spec.specs.Whole.{whole_entry, whole}
+use Rattle.smo_ops_spec.proofs.MigratedDatabases.{migrated_with_losses}
+use Rattle.smo_ops_spec.proofs.ValueLaws.{migrated_values}
+use Rattle.smo_ops_versions_spec.specs.LostAsEmpty.{entry_emptied, whole}
 use Rattle.smo_ops_versions_spec.specs.Steps.{Step, carrying, undoing, tables_before, tables_behind}
 use Rattle.smo_ops_versions_spec.specs.Steps.{taken}
 use Rattle.smo_ops_versions_spec.specs.Steps.{taken_back, IsLawful, Lead, AllSteps, StepHolds}
@@ -102,7 +102,7 @@ both_steps H K t u w f g f' g' a b = record {
 -- ---- over an operator
 
 -- what is lost has no rows, and may be taken for what has none
-whole_is : (x : Option DatabaseEntry) → rows_under (option_map whole_entry x) ≡ rows_under x
+whole_is : (x : Option DatabaseEntry) → rows_under (option_map entry_emptied x) ≡ rows_under x
 whole_is None = refl
 whole_is (Some (Rows rows)) = refl
 whole_is (Some (Lost k i)) = refl
@@ -130,7 +130,7 @@ module _ (tables : Tables) (op : Operator) (accepted : op_fault tables op ≡ No
 
   -- a made table that is not lost is made of none that is
   whole_inputs : (m : Made) → In m (line tables op).made
-      → loss_in (carried tables op db) m.name ≡ None → (n : List ℕ) → In n (made_of op)
+      → loss_in (migrate tables op db) m.name ≡ None → (n : List ℕ) → In n (made_of op)
       → loss_in db n ≡ None
   whole_inputs m i e n j = none_first (loss_in db) (made_of op)
       (sym (losses_handed_on tables op db m accepted i) ∙ e) n j
@@ -146,14 +146,14 @@ module _ (tables : Tables) (op : Operator) (accepted : op_fault tables op ≡ No
 
   -- a source table of a table that is not lost is not lost
   whole_sources : (n : List ℕ) → contains_key (schema_after tables op) n ≡ true
-      → loss_in (carried tables op db) n ≡ None
+      → loss_in (migrate tables op db) n ≡ None
       → (s : List ℕ) → In s (sources_of tables op n) → loss_in db s ≡ None
   whole_sources n there e s j = step (makes tables op n) refl j
     where
       step : (b : Bool) → makes tables op n ≡ b → In s (cond b (made_of op) (n ∷ []))
           → loss_in db s ≡ None
       step true q i = (let m = made_one n q in
-          whole_inputs m.0 m.1 (ap (loss_in (carried tables op db)) m.2 ∙ e) s i)
+          whole_inputs m.0 m.1 (ap (loss_in (migrate tables op db)) m.2 ∙ e) s i)
       step false q (inl i) =
           subst (λ (x : List ℕ). loss_in db x ≡ None) i
           (sym (ap loss_of (entry_stays tables op n q db (stays_there n q there))) ∙ e)
@@ -170,7 +170,7 @@ module _ (book : Book) (valid : IsValidBook book) (tables : Tables) (op : Operat
       (valid.keeps tables op f.0 good accepted (y f.0 f.1)).typed q f.2)
 
   none_before : (db : Database) (ps : List PlainPiece) → AllTyped (schema_after tables op) ps
-      → NoneLost (carried tables op db) ps → NoneLost db (through book op tables ps)
+      → NoneLost (migrate tables op db) ps → NoneLost db (through book op tables ps)
   none_before db ps y none = λ q m n i.
       let f = from_flat_map answer q ps m in
       let s = (valid.keeps tables op f.0 good accepted (y f.0 f.1)).sources q f.2 n i in
@@ -185,17 +185,17 @@ module _ (book : Book) (valid : IsValidBook book) (tables : Tables) (op : Operat
       (valid.keeps tables op f.0 good accepted (y f.0 f.1)).outputs q f.2 ∙ o f.0 f.1
 
   same_answer : (db : Database) (ps : List PlainPiece) → IsDatabaseWithLosses tables db
-      → HoldsValues db → AllTyped (schema_after tables op) ps → NoneLost (carried tables op db) ps
+      → HoldsValues db → AllTyped (schema_after tables op) ps → NoneLost (migrate tables op db) ps
       → all_mean tables db (through book op tables ps)
-      ≡ all_mean (schema_after tables op) (carried tables op db) ps
+      ≡ all_mean (schema_after tables op) (migrate tables op db) ps
   same_answer db ps h w y none =
       same_meaning tables tables db (whole db) (through book op tables ps)
       (λ q m n i. record { columns = refl; rows = sym (whole_rows db n) })
-      ∙ each_so tables (schema_after tables op) (whole db) (carried tables op (whole db)) answer ps
+      ∙ each_so tables (schema_after tables op) (whole db) (migrate tables op (whole db)) answer ps
       (λ p m. (valid.keeps tables op p good accepted (y p m)).law (whole db)
       (whole_valid tables db h w))
       ∙ same_meaning (schema_after tables op) (schema_after tables op)
-      (carried tables op (whole db)) (carried tables op db) ps
+      (migrate tables op (whole db)) (migrate tables op db) ps
       (λ p m n i. record {
         columns = refl;
         rows =
@@ -209,10 +209,10 @@ module _ (book : Book) (valid : IsValidBook book) (tables : Tables) (op : Operat
       (valid.keeps tables op f.0 good accepted (y f.0 f.1)).constants h (c f.0 f.1) q f.2
 
   pub operator_step : (H K : Type 0) → (H → OperatorHolds op) → (K → ValidInOperator op)
-      → IsStep H K tables (schema_after tables op) (carried tables op) (through book op tables)
+      → IsStep H K tables (schema_after tables op) (migrate tables op) (through book op tables)
   operator_step H K holds kept = record {
-    keeps = λ db h. carried_with_losses tables op db good.schema accepted h;
-    values = λ x db h. carried_values tables op db (holds x) h;
+    keeps = λ db h. migrated_with_losses tables op db good.schema accepted h;
+    values = λ x db h. migrated_values tables op db (holds x) h;
     typed = λ db ps h y n. all_typed ps y;
     none = λ db ps h y n. none_before db ps y n;
     outputs = λ db ps outs h y n o. outputs_before ps outs y o;

@@ -15,7 +15,7 @@ use Rattle.smo_ops_spec.specs.Past.{Past, no_tables, tables_from, past_with, nex
 use Rattle.smo_ops_spec.specs.Past.{next_version}
 use Rattle.smo_ops_spec.specs.History.{past_after}
 use Rattle.smo_ops_spec.specs.ValidValues.{EntryHolds, HoldsValues, BodyHolds, CommandsHold}
-use Rattle.smo_ops_versions_spec.specs.Whole.{whole_entry, whole}
+use Rattle.smo_ops_versions_spec.specs.LostAsEmpty.{entry_emptied, whole}
 use Rattle.smo_ops_versions_spec.specs.Steps.{Step, carrying, undoing, carrying_each, AllSteps}
 use Rattle.smo_ops_versions_spec.specs.Ways.{back_over, over_version, back_over_version, way}
 use Rattle.smo_ops_versions_spec.specs.Migration.{undone}
@@ -27,7 +27,7 @@ use Rattle.piece_ir_spec.specs.Constants.{ValidInEvolution, ValidInEvolutions}
 use Rattle.piece_ir_spec.specs.Rules.{IsValidDatabase}
 use Rattle.smo_ops_spec.specs.ValidValues.{VersionsHold}
 
-whole_holds : (x : Option DatabaseEntry) → EntryHolds x → EntryHolds (option_map whole_entry x)
+whole_holds : (x : Option DatabaseEntry) → EntryHolds x → EntryHolds (option_map entry_emptied x)
 whole_holds None h = tt
 whole_holds (Some (Rows rows)) h = h
 whole_holds (Some (Lost k i)) h = λ row m. absurd m

@@ -23,7 +23,8 @@ use Rattle.smo_ops_types.specs.Operators.{rename_column}
 use Rattle.smo_ops_spec.specs.OneRow.{Row, Relation, same, own_kinds, own_cells}
 use Rattle.smo_ops_spec.specs.Preconditions.{type_in}
 use Rattle.smo_ops_spec.specs.Effects.{columns_of}
-use Rattle.smo_ops_spec.specs.Making.{without, renamed, with_column, type_of_value, image, added}
+use Rattle.smo_ops_spec.specs.Making.{without, renamed, with_column, type_of_value, image}
+use Rattle.smo_ops_spec.specs.Making.{added_value}
 use Rattle.smo_ops_spec.specs.Making.{moved, from_one}
 use Rattle.smo_ops_spec.specs.After.{op_fault, IsValid}
 use Rattle.smo_ops_spec.proofs.NameLaws.{same_turned}
@@ -130,9 +131,10 @@ module _ (tables : Tables) (r : List ℕ) where
     pub add_column_views : (t : Tree) → op_fault tables (add_column c t r) ≡ None
         → AreViews tables (add_column c t r) (operator_views tables (add_column c t r))
     add_column_views t e = (
-      given_by_view tables (add_column c t r) r r new (image new (added cs c t)) [] ((c, t) ∷ [])
+      given_by_view tables (add_column c t r) r r new (image new (added_value cs c t)) []
+          ((c, t) ∷ [])
           (is_table tables r (all_preconditions tables (add_column c t r) e).0)
-          (made_image cs new (added cs c t) ((c, t) ∷ [])
+          (made_image cs new (added_value cs c t) ((c, t) ∷ [])
           (λ old n. in_one_column c t old n (same c n))) (none_typed (own_kinds cs)) typed
           (inl refl)
           (λ h. computed_constants r c t h),
@@ -147,7 +149,7 @@ module _ (tables : Tables) (r : List ℕ) where
         types n =
             ap (λ (x : List Column). type_in x n)
             (sym (made_columns tables (add_column c t r) r new
-            (λ x. from_one (image new (added cs c t)) (get x r)) e (inl refl)))
+            (λ x. from_one (image new (added_value cs c t)) (get x r)) e (inl refl)))
             ∙ added_types tables valid.schema r c t n e
             ∙ ap (λ (b : Bool). if b then kind_of (own_kinds cs) t else type_in cs n)
             (same_turned n c)

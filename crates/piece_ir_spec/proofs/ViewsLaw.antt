@@ -20,10 +20,10 @@ use Rattle.smo_ops_spec.specs.Effects.{columns_of, rows_of, rows_under}
 use Rattle.smo_ops_spec.specs.Preconditions.{among}
 use Rattle.smo_ops_spec.specs.OperatorTable.{Made, line, made_names}
 use Rattle.smo_ops_spec.specs.Touching.{makes, consumes, made_of}
-use Rattle.smo_ops_spec.specs.After.{op_fault, schema_after, carried, IsValid}
+use Rattle.smo_ops_spec.specs.After.{op_fault, schema_after, migrate, IsValid}
 use Rattle.smo_ops_spec.proofs.NameLaws.{same_turned}
 use Rattle.smo_ops_spec.proofs.TouchedTables.{table_stays, entry_stays, table_gone, made_is_there}
-use Rattle.smo_ops_spec.proofs.TouchedTables.{made_is_carried}
+use Rattle.smo_ops_spec.proofs.TouchedTables.{made_is_migrated}
 use Rattle.piece_ir_spec.specs.Pieces.{PlainPiece}
 use Rattle.piece_ir_spec.specs.Typed.{AreThere, IsTyped, output_types}
 use Rattle.piece_ir_spec.specs.Views.{PlainView, whole, Views, views_of}
@@ -179,25 +179,25 @@ module _ (tables : Tables) (op : Operator) (views : Views) (accepted : op_fault 
       ∙ ap (columns_of (schema_after tables op)) e
 
   made_rows : (db : Database) (m : Made) (a : List ℕ) → In m (line tables op).made → m.name ≡ a
-      → rows_of (m.entry db) ≡ rows_under (get (carried tables op db) a)
+      → rows_of (m.entry db) ≡ rows_under (get (migrate tables op db) a)
   made_rows db m a i e =
-      sym (ap rows_under (made_is_carried tables op db m accepted i))
-      ∙ ap (λ (n : List ℕ). rows_under (get (carried tables op db) n)) e
+      sym (ap rows_under (made_is_migrated tables op db m accepted i))
+      ∙ ap (λ (n : List ℕ). rows_under (get (migrate tables op db) n)) e
 
   -- each table after is given by its views
   table_given : (db : Database) → IsDatabase tables db → (a : List ℕ)
       → contains_key (schema_after tables op) a ≡ true
       → AreGiven tables db (columns_of (schema_after tables op) a)
-      (rows_under (get (carried tables op db) a)) (vs a)
+      (rows_under (get (migrate tables op db) a)) (vs a)
   table_given db d a h = step (makes tables op a) refl
     where
       step : (b : Bool) → makes tables op a ≡ b
           → AreGiven tables db (columns_of (schema_after tables op) a)
-          (rows_under (get (carried tables op db) a)) (vs a)
+          (rows_under (get (migrate tables op db) a)) (vs a)
       step true q =
           let f = found tables op (line tables op).made views given a q in
           subst (λ (x : List PlainView). AreGiven tables db (columns_of (schema_after tables op) a)
-          (rows_under (get (carried tables op db) a)) x) f.is
+          (rows_under (get (migrate tables op db) a)) x) f.is
           (subst (λ (x : Relation). AreGiven tables db (columns_of (schema_after tables op) a) x
           f.named.1) (made_rows db f.one a f.of f.name)
           (subst (λ (x : List Column). AreGiven tables db x (rows_of (f.one.entry db)) f.named.1)
@@ -205,7 +205,7 @@ module _ (tables : Tables) (op : Operator) (views : Views) (accepted : op_fault 
       step false q =
           let c = kept_apart a q h in
           subst (λ (x : List PlainView). AreGiven tables db (columns_of (schema_after tables op) a)
-          (rows_under (get (carried tables op db) a)) x)
+          (rows_under (get (migrate tables op db) a)) x)
           (none_made tables op (line tables op).made views given a q)
           (subst (λ (x : Option DatabaseEntry).
           AreGiven tables db (columns_of (schema_after tables op) a) (rows_under x)
@@ -266,7 +266,7 @@ module _ (tables : Tables) (op : Operator) (views : Views) (accepted : op_fault 
   module _ (p : PlainPiece) (typed : IsTyped (schema_after tables op) p) where
     all_made : (db : Database) → IsDatabase tables db → (atoms : List (List ℕ))
         → AreThere (schema_after tables op) atoms
-        → AreMade tables db (schema_after tables op) (carried tables op db) vs atoms
+        → AreMade tables db (schema_after tables op) (migrate tables op db) vs atoms
     all_made db d [] h = tt
     all_made db d (a ∷ atoms) h = (
       record {
@@ -305,7 +305,7 @@ module _ (tables : Tables) (op : Operator) (views : Views) (accepted : op_fault 
 
     pub keeps_meaning : KeepsMeaning tables op p (unfoldings views p)
     keeps_meaning = record {
-      law = λ db d. same_meaning tables db (schema_after tables op) (carried tables op db) vs p
+      law = λ db d. same_meaning tables db (schema_after tables op) (migrate tables op db) vs p
           (all_made db d.database p.atoms typed.there) typed;
       typed = λ q m. (let f = of_unfolding q m in
           subst (IsTyped tables) f.2 (unfolded_typed tables (schema_after tables op) vs p view_typed

@@ -23,7 +23,7 @@ use Rattle.smo_ops_types.specs.Operators.{merge_table, partition_table, decompos
 use Rattle.smo_ops_types.specs.Operators.{add_column, drop_column, rename_column}
 use Rattle.smo_ops_spec.specs.OneRow.{Row, Relation, same, meets}
 use Rattle.smo_ops_spec.specs.Effects.{columns_of, rows_under}
-use Rattle.smo_ops_spec.specs.Making.{named, without, image, union, added, moved, join_rows}
+use Rattle.smo_ops_spec.specs.Making.{named, without, image, union, added_value, moved, join_rows}
 use Rattle.plain_answers_spec.specs.Choosing.{answers_over}
 use Rattle.piece_ir_spec.specs.Pieces.{PlainPiece, out_trees, means, all_mean, piece_answers}
 use Rattle.piece_ir_spec.specs.Views.{Views}
@@ -342,7 +342,7 @@ abbrev lengths : Relation
 lengths = (int 2 ∷ text y ∷ int 1 ∷ []) ∷ (int 5 ∷ text x ∷ int 1 ∷ [])
     ∷ (int 20 ∷ text xy ∷ int 2 ∷ []) ∷ []
 
-add_column_makes : image abc (added ab c (length_of (at 0 b))) three ≡ lengths
+add_column_makes : image abc (added_value ab c (length_of (at 0 b))) three ≡ lengths
 unfolding set_of
 add_column_makes = refl
 

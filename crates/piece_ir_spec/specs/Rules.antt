@@ -8,7 +8,7 @@ use Rattle.schema_catalog.specs.Databases.{Database}
 use Rattle.smo_ops_types.specs.Operators.{Operator}
 use Rattle.smo_ops_spec.specs.OperatorKinds.{operator_kind}
 use Rattle.smo_ops_spec.specs.Touching.{makes, made_of}
-use Rattle.smo_ops_spec.specs.After.{op_fault, schema_after, carried, IsValid}
+use Rattle.smo_ops_spec.specs.After.{op_fault, schema_after, migrate, IsValid}
 pub use Rattle.smo_ops_spec.specs.ValidValues.{IsValidDatabase}
 use Rattle.piece_ir_spec.specs.Pieces.{PlainPiece, means, all_mean}
 use Rattle.piece_ir_spec.specs.Typed.{IsTyped, AllTyped, output_types}
@@ -26,7 +26,7 @@ pub record KeepsMeaning (tables : Tables) (op : Operator) (p : PlainPiece)
     (news : List PlainPiece) : Type 0 where
   -- over every database they mean what the piece means over the carried one
   pub law : (db : Database) → IsValidDatabase tables db
-      → all_mean tables db news ≡ means (schema_after tables op) (carried tables op db) p
+      → all_mean tables db news ≡ means (schema_after tables op) (migrate tables op db) p
   pub typed : AllTyped tables news
   -- with the same output names and types
   pub outputs : (q : PlainPiece) → In q news → output_types tables q

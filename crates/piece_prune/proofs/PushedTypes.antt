@@ -21,7 +21,7 @@ use Rattle.smo_ops_spec.specs.Preconditions.{type_in}
 use Rattle.smo_ops_spec.proofs.TypeLaws.{own_atom}
 use Rattle.cond_expr.specs.AtomColumns.{kinds_of_atoms}
 use Rattle.plain_answers_spec.specs.Naming.{is_to, is_atom}
-use Rattle.plain_answers_spec.specs.Pushing.{are_own, own_parts, as_first, pushed}
+use Rattle.plain_answers_spec.specs.Pushing.{are_own, own_parts, as_first, pushed_cond}
 use Rattle.cond_expr.proofs.ReferenceLaws.{Each, test_within_each}
 use Rattle.piece_ir_spec.proofs.AtomKinds.{atom_kind, kinds_at}
 use Rattle.piece_ir_spec.proofs.KnownKinds.{typed_like}
@@ -79,7 +79,7 @@ module _ (columns : List (List Column)) (i : ℕ) where
       ∙ h
 
   pub pushed_typed : (c : Test) → is_typed (kinds_of_atoms columns) c ≡ true
-      → is_typed own (pushed i c) ≡ true
+      → is_typed own (pushed_cond i c) ≡ true
   pushed_typed c h = all_typed_from own (map (fill_test (as_first i)) (own_parts i c)) each
     where
       each : (t : Test) → In t (map (fill_test (as_first i)) (own_parts i c))

@@ -7,7 +7,7 @@ ghost use Rattle.cond_expr.specs.Kinds.{is_typed};
 ghost use Rattle.smo_ops_spec.specs.OneRow.{own_kinds};
 ghost use Rattle.smo_ops_spec.specs.ValidValues.{IsValidDatabase};
 ghost use Rattle.cond_expr.specs.AtomColumns.{kinds_of_atoms};
-ghost use Rattle.plain_answers_spec.specs.Pushing.{pushed};
+ghost use Rattle.plain_answers_spec.specs.Pushing.{pushed_cond};
 ghost use Rattle.piece_ir_spec.specs.Pieces.{PlainPiece, means, all_mean};
 ghost use Rattle.piece_prune.specs.DeadPieces.{IsDeadPiece, AreLiving};
 
@@ -30,5 +30,5 @@ pub fn living_pieces_mean_the_same()
 pub fn pushed_conditions_have_types()
     ensures { (columns : List (List Column)) → (i : ℕ) → (cond : Test)
         → is_typed (kinds_of_atoms columns) cond ≡ true
-        → is_typed (own_kinds (slice_index_or columns i [])) (pushed i cond) ≡ true }
+        → is_typed (own_kinds (slice_index_or columns i [])) (pushed_cond i cond) ≡ true }
 {}

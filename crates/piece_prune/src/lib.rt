@@ -11,4 +11,4 @@ pub use laws::{
     a_dead_piece_means_nothing, living_pieces_mean_the_same, pushed_conditions_have_types,
 };
 pub use liveness::{is_dead, living};
-pub use pushed_part::pushed;
+pub use pushed_part::pushed_cond;

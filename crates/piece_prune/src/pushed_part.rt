@@ -5,7 +5,7 @@ ghost use Rattle.cond_expr.specs.Trees.{fill_test};
 ghost use Rattle.cond_expr.specs.Faults.{test_references};
 ghost use Rattle.cond_expr.specs.Parts.{parts, all_parts};
 ghost use Rattle.cond_expr.specs.References.{is_to, borrowed};
-ghost use Rattle.plain_answers_spec.specs.Pushing.{are_own, own_parts, as_first, pushed};
+ghost use Rattle.plain_answers_spec.specs.Pushing.{are_own, own_parts, as_first, pushed_cond};
 
 use cond_expr::{ColRef, Cond, Expr, Fill, Whose, fill_cond, gather_references};
 use prima_base::NoMemory;
@@ -123,8 +123,8 @@ fn push_parts_of(
 /// are those of atom 0: the AND of the top-level parts of the branch's condition that name at least
 /// one column, and only columns of the item. The item is the atom with this number. The one error
 /// is `NoMemory`, where memory runs out.
-pub fn pushed(alloc: Global, cond: &Cond, atom: u32) -> Result<Cond, NoMemory>
-    ensures { IfOk result (λ c. test c ≡ pushed atom (test cond.now)) }
+pub fn pushed_cond(alloc: Global, cond: &Cond, atom: u32) -> Result<Cond, NoMemory>
+    ensures { IfOk result (λ c. test c ≡ pushed_cond atom (test cond.now)) }
 {
     let mut parts = Vec::new(alloc);
     push_parts(alloc, cond, atom, &mut parts)?;

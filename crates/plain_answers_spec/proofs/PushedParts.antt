@@ -23,7 +23,7 @@ use Rattle.plain_answers_spec.specs.Branches.{PlainBranch}
 use Rattle.plain_answers_spec.specs.Naming.{is_to, is_atom, all_references}
 use Rattle.cond_expr.specs.Parts.{parts_but_true as parts, all_parts_but_true as all_parts}
 use Rattle.plain_answers_spec.specs.Reading.{Read, said_of, IsPartOf, AsMany, AreEnough}
-use Rattle.plain_answers_spec.specs.Pushing.{are_own, own_parts, as_first, pushed, pushed_from}
+use Rattle.plain_answers_spec.specs.Pushing.{are_own, own_parts, as_first, pushed_cond, pushed_from}
 use Rattle.plain_answers_spec.specs.Pushing.{pushed_reads}
 use Rattle.plain_answers_spec.proofs.NameLaws.{in_names_at}
 use Rattle.cond_expr.proofs.ReferenceLaws.{Each, test_within_each}
@@ -155,7 +155,7 @@ of_member (t ∷ ts) u m = elim (in_append u (parts t) (all_parts (tests_of ts))
   | inr x ↦ let k = of_member ts u x in (k.0, inr k.1, k.2)
 ]
 
-pushed_is_part : (i : ℕ) (c : Test) → IsPartOf i (pushed i c) c
+pushed_is_part : (i : ℕ) (c : Test) → IsPartOf i (pushed_cond i c) c
 pushed_is_part i c u m =
     let member = of_member (map (fill_test (as_first i)) (own_parts i c)) u m in
     let filled = from_map (fill_test (as_first i)) member.0 (own_parts i c) member.1 in

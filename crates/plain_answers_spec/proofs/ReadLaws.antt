@@ -32,7 +32,7 @@ use Rattle.plain_answers_spec.specs.Branches.{branch_answers}
 use Rattle.plain_answers_spec.specs.Branches.{plain}
 use Rattle.plain_answers_spec.specs.Naming.{all_references, IsNamed, names_from}
 use Rattle.plain_answers_spec.specs.Reading.{Read, read_columns, read_rows, AsMany, AreEnough}
-use Rattle.plain_answers_spec.specs.Reading.{whole_rows, needed, answers_read, plain_read}
+use Rattle.plain_answers_spec.specs.Reading.{whole_rows, needed_reads, answers_read, plain_read}
 use Rattle.plain_answers_spec.proofs.PlainRows.{in_answers, from_answers}
 use Rattle.plain_answers_spec.proofs.PartLaws.{part_met}
 use Rattle.plain_answers_spec.proofs.NameLaws.{in_names_at}
@@ -294,7 +294,8 @@ needed_enough outs c k (x ∷ from) = (
   needed_enough outs c (k + 1) from,
 )
 
-pub is_needed : (b : PlainBranch) → AsMany (needed b) b.from × AreEnough 0 (needed b) b.outs b.cond
+pub is_needed : (b : PlainBranch) → AsMany (needed_reads b) b.from
+    × AreEnough 0 (needed_reads b) b.outs b.cond
 is_needed b = (
   many_needed 0 b.from (all_references b.outs b.cond),
   needed_enough b.outs b.cond 0 b.from,

@@ -26,15 +26,15 @@ abbrev pub as_first : ℕ → Filling
 as_first i = for_atoms (λ j n. if j == i then column (Atom 0) n else column (Atom j) n)
 
 -- their AND, said of atom 0: a condition over the item's own columns
-abbrev pub pushed : ℕ → Test → Test
-pushed i cond = all_of (tests_of (map (fill_test (as_first i)) (own_parts i cond)))
+abbrev pub pushed_cond : ℕ → Test → Test
+pushed_cond i cond = all_of (tests_of (map (fill_test (as_first i)) (own_parts i cond)))
 
 -- of each of so many atoms, the first of which has this number: the pushed condition, and the
 -- columns that are named
 abbrev pub pushed_from : {X : Type 0} → ℕ → List X → List Tree → Test → List Read
 pushed_from i [] outs cond = []
 pushed_from i (x ∷ from) outs cond = record {
-  test = pushed i cond;
+  test = pushed_cond i cond;
   names =
       names_at i (all_references outs cond);
 } ∷ pushed_from (i + 1) from outs cond

@@ -74,8 +74,8 @@ AreEnough i (r ∷ reads) outs cond = IsEnough i r outs cond × AreEnough (i + 1
 abbrev pub whole_rows : List (List (List ℕ)) → List Read
 whole_rows names = map (λ ns. record { test = always; names = ns }) names
 
-abbrev pub needed : PlainBranch → List Read
-needed b = whole_rows (names_from 0 b.from (all_references b.outs b.cond))
+abbrev pub needed_reads : PlainBranch → List Read
+needed_reads b = whole_rows (names_from 0 b.from (all_references b.outs b.cond))
 
 -- ---- branches over what is read
 

@@ -14,7 +14,7 @@ ghost use Rattle.plain_answers_spec.specs.Branches.{PlainBranch, plain, BranchGi
 ghost use Rattle.plain_answers_spec.specs.Naming.{IsNamed, names_at};
 ghost use Rattle.plain_answers_spec.specs.Reading.{Read, read_columns, read_rows, AsMany};
 ghost use Rattle.plain_answers_spec.specs.Reading.{AreEnough};
-ghost use Rattle.plain_answers_spec.specs.Reading.{needed, plain_read};
+ghost use Rattle.plain_answers_spec.specs.Reading.{needed_reads, plain_read};
 ghost use Rattle.plain_answers_spec.specs.Pushing.{pushed_reads};
 
 /// A row is among the answers over relations just where a choice of one row of each, which meets
@@ -68,8 +68,8 @@ pub fn what_is_named_and_selected_is_enough()
         → ((b : PlainBranch) → In b branches → AsMany (reads b) b.from
         × AreEnough 0 (reads b) b.outs b.cond)
         → plain_read tables reads branches db ≡ plain tables branches db }
-    ensures needed { (b : PlainBranch) → AsMany (needed b) b.from
-        × AreEnough 0 (needed b) b.outs b.cond }
-    ensures pushed { (b : PlainBranch) → AsMany (pushed_reads b) b.from
+    ensures needed_reads { (b : PlainBranch) → AsMany (needed_reads b) b.from
+        × AreEnough 0 (needed_reads b) b.outs b.cond }
+    ensures pushed_cond { (b : PlainBranch) → AsMany (pushed_reads b) b.from
         × AreEnough 0 (pushed_reads b) b.outs b.cond }
 {}

@@ -31,7 +31,7 @@ fn without(error: &io::Error, otherwise: Status) -> Status {
 fn run_by<S: Source, K: Sink, D: Disk, R: Rule>(
     alloc: Global,
     rules: Vec<R>,
-    words: &[Word],
+    arguments: &[Word],
     source: &mut S,
     sink: &mut K,
     disk: &mut D,
@@ -40,35 +40,35 @@ fn run_by<S: Source, K: Sink, D: Disk, R: Rule>(
     let Ok(book) = RuleBook::new(alloc, rules) else {
         return Err(NoMemory);
     };
-    Ok(run(alloc, words, &book, source, sink, disk))
+    Ok(run(alloc, arguments, &book, source, sink, disk))
 }
 
 // Runs the script with one boxed rule for each kind of operator.
 fn run_with_rules<S: Source, K: Sink, D: Disk>(
     alloc: Global,
-    words: &[Word],
+    arguments: &[Word],
     source: &mut S,
     sink: &mut K,
     disk: &mut D,
 ) -> Result<Status, NoMemory> {
     let mut rules: Vec<Box<dyn Rule>> = Vec::new(alloc);
     push_every_rule!(alloc, rules);
-    run_by(alloc, rules, words, source, sink, disk)
+    run_by(alloc, rules, arguments, source, sink, disk)
 }
 
-// Runs over the file of the archive. The words are judged before it is opened, so that wrong ones
-// make no file: then `run`, which judges them again, gets a disk that it does not call.
+// Runs over the file of the archive. The words are checked before it is opened, so that wrong ones
+// make no file: then `run`, which checks them again, gets a disk that it does not call.
 fn run_over_the_file<S: Source, K: Sink>(
     rt: &HostRuntime,
-    words: &[Word],
+    arguments: &[Word],
     source: &mut S,
     sink: &mut K,
 ) -> Result<Status, NoMemory> {
-    if asked(rt.alloc(), words)?.is_none() {
-        return run_with_rules(rt.alloc(), words, source, sink, &mut SureDisk::new());
+    if asked(rt.alloc(), arguments)?.is_none() {
+        return run_with_rules(rt.alloc(), arguments, source, sink, &mut SureDisk::new());
     }
     match FileDisk::open(rt, ARCHIVE) {
-        Ok(mut disk) => run_with_rules(rt.alloc(), words, source, sink, &mut disk),
+        Ok(mut disk) => run_with_rules(rt.alloc(), arguments, source, sink, &mut disk),
         Err(error) => Ok(without(&error, Status::DiskFault)),
     }
 }
@@ -80,12 +80,12 @@ fn main(rt: HostRuntime) -> ExitCode {
         Err(error) => return ExitCode::from(without(&error, Status::Words).code()),
     };
     let _program = arguments.next();
-    let Ok(words) = arguments.collect::<Vec<Word>>(rt.alloc()) else {
+    let Ok(arguments) = arguments.collect::<Vec<Word>>(rt.alloc()) else {
         return ExitCode::from(Status::NoMemory.code());
     };
     let mut source = ReaderSource::new(rt.reader());
     let mut sink = WriterSink::new(io::writer(&rt));
-    match run_over_the_file(&rt, &words, &mut source, &mut sink) {
+    match run_over_the_file(&rt, &arguments, &mut source, &mut sink) {
         Ok(status) => ExitCode::from(status.code()),
         Err(NoMemory) => ExitCode::from(Status::NoMemory.code()),
     }

@@ -154,7 +154,7 @@ impl<'a> TimedRows<'a> {
 
     // The same rows, in their order, and no values beside theirs. A borrowed text stays borrowed,
     // and one that a row owns is copied.
-    fn packed(&self, alloc: Global) -> Result<TimedRows<'a>, NoMemory>
+    fn packed_rows(&self, alloc: Global) -> Result<TimedRows<'a>, NoMemory>
         ensures rows { IfOk result (λ r. entries_of r.items ≡ entries_of self.now.items) }
         ensures borrowed { IfOk result (λ r.
             map borrowed_of r.items ≡ map borrowed_of self.now.items) }
@@ -177,7 +177,7 @@ impl<'a> TimedRows<'a> {
         if self.values.len() / 2 < values_of(&self.places) {
             return;
         }
-        if let Ok(mut rows) = self.packed(alloc) {
+        if let Ok(mut rows) = self.packed_rows(alloc) {
             mem::swap(self, &mut rows);
         }
     }

@@ -19,7 +19,7 @@ use Rattle.smo_ops_spec.specs.Past.{Past, no_tables, tables_from, tables_of}
 use Rattle.smo_ops_versions_spec.specs.LostNames.{lost_names}
 use Rattle.plain_answers_spec.specs.Branches.{Item, PlainBranch}
 use Rattle.plain_answers_spec.specs.Naming.{all_references}
-use Rattle.plain_answers_spec.specs.Pushing.{are_own, own_parts, as_first, pushed, pushed_from}
+use Rattle.plain_answers_spec.specs.Pushing.{are_own, own_parts, as_first, pushed_cond, pushed_from}
 use Rattle.plain_answers_spec.specs.Pushing.{pushed_reads}
 use Rattle.plain_answers_spec.specs.Reading.{Read}
 use Rattle.cond_expr_dead.specs.Tried.{HaveValidLimits, is_killed}
@@ -116,7 +116,7 @@ first_valid i = for_atoms_valid (λ j n. if j == i then column (Atom 0) n else c
     step true j n = tt
     step false j n = tt
 
-pushed_valid : (i : ℕ) (c : Test) → ValidInTest c → ValidInTest (pushed i c)
+pushed_valid : (i : ℕ) (c : Test) → ValidInTest c → ValidInTest (pushed_cond i c)
 pushed_valid i c h = tests_valid (map (fill_test (as_first i)) (own_parts i c)) each
   where
     true_valid : (d : Test) → In d (always ∷ []) → ValidInTest d

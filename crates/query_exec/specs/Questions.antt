@@ -9,14 +9,14 @@ use Rattle.smo_ops_spec.specs.OneRow.{Relation}
 use Rattle.smo_ops_spec.specs.Past.{Past, tables_of}
 use Rattle.smo_ops_versions_spec.specs.Migration.{migrated}
 use Rattle.plain_answers_spec.specs.Naming.{names_at}
-use Rattle.plain_answers_spec.specs.Pushing.{pushed}
+use Rattle.plain_answers_spec.specs.Pushing.{pushed_cond}
 use Rattle.plain_answers_spec.specs.Reading.{Read, read_of}
 use Rattle.piece_ir_spec.specs.Beginnings.{asking}
 
 -- of the table of an item, whose place in its branch this is: the columns that are named of it, of
 -- the rows that meet the condition that is pushed to it
 abbrev pub own_read : ℕ → List ColRef → Test → Read
-own_read i references cond = asking (pushed i cond) (names_at i references)
+own_read i references cond = asking (pushed_cond i cond) (names_at i references)
 
 -- what is read of the table of version q at the moment
 abbrev pub table_read : Past → ℕ → List ℕ → Read → ℕ → Relation

@@ -8,7 +8,7 @@ ghost use Rattle.query_exec.specs.Asked.{read_asked};
 
 use cond_expr::{ColRef, Cond};
 use join_exec::names_at;
-use piece_prune::pushed;
+use piece_prune::pushed_cond;
 use prima_base::{Name, NoMemory};
 use std::alloc::Global;
 
@@ -31,6 +31,6 @@ pub(crate) fn question_of(
         (test cond.now)) }
 {
     let names = names_at(alloc, references, place)?;
-    let cond = pushed(alloc, cond, place)?;
+    let cond = pushed_cond(alloc, cond, place)?;
     Ok(Question { cond, names })
 }

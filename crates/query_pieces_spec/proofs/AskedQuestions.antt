@@ -21,7 +21,7 @@ use Rattle.smo_ops_spec.proofs.Firsts.{none_of_first, none_of_both, met}
 use Rattle.cond_expr.specs.AtomColumns.{atoms_from}
 use Rattle.plain_answers_spec.specs.Branches.{Item, PlainBranch, item_columns}
 use Rattle.plain_answers_spec.specs.Naming.{names_from, names_at, written_names, is_to}
-use Rattle.plain_answers_spec.specs.Reading.{needed, whole_rows}
+use Rattle.plain_answers_spec.specs.Reading.{needed_reads, whole_rows}
 use Rattle.plain_answers_spec.proofs.NameLaws.{from_names_at}
 use Rattle.plain_answers_spec.proofs.ReadLaws.{is_needed}
 use Rattle.piece_ir_spec.specs.Reading.{AreQuestions, Suffices}
@@ -71,7 +71,8 @@ module _ (tables : Tables) (x : PlainBranch) where
 
   -- a branch whose names are those of tables and of columns
   one_suffices : first_refusal (branch_names tables x) ≡ None
-      → first_unknown (atom_kinds tables x.from) refs ≡ None → Suffices tables (needed own) own
+      → first_unknown (atom_kinds tables x.from) refs ≡ None
+      → Suffices tables (needed_reads own) own
   one_suffices named known = record {
     many = (is_needed own).0;
     asked = are_questions tables refs 0 [] x.from
@@ -86,17 +87,17 @@ module _ (tables : Tables) where
   each_suffices : (branches : List PlainBranch) → first_refusal (names_tests tables branches) ≡ None
       → AllKnown tables (branches_with_atoms tables branches)
       → (b : PlainBranch) → In b (branches_with_atoms tables branches)
-      → Suffices tables (needed b) b
+      → Suffices tables (needed_reads b) b
   each_suffices [] named known b m = absurd m
   each_suffices (x ∷ branches) named known b (inr m) =
       each_suffices branches (none_of_both (branch_names tables x) (names_tests tables branches)
       named).1 known.1 b m
   each_suffices (x ∷ branches) named known b (inl e) =
-      subst (λ (c : PlainBranch). Suffices tables (needed c) c) e
+      subst (λ (c : PlainBranch). Suffices tables (needed_reads c) c) e
       (one_suffices tables x (none_of_both (branch_names tables x) (names_tests tables branches)
       named).0 known.0)
 
   pub suffices : (branches : List PlainBranch) → first_refusal (names_tests tables branches) ≡ None
       → (b : PlainBranch) → In b (branches_with_atoms tables branches)
-      → Suffices tables (needed b) b
+      → Suffices tables (needed_reads b) b
   suffices branches named b m = each_suffices branches named (all_known tables branches named) b m

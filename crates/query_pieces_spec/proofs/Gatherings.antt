@@ -12,7 +12,7 @@ use Rattle.prima_base.specs.Order.{row_cmp}
 use Rattle.prima_base.specs.OrderLaws.{row_exact}
 use Rattle.smo_ops_spec.specs.OneRow.{Row, Relation}
 use Rattle.smo_ops_spec.specs.Past.{Past}
-use Rattle.plain_answers_spec.specs.Reading.{needed}
+use Rattle.plain_answers_spec.specs.Reading.{needed_reads}
 use Rattle.piece_ir_spec.specs.Rules.{Book}
 use Rattle.piece_ir_spec.specs.Reading.{unfolded_answers}
 use Rattle.temporal_lang_types.specs.Queries.{PlainQuery}
@@ -103,5 +103,6 @@ pub read_gathered : (book : Book) (past : Past) (query : PlainQuery) (parts : Li
     → IsReadByPieces book past query (at row_cmp entries)
 read_gathered book past query parts entries g all m asked =
     all_gathered (pieces_at book past query) parts entries g m (all m asked)
-    (set_ascends row_cmp row_exact (flat_map (unfolded_answers book past m query.version needed)
+    (set_ascends row_cmp row_exact (flat_map (unfolded_answers book past m query.version
+    needed_reads)
     (asked_branches past query)))

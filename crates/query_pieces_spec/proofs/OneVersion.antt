@@ -10,7 +10,7 @@ use Rattle.smo_ops_spec.specs.ValidValues.{PastHolds}
 use Rattle.smo_ops_spec.specs.Past.{Past, tables_of, version_at, database_at}
 use Rattle.plain_answers_spec.specs.Choosing.{answers_over}
 use Rattle.plain_answers_spec.specs.Branches.{PlainBranch, item_columns}
-use Rattle.plain_answers_spec.specs.Reading.{Read, needed, read_columns}
+use Rattle.plain_answers_spec.specs.Reading.{Read, needed_reads, read_columns}
 use Rattle.piece_ir_spec.specs.Pieces.{PlainPiece, all_mean}
 use Rattle.piece_ir_spec.specs.Rules.{Book}
 use Rattle.piece_prune.specs.DeadPieces.{AreLiving}
@@ -50,11 +50,11 @@ living_read book past is holds m q k table r ps living e h a =
 pub one_branch_read : (book : Book) (past : Past) (query : PlainQuery) (b : PlainBranch) (m : ℕ)
     → asked_branches past query ≡ b ∷ []
     → pieces_at book past query m
-    ≡ set_of row_cmp (answers_over (read_columns (needed b)
+    ≡ set_of row_cmp (answers_over (read_columns (needed_reads b)
     (item_columns (tables_of past query.version) b.from))
-    (unfolded_reads book past m query.version (needed b) b.from) b.outs b.cond)
+    (unfolded_reads book past m query.version (needed_reads b) b.from) b.outs b.cond)
 one_branch_read book past query b m e =
     ap (λ (bs : List PlainBranch). set_of row_cmp
-    (flat_map (unfolded_answers book past m query.version needed) bs)) e
+    (flat_map (unfolded_answers book past m query.version needed_reads) bs)) e
     ∙ ap (λ (rows : List Row). set_of row_cmp rows)
-    (append-nil (unfolded_answers book past m query.version needed b))
+    (append-nil (unfolded_answers book past m query.version needed_reads b))

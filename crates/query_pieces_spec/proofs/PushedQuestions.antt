@@ -26,7 +26,7 @@ use Rattle.smo_ops_spec.proofs.Firsts.{none_of_first, none_of_both, none_mapped,
 use Rattle.cond_expr.specs.AtomColumns.{columns_at, atoms_from, kinds_of_atoms}
 use Rattle.plain_answers_spec.specs.Branches.{Item, PlainBranch, item_columns}
 use Rattle.plain_answers_spec.specs.Naming.{all_references, names_at, written_names, is_to}
-use Rattle.plain_answers_spec.specs.Pushing.{pushed, pushed_from, pushed_reads}
+use Rattle.plain_answers_spec.specs.Pushing.{pushed_cond, pushed_from, pushed_reads}
 use Rattle.plain_answers_spec.proofs.NameLaws.{from_names_at}
 use Rattle.plain_answers_spec.proofs.PushedParts.{is_pushed}
 use Rattle.piece_ir_spec.proofs.TestLaws.{typed_test}
@@ -55,21 +55,22 @@ module _ (tables : Tables) (outs : List Tree) (c : Test) where
   -- what is pushed to each of them has a type over its own columns
   abbrev HaveTypes : ℕ → List Item → Type 0
   HaveTypes i from = (j : ℕ) → is_typed (own_kinds (get_or (item_columns tables from) j []))
-      (pushed (i + j) c) ≡ true
+      (pushed_cond (i + j) c) ≡ true
 
-  first_typed : (i : ℕ) (cs : List Column) → is_typed (own_kinds cs) (pushed (i + 0) c) ≡ true
-      → is_typed (kinds_of_atoms (cs ∷ [])) (pushed i c) ≡ true
+  first_typed : (i : ℕ) (cs : List Column) → is_typed (own_kinds cs) (pushed_cond (i + 0) c) ≡ true
+      → is_typed (kinds_of_atoms (cs ∷ [])) (pushed_cond i c) ≡ true
   first_typed i cs h =
       let e : i + 0 ≡ i = omega arith in
-      ap (λ (xs : List AtomColumn). is_typed (kinds_of xs) (pushed i c))
+      ap (λ (xs : List AtomColumn). is_typed (kinds_of xs) (pushed_cond i c))
       (append-nil (columns_at 0 cs))
-      ∙ subst (λ (k : ℕ). is_typed (own_kinds cs) (pushed k c) ≡ true) e h
+      ∙ subst (λ (k : ℕ). is_typed (own_kinds cs) (pushed_cond k c) ≡ true) e h
 
   later_typed : (i : ℕ) (x : Item) (from : List Item) → HaveTypes i (x ∷ from)
       → HaveTypes (i + 1) from
   later_typed i x from h j =
       let e : i + suc j ≡ (i + 1) + j = omega arith in
-      subst (λ (k : ℕ). is_typed (own_kinds (get_or (item_columns tables from) j [])) (pushed k c)
+      subst (λ (k : ℕ). is_typed (own_kinds (get_or (item_columns tables from) j []))
+      (pushed_cond k c)
       ≡ true) e (h (suc j))
 
   are_questions : (i : ℕ) (before : List (List ℕ)) (from : List Item)
@@ -116,7 +117,7 @@ module _ (tables : Tables) (x : PlainBranch) where
         (record { whose = Atom j; name = n }) (from_names_at j refs n m))
         (λ j. (let e : j ≡ 0 + j = omega arith in
         subst (λ (k : ℕ). is_typed (own_kinds (get_or (item_columns tables x.from) j []))
-        (pushed k own.cond) ≡ true) e (pushed_typed (item_columns tables x.from) j own.cond
+        (pushed_cond k own.cond) ≡ true) e (pushed_typed (item_columns tables x.from) j own.cond
         typed)));
     enough = (is_pushed own).1;
   }

@@ -24,7 +24,7 @@ use Rattle.smo_ops_spec.proofs.Firsts.{none_of_first, none_of_both, none_mapped,
 use Rattle.smo_ops_versions_spec.specs.LostNames.{lost_names}
 use Rattle.plain_answers_spec.specs.Branches.{Item, PlainBranch}
 use Rattle.plain_answers_spec.specs.Pushing.{pushed_reads}
-use Rattle.plain_answers_spec.specs.Reading.{needed}
+use Rattle.plain_answers_spec.specs.Reading.{needed_reads}
 use Rattle.piece_ir_spec.specs.Rules.{Book, IsValidBook}
 use Rattle.piece_ir_spec.specs.Reading.{Suffices}
 use Rattle.piece_ir_spec.proofs.ReadMoments.{moment_read}
@@ -106,7 +106,7 @@ module _ (past : Past) (query : PlainQuery) (accepted : fault_of_query past quer
       (loss_fault past.versions (first_lost past query) ∷ []) after_version).1).0
 
   pub enough_asked : (b : PlainBranch) → In b (asked_branches past query)
-      → Suffices tables (needed b) b
+      → Suffices tables (needed_reads b) b
   enough_asked =
       suffices tables query.branches
       (none_of_both (names_tests tables query.branches)
@@ -139,7 +139,7 @@ module _ (past : Past) (query : PlainQuery) (accepted : fault_of_query past quer
       (holds : PastHolds past) where
     pub asked_is : (m : ℕ) → IsAskedOf query m → asked_at past query m ≡ pieces_at book past query m
     asked_is m asked =
-        moment_read book valid past is holds.databases holds.versions m query.version needed
+        moment_read book valid past is holds.databases holds.versions m query.version needed_reads
         (asked_branches past query) enough_asked
         (items_kept m asked)
 

@@ -9,7 +9,7 @@ use Rattle.smo_ops_spec.specs.Past.{Past, tables_of}
 use Rattle.smo_ops_versions_spec.specs.LostNames.{lost_names}
 use Rattle.plain_answers_spec.specs.Branches.{PlainBranch}
 use Rattle.plain_answers_spec.specs.Pushing.{pushed_reads}
-use Rattle.plain_answers_spec.specs.Reading.{needed}
+use Rattle.plain_answers_spec.specs.Reading.{needed_reads}
 use Rattle.piece_ir_spec.specs.Rules.{Book}
 use Rattle.piece_ir_spec.specs.Reading.{asked_by_pieces}
 use Rattle.temporal_lang_spec.specs.Atoms.{branches_with_atoms}
@@ -28,7 +28,7 @@ asked_branches past query = branches_with_atoms (tables_of past query.version) q
 -- what the branches answer at the moment over the pieces of their items' tables, of which the
 -- columns that they name are read
 abbrev pub pieces_at : Book → Past → PlainQuery → ℕ → Relation
-pieces_at book past query m = asked_by_pieces book past m query.version needed
+pieces_at book past query m = asked_by_pieces book past m query.version needed_reads
     (asked_branches past query)
 
 -- the same, with of each table the rows alone that meet the condition which is pushed to the item

@@ -18,7 +18,7 @@ ghost use Rattle.smo_ops_versions_spec.specs.LostNames.{lost_names};
 ghost use Rattle.plain_answers_spec.specs.Branches.{Item, PlainBranch, item_columns};
 ghost use Rattle.plain_answers_spec.specs.Choosing.{answers_over};
 ghost use Rattle.plain_answers_spec.specs.Pushing.{pushed_reads};
-ghost use Rattle.plain_answers_spec.specs.Reading.{Read, needed, read_columns};
+ghost use Rattle.plain_answers_spec.specs.Reading.{Read, needed_reads, read_columns};
 ghost use Rattle.piece_ir_spec.specs.Pieces.{PlainPiece, means, all_mean};
 ghost use Rattle.piece_ir_spec.specs.Rules.{Book, IsValidBook};
 ghost use Rattle.piece_prune.specs.DeadPieces.{AreLiving};
@@ -63,7 +63,7 @@ pub fn an_accepted_query_asks_questions()
         → IsLasting query.when }
     ensures enough { (past : Past) → (query : PlainQuery) → fault_of_query past query ≡ None
         → (b : PlainBranch) → In b (asked_branches past query)
-        → Suffices (tables_of past query.version) (needed b) b }
+        → Suffices (tables_of past query.version) (needed_reads b) b }
     ensures pushed { (past : Past) → (query : PlainQuery) → fault_of_query past query ≡ None
         → (b : PlainBranch) → In b (asked_branches past query)
         → Suffices (tables_of past query.version) (pushed_reads b) b }
@@ -141,7 +141,7 @@ pub fn one_version_is_read()
     ensures branch { (book : Book) → (past : Past) → (query : PlainQuery) → (b : PlainBranch)
         → (m : ℕ) → asked_branches past query ≡ b ∷ []
         → pieces_at book past query m ≡ set_of row_cmp
-        (answers_over (read_columns (needed b)
+        (answers_over (read_columns (needed_reads b)
         (item_columns (tables_of past query.version) b.from))
-        (unfolded_reads book past m query.version (needed b) b.from) b.outs b.cond) }
+        (unfolded_reads book past m query.version (needed_reads b) b.from) b.outs b.cond) }
 {}

@@ -1,5 +1,5 @@
-//! The constants of versions that can come into a row are valid values, as their types have it: each
-//! is met once.
+//! The constants of versions that can come into a row are valid values, as their types have it:
+//! each is met once.
 
 ghost use Rattle.std.specs.Prelude.{map};
 ghost use Rattle.smo_ops_types.specs.Operators.{operator_of, operators_of};

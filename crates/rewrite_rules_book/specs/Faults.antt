@@ -7,13 +7,13 @@ use Rattle.rewrite_rules_book.specs.declared.book.BookFault.TheVariants.{Twice, 
 
 -- a book has one rule of each kind: the first kind that stands twice, and else the first that is
 -- missing
-abbrev pub IsBookJudged : List OpKind → Result (Unit {0}) BookFault → Type 0
-IsBookJudged kinds (Ok u) = (first_twice kinds ≡ None) × (first_missing kinds ≡ None)
-IsBookJudged kinds (Err (Twice kind)) = first_twice kinds ≡ Some kind
-IsBookJudged kinds (Err (Missing kind)) = (first_twice kinds ≡ None)
+abbrev pub IsBookChecked : List OpKind → Result (Unit {0}) BookFault → Type 0
+IsBookChecked kinds (Ok u) = (first_twice kinds ≡ None) × (first_missing kinds ≡ None)
+IsBookChecked kinds (Err (Twice kind)) = first_twice kinds ≡ Some kind
+IsBookChecked kinds (Err (Missing kind)) = (first_twice kinds ≡ None)
     × (first_missing kinds ≡ Some kind)
-IsBookJudged kinds (Err NoMemory) = ⊤
+IsBookChecked kinds (Err NoMemory) = ⊤
 
 -- the same of what is made of them
 abbrev pub IsFault : List OpKind → BookFault → Type 0
-IsFault kinds fault = IsBookJudged kinds (Err fault)
+IsFault kinds fault = IsBookChecked kinds (Err fault)

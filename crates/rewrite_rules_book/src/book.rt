@@ -6,7 +6,7 @@ ghost use Rattle.piece_ir_spec.specs.Rules.{IsValidBook};
 ghost use Rattle.piece_ir_spec.specs.Books.{book_of, AreValidRules, HasEachKind};
 ghost use Rattle.piece_ir_spec.specs.Books.{first_twice as twice, first_missing as missing};
 ghost use Rattle.piece_ir.specs.Shown.{piece_of, shown_pieces};
-ghost use Rattle.rewrite_rules_book.specs.Faults.{IsBookJudged, IsFault};
+ghost use Rattle.rewrite_rules_book.specs.Faults.{IsBookChecked, IsFault};
 
 use crate::Rule;
 use crate::kind::{first_missing, first_twice, kind_of, same_kind};
@@ -50,8 +50,8 @@ fn kinds_of<R: Rule>(alloc: Global, rules: &[R]) -> Result<Vec<OpKind>, NoMemory
     Ok(kinds)
 }
 
-fn judge(kinds: &[OpKind]) -> Result<(), BookFault>
-    ensures { IsBookJudged kinds.now result }
+fn check(kinds: &[OpKind]) -> Result<(), BookFault>
+    ensures { IsBookChecked kinds.now result }
 {
     if let Some(kind) = first_twice(kinds) {
         return Err(BookFault::Twice(kind));
@@ -62,13 +62,13 @@ fn judge(kinds: &[OpKind]) -> Result<(), BookFault>
     Ok(())
 }
 
-fn judge_rules<R: Rule>(alloc: Global, rules: &[R]) -> Result<(), BookFault>
-    ensures judged { IsBookJudged (map R.handles rules.now) result }
+fn check_rules<R: Rule>(alloc: Global, rules: &[R]) -> Result<(), BookFault>
+    ensures checked { IsBookChecked (map R.handles rules.now) result }
     ensures each { OnOk result (missing (map R.handles rules.now) ≡ None) }
     ensures once { OnOk result (twice (map R.handles rules.now) ≡ None) }
 {
     let kinds = kinds_of(alloc, rules)?;
-    judge(&kinds)?;
+    check(&kinds)?;
     Ok(())
 }
 
@@ -140,7 +140,7 @@ impl<R: Rule> RuleBook<R> {
         ensures once { IfOk result (λ book. twice (map R.handles book.rules.items) ≡ None) }
         ensures fault { IfErr result (λ fault. IsFault (map R.handles rules.items) fault) }
     {
-        judge_rules(alloc, &rules)?;
+        check_rules(alloc, &rules)?;
         Ok(RuleBook { rules })
     }
 

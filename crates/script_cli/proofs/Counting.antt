@@ -3,7 +3,7 @@ use Rattle.std.proofs.Common.{◌≡◌, ℕ, Bool, true, false, List, [], ◌�
 use Rattle.std.proofs.Common.{subst, arith}
 use Rattle.std.specs.Prelude.{Option, Some, None}
 use Rattle.std.specs.Io.KnownBytes.{Consumes, IsAtEnd}
-use Rattle.disk_model.specs.Meaning.{Tells}
+use Rattle.disk_model.specs.Meaning.{IfKnown}
 use Rattle.disk_model.specs.declared.disk.Disk.{Ghosts}
 use Rattle.archive_core_file_spec.specs.LogRecords.{LogRecord, commands_in}
 use Rattle.archive_core_state.specs.ArchiveContents.{ArchiveContent}
@@ -21,13 +21,13 @@ use Rattle.script_cli.specs.Driving.{CountsPuts, CountsOpening, status_of}
 use Rattle.script_cli.specs.Runs.{IsOpening, is_whole}
 use Rattle.script_cli.specs.Sampling.{IsCounted}
 use Rattle.script_cli.specs.declared.script_run.ScriptRun.{ScriptRun}
-use Rattle.script_cli_statement.specs.declared.halt.Halt.{Halt}
-use Rattle.script_cli_statement.specs.declared.halt.Halt.TheVariants as halt
+use Rattle.script_cli_statement.specs.declared.stop_reason.StopReason.{StopReason}
+use Rattle.script_cli_statement.specs.declared.stop_reason.StopReason.TheVariants as reason
 use Rattle.script_cli.specs.declared.status.Status.{Status}
 use Rattle.script_cli.specs.declared.status.Status.TheVariants.{Done, Refused, Words, ReadFault}
 use Rattle.script_cli.specs.declared.status.Status.TheVariants.{WriteFault, DiskFault, NotAJournal}
 use Rattle.script_cli.specs.declared.status.Status.TheVariants.{NoMemory, InputLimit}
-use Rattle.script_cli_statement.specs.declared.put.Put.{Put}
+use Rattle.script_cli_statement.specs.declared.reply_kind.ReplyKind.{ReplyKind}
 use Rattle.script_cli.proofs.OneReading.{OpensOnce}
 use Rattle.script_cli.proofs.Recording.{part_step}
 use Rattle.script_cli_statement.proofs.ReplySteps.{one_if}
@@ -42,11 +42,11 @@ error_for false (image_due past ∷ due) = refl
 
 -- ---- one statement: the `ok` line of a command tells that one was put
 
-module _ (limit : Given) (now : Recorded) (text : List ℕ) (put : Put)
+module _ (limit : Given) (now : Recorded) (text : List ℕ) (put : ReplyKind)
     (is : put ≡ put_of (reply limit now text)) where
   counted : length (commands_due (reply limit now text).puts) ≡ one_if (is_command put)
   counted = (part_step limit now (Text text)).counted
-      ∙ ap (λ (p : Put). one_if (is_command p)) (sym is)
+      ∙ ap (λ (p : ReplyKind). one_if (is_command p)) (sym is)
 
   pub one_put : is_command put ≡ true → length (commands_due (reply limit now text).puts) ≡ 1
   one_put e = counted ∙ ap one_if e
@@ -61,7 +61,7 @@ module _ (limit : Given) (now : Recorded) (text : List ℕ) (put : Put)
 -- ---- a script that was read to its end
 
 counts_end : (status : Status) (limit : Given) (start : Recorded) (left : Option (List ℕ))
-    (puts : ℕ) → Tells left (λ script. puts
+    (puts : ℕ) → IfKnown left (λ script. puts
     ≡ length (commands_due (script_puts limit start script)))
     → CountsPuts status limit start left puts
 counts_end Done limit start left puts told = told
@@ -74,15 +74,15 @@ counts_end (NotAJournal place) limit start left puts told = tt
 counts_end NoMemory limit start left puts told = tt
 counts_end InputLimit limit start left puts told = tt
 
-pub counts_stopped : (h : Halt) (limit : Given) (start : Recorded) (left : Option (List ℕ))
+pub counts_stopped : (h : StopReason) (limit : Given) (start : Recorded) (left : Option (List ℕ))
     (puts : ℕ) → CountsPuts (status_of h) limit start left puts
-counts_stopped halt.WriteFault limit start left puts = tt
-counts_stopped halt.DiskFault limit start left puts = tt
-counts_stopped halt.NoMemory limit start left puts = tt
+counts_stopped reason.WriteFault limit start left puts = tt
+counts_stopped reason.DiskFault limit start left puts = tt
+counts_stopped reason.NoMemory limit start left puts = tt
 
 pub counts_whole : (status : Status) (limit : Given) (start : Recorded) (left : Option (List ℕ))
     (puts : ℕ) → is_whole status ≡ true → CountsPuts status limit start left puts
-    → Tells left (λ script. puts ≡ length (commands_due (script_puts limit start script)))
+    → IfKnown left (λ script. puts ≡ length (commands_due (script_puts limit start script)))
 counts_whole Done limit start left puts e counts = counts
 counts_whole Refused limit start left puts e counts = counts
 counts_whole Words limit start left puts e counts = cc
@@ -99,9 +99,9 @@ pub counts_at_end : {D : Type 0} {g : Ghosts D} (limit : Given) (start : Recorde
     → Consumes b c [] → IsAtEnd c → CountsPuts status limit start a s.puts
 counts_at_end limit start o m a b c u v s n status r consumes end =
     let whole = ap (λ l. length (commands_due (all_puts limit start l)))
-    (all_parts limit start o m r.run s r.begun_so r.taken u v r.took) in
+    (all_parts limit start o m r.run s r.begun_so r.taken u v r.fed) in
     let counted : s.puts ≡ length (commands_due (script_puts limit start r.taken)) =
-    omega (arith, r.took.counted, r.begun_so.puts, whole) in
+    omega (arith, r.fed.counted, r.begun_so.puts, whole) in
     counts_end status limit start a s.puts (told_end limit start
     (λ script. s.puts ≡ length (commands_due (script_puts limit start script))) a c r.taken
     (consumed_still a b c r.taken r.consumed consumes) end counted)
@@ -109,11 +109,11 @@ counts_at_end limit start o m a b c u v s n status r consumes end =
 -- ---- the commands of the file
 
 pub opening_counted : OpensOnce → (seen : Option (List ℕ)) (standing : ArchiveContent) (at : ℕ)
-    (opened : Opened) → Tells seen (λ file. IsMounted file standing at opened)
+    (opened : Opened) → IfKnown seen (λ file. IsMounted file standing at opened)
     → CountsOpening seen opened.commands
 opening_counted once seen standing at opened mounted file opening is opens =
-    let here : Tells (Some file) (λ x. IsMounted x standing at opened) =
-    subst (λ s. Tells s (λ x. IsMounted x standing at opened)) is mounted in
+    let here : IfKnown (Some file) (λ x. IsMounted x standing at opened) =
+    subst (λ s. IfKnown s (λ x. IsMounted x standing at opened)) is mounted in
     here.counted.commands ∙ ap (λ (l : List LogRecord). length (commands_in l))
     (once file here.log opening here.opens opens)
 

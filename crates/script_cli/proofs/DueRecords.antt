@@ -1,7 +1,7 @@
 -- Records of what is due, one part after the other.
 use Rattle.std.proofs.Common.{◌≡◌, ◌⊎◌, inl, inr, ⊎_elim, ℕ, zero, suc, List, [], ◌∷◌, ◌++◌, take}
 use Rattle.std.proofs.Common.{refl, ap}
-use Rattle.archive_core_file_spec.specs.LogRecords.{LogRecord, AreSpelled}
+use Rattle.archive_core_file_spec.specs.LogRecords.{LogRecord, AreEncoded}
 use Rattle.script_cli_statement.specs.Due.{Due, command_due, image_due, commands_due, AreRecordsOf}
 use Rattle.script_cli_statement.specs.Due.{AreFirstOf}
 
@@ -89,12 +89,12 @@ commands_append (image_due past ∷ xs) ys = commands_append xs ys
 
 -- ---- spelled records
 
-pub spelled_append : (xs ys : List LogRecord) → AreSpelled xs → AreSpelled ys
-    → AreSpelled (xs ++ ys)
-spelled_append [] ys a b = b
-spelled_append (x ∷ xs) ys a b = (a.0, spelled_append xs ys a.1 b)
+pub encoded_append : (xs ys : List LogRecord) → AreEncoded xs → AreEncoded ys
+    → AreEncoded (xs ++ ys)
+encoded_append [] ys a b = b
+encoded_append (x ∷ xs) ys a b = (a.0, encoded_append xs ys a.1 b)
 
-pub spelled_prefix : (n : ℕ) (xs : List LogRecord) → AreSpelled xs → AreSpelled (take n xs)
-spelled_prefix zero xs a = tt
-spelled_prefix (suc n) [] a = tt
-spelled_prefix (suc n) (x ∷ xs) a = (a.0, spelled_prefix n xs a.1)
+pub encoded_prefix : (n : ℕ) (xs : List LogRecord) → AreEncoded xs → AreEncoded (take n xs)
+encoded_prefix zero xs a = tt
+encoded_prefix (suc n) [] a = tt
+encoded_prefix (suc n) (x ∷ xs) a = (a.0, encoded_prefix n xs a.1)

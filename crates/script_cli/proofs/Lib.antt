@@ -7,12 +7,12 @@ pub mod Taking
 pub mod Reaching
 pub mod OnDisks
 pub mod Telling
-pub mod SpelledConstants
+pub mod EncodedConstants
 pub mod ValidPasts
 pub mod Counts
 pub mod Unopened
 pub mod Borrowed
-pub mod Judging
+pub mod Checking
 pub mod Counting
 pub mod SampleDriven
 pub mod SampleRuns

@@ -4,7 +4,7 @@ use Rattle.std.proofs.Common.{length, take, drop, refl, sym, ap, ◌∙◌, subs
 use Rattle.std.proofs.Common.{take-append-drop}
 use Rattle.std.specs.Prelude.{Option, Some, None}
 use Rattle.std.proofs.lemmas.List.{append-nil, map-append, length-map, take-map, take-append-le}
-use Rattle.disk_model.specs.Meaning.{Meaning, Tells, IsValid}
+use Rattle.disk_model.specs.Meaning.{Meaning, IfKnown, IsValid}
 use Rattle.disk_model.specs.Moments.{GoesOn, Leaves, Turns}
 use Rattle.disk_model.specs.MomentLaws.{still_honest, turns_weaker}
 use Rattle.disk_model.specs.declared.disk.Disk.{Ghosts}
@@ -14,7 +14,7 @@ use Rattle.journal.specs.Mounting.{SameOrNine}
 use Rattle.journal.specs.Puts.{HoldsPrefix, StandsForPrefix}
 use Rattle.journal.specs.MountLaws.{none_yet, mount_then}
 use Rattle.smo_ops_spec.specs.Past.{beginning}
-use Rattle.archive_core_file_spec.specs.LogRecords.{LogRecord, record_of, records_of, AreSpelled}
+use Rattle.archive_core_file_spec.specs.LogRecords.{LogRecord, record_of, records_of, AreEncoded}
 use Rattle.archive_core_file_spec.specs.LogRecords.{AreAccepted}
 use Rattle.archive_core_file_spec.specs.LogRecords.{AreSound, past_recorded}
 use Rattle.archive_core_file_spec.specs.Opening.{Opens, IsSound}
@@ -24,14 +24,14 @@ use Rattle.piece_ir_spec.specs.Rules.{Book}
 use Rattle.archive_core.specs.declared.archive.Archive.{Archive}
 use Rattle.archive_core_replay.specs.declared.opened.Opened.{Opened}
 use Rattle.archive_core.specs.Fields.{standing_of, below, place_of}
-use Rattle.archive_core.specs.Holding.{HoldsAt}
+use Rattle.archive_core.specs.DiskReads.{HoldsAt}
 use Rattle.archive_core.specs.Mounting.{IsMounted}
 use Rattle.script_parse.specs.Script.{StatementPart}
 use Rattle.script_cli_statement.specs.Due.{AreRecordsOf}
 use Rattle.script_cli_statement.specs.Replies.{Recorded, recorded}
 use Rattle.script_cli.specs.Output.{all_puts}
 use Rattle.script_cli_statement.specs.Putting.{HasPut}
-use Rattle.script_cli.specs.Driving.{PutsSome, Drove, PutBy, HasOpened}
+use Rattle.script_cli.specs.Driving.{PutsSome, RanScript, PutBy, HasOpened}
 use Rattle.script_cli_statement.specs.Responses.{RepresentsAt}
 use Rattle.script_cli.specs.Files.{OpensPrefix, EndsAs, IsSoundFile}
 use Rattle.script_cli.specs.Runs.{RanOpened, IsOpening, begun, given_by, logged_in}
@@ -39,19 +39,19 @@ use Rattle.script_cli.specs.declared.status.Status.{Status}
 use Rattle.script_cli.specs.declared.status.Status.TheVariants.{Done, Refused, Words, ReadFault}
 use Rattle.script_cli.specs.declared.status.Status.TheVariants.{WriteFault, DiskFault, NotAJournal}
 use Rattle.script_cli.specs.declared.status.Status.TheVariants.{NoMemory, InputLimit}
-use Rattle.script_cli.proofs.DueRecords.{spelled_append, spelled_prefix}
+use Rattle.script_cli.proofs.DueRecords.{encoded_append, encoded_prefix}
 use Rattle.script_cli.proofs.Recording.{put_sound}
 use Rattle.script_cli.proofs.OneReading.{OpensOnce}
 
 -- ---- files that hold records
 
-module _ (opening log : List LogRecord) (first : AreSpelled opening) (then : AreSpelled log) where
+module _ (opening log : List LogRecord) (first : AreEncoded opening) (then : AreEncoded log) where
   -- all of them
   pub opens_all : AreAccepted beginning opening → AreSound (past_recorded opening) log
       → (c : List ℕ) → StandsFor c (records_of (opening ++ log)) → Opens c (opening ++ log)
   opens_all accepted sound c stands = record {
     stands = stands;
-    spelled = spelled_append opening log first then;
+    encoded = encoded_append opening log first then;
     accepted = accepted_append beginning opening log accepted
         (sound_accepted (past_recorded opening) log sound);
   }
@@ -71,7 +71,7 @@ module _ (opening log : List LogRecord) (first : AreSpelled opening) (then : Are
     record {
       stands = subst (StandsFor c) (ap (λ (l : List Record). records_of opening ++ l)
           (take-map record_of n log) ∙ sym (map-append record_of opening (take n log))) stands;
-      spelled = spelled_append opening (take n log) first (spelled_prefix n log then);
+      encoded = encoded_append opening (take n log) first (encoded_prefix n log then);
       accepted = accepted_append beginning opening (take n log) accepted
           (sound_accepted (past_recorded opening) (take n log) (sound_taken sound n));
     },
@@ -85,7 +85,7 @@ sound_opening opening log first sound c (n, high, opens) = (
   opening ++ take n log,
   record {
     stands = opens.stands;
-    spelled = opens.spelled;
+    encoded = opens.encoded;
     sound = sound_append beginning opening (take n log) first
         (sound_prefix (past_recorded opening) (take n log) (drop n log)
         (subst (AreSound (past_recorded opening)) (sym (take-append-drop n log)) sound));
@@ -96,7 +96,7 @@ sound_opening opening log first sound c (n, high, opens) = (
 pub sound_opens : (file : List ℕ) (log : List LogRecord) → IsSound file log → Opens file log
 sound_opens file log is = record {
   stands = is.stands;
-  spelled = is.spelled;
+  encoded = is.encoded;
   accepted =
       sound_accepted beginning log is.sound;
 }
@@ -111,7 +111,7 @@ opens_none_yet file opening put opens c same =
       subst (Opens c) (sym (append-nil opening))
           (record {
             stands = subst (StandsFor c) (none_taken none.0) none.3;
-            spelled = opens.spelled;
+            encoded = opens.encoded;
             accepted = opens.accepted;
           }),
     )
@@ -156,7 +156,7 @@ module _ (old mid new : Meaning) (at : ℕ) (file : List ℕ) (opening done put 
     (done_sound : AreSound (past_recorded opening) done) where
   module _ (goes : GoesOn old mid) (turns : Turns old mid (SameOrNine file))
       (stands : Stands mid at (records_of opening)) (honest : IsTrue mid.is_honest) where
-    leaves_prefix : AreSpelled put → GoesOn mid new
+    leaves_prefix : AreEncoded put → GoesOn mid new
         → Leaves mid new (HoldsPrefix (records_of opening) (records_of put) 0
         (length (records_of put))) → Turns old new (OpensPrefix opening put)
     leaves_prefix then further leaves =
@@ -164,22 +164,22 @@ module _ (old mid new : Meaning) (at : ℕ) (file : List ℕ) (opening done put 
         (length (records_of put))) (OpensPrefix opening put)
         (mount_then file (records_of opening) (records_of put) opens.stands old mid new
         (length (records_of put)) goes turns further leaves)
-        (opens_prefix opening put opens.spelled then opens.accepted sound)
+        (opens_prefix opening put opens.encoded then opens.accepted sound)
 
     pub moments_of : (status : Status) → PutBy status mid new at done put
         → Turns old new (OpensPrefix opening put)
     moments_of status puts = ⊎_elim
-        (λ some. leaves_prefix some.1.spelled some.1.goes (some.1.leaves opening honest stands))
+        (λ some. leaves_prefix some.1.encoded some.1.goes (some.1.leaves opening honest stands))
         (λ all. let have = all.1.have opening honest stands in
-        leaves_prefix all.1.spelled have.goes have.leaves)
+        leaves_prefix all.1.encoded have.goes have.leaves)
         (some_or_all status mid new at done put puts)
 
     exit_some : PutsSome mid new at done put → (c : List ℕ) → new.may_leave c
         → Opens c (opening ++ done) ⊎ Opens c (opening ++ put)
     exit_some some c left = ⊎_elim
-        (λ h. inl (opens_all opening done opens.spelled some.done_spelled opens.accepted done_sound
+        (λ h. inl (opens_all opening done opens.encoded some.done_encoded opens.accepted done_sound
         c (inr h)))
-        (λ h. inr (opens_all opening put opens.spelled some.spelled opens.accepted sound c (inr h)))
+        (λ h. inr (opens_all opening put opens.encoded some.encoded opens.accepted sound c (inr h)))
         (some.exit opening honest stands c left)
 
     pub exit_of : (status : Status) → PutBy status mid new at done put → (c : List ℕ)
@@ -188,7 +188,7 @@ module _ (old mid new : Meaning) (at : ℕ) (file : List ℕ) (opening done put 
         (λ some. subst (λ (s : Status). EndsAs s opening done put c) (sym some.0)
         (exit_some some.1 c left))
         (λ all. let now = (all.1.have opening honest stands).stands in
-        all.2 opening c (opens_all opening put opens.spelled all.1.spelled opens.accepted sound c
+        all.2 opening c (opens_all opening put opens.encoded all.1.encoded opens.accepted sound c
         (inr (subst (λ f. Holds f (records_of (opening ++ put))) (sym (now.durable c left))
         (subst (λ (l : List Record). Holds now.file l) (sym (map-append record_of opening put))
         now.holds)))))
@@ -203,7 +203,7 @@ module _ (old mid new : Meaning) (at : ℕ) (file : List ℕ) (opening done put 
         now.file,
         now.seen,
         all.2 opening now.file
-            (opens_all opening put opens.spelled all.1.spelled opens.accepted sound now.file
+            (opens_all opening put opens.encoded all.1.encoded opens.accepted sound now.file
             (inr now.holds)),
       ))
       (some_or_all status mid new at done put puts)
@@ -220,7 +220,7 @@ module _ (old mid new : Meaning) (at : ℕ) (file : List ℕ) (opening done put 
 
 module _ {D : Type 0} {g : Ghosts D} (old : Meaning) (limit : ℕ) (book : Book)
     (archive : Archive D g) (has : HasOpened old limit archive) where
-  start_told : (seen : Option (List ℕ)) → Tells seen (λ file. (opened : Opened)
+  start_told : (seen : Option (List ℕ)) → IfKnown seen (λ file. (opened : Opened)
       × IsMounted file (standing_of archive) (place_of archive) opened)
       → (start : Recorded) × RepresentsAt archive (given_by limit book) start × IsOpening start seen
   start_told None told = (
@@ -251,13 +251,13 @@ module _ {D : Type 0} {g : Ghosts D} (once : OpensOnce) (old : Meaning) (limit :
     (archive : Archive D g) (has : HasOpened old limit archive) (start : Recorded)
     (opened : IsOpening start old.seen)
     (status : Status) (a b u v : Option (List ℕ)) (new : Meaning) (law : IsValid new)
-    (drove : Drove (given_by limit book) start status a b u v (below archive) new
+    (ran_script : RanScript (given_by limit book) start status a b u v (below archive) new
     (place_of archive)) where
   abbrev done : List LogRecord
-  done = drove.log.done
+  done = ran_script.log.done
 
   abbrev all : List LogRecord
-  all = logged_in drove.log
+  all = logged_in ran_script.log
 
   module _ (file : List ℕ) (opening : List LogRecord) (is : old.seen ≡ Some file)
       (opens : Opens file opening) where
@@ -270,39 +270,40 @@ module _ {D : Type 0} {g : Ghosts D} (once : OpensOnce) (old : Meaning) (limit :
         (start_is once old.seen start file opening is opened opens) are)
 
     sound : AreSound (past_recorded opening) all
-    sound = put_after (drove.ran.whole ++ begun status drove.ran.rest) all drove.log.all_are
+    sound = put_after (ran_script.ran.whole ++ begun status ran_script.ran.rest) all
+        ran_script.log.all_are
 
     done_sound : AreSound (past_recorded opening) done
-    done_sound = put_after drove.ran.whole done drove.log.done_are
+    done_sound = put_after ran_script.ran.whole done ran_script.log.done_are
 
   pub ran_opened : RanOpened (given_by limit book) status a b u v old new
   ran_opened = record {
     start = start;
     opened = opened;
-    ran = drove.ran;
-    log = drove.log;
+    ran = ran_script.ran;
+    log = ran_script.log;
     disk = record {
       any_moment = λ file opening honest is opens.
           moments_of old (below archive) new (place_of archive) file opening done all opens
           (sound file opening is opens)
           (done_sound file opening is opens) has.goes (has.turns file honest is)
           (has.stands file opening honest is opens)
-          (still_honest old (below archive) has.goes honest) status drove.puts;
+          (still_honest old (below archive) has.goes honest) status ran_script.puts;
       exit = λ file opening honest is opens.
           exit_of old (below archive) new (place_of archive) file opening done all opens
           (sound file opening is opens)
           (done_sound file opening is opens) has.goes (has.turns file honest is)
           (has.stands file opening honest is opens)
-          (still_honest old (below archive) has.goes honest) status drove.puts;
+          (still_honest old (below archive) has.goes honest) status ran_script.puts;
       given = λ file opening not_failed is opens.
           given_of old (below archive) new (place_of archive) file opening done all opens
           (sound file opening is opens)
-          (done_sound file opening is opens) status not_failed drove.puts
+          (done_sound file opening is opens) status not_failed ran_script.puts
           (has.holds file opening is opens);
       holds = λ file opening not_failed is opens.
           held_of old (below archive) new (place_of archive) file opening done all opens
           (sound file opening is opens)
-          (done_sound file opening is opens) status not_failed drove.puts
+          (done_sound file opening is opens) status not_failed ran_script.puts
           (has.holds file opening is opens);
     };
   }

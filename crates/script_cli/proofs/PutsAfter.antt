@@ -13,14 +13,14 @@ use Rattle.journal.specs.JournalFiles.{Stands, WithOrWithout}
 use Rattle.journal.specs.Puts.{HoldsPrefix, HavePut}
 use Rattle.journal.specs.PutLaws.{leaves_one_more}
 use Rattle.archive_core_file_spec.specs.LogRecords.{LogRecord, record_of, records_of}
-use Rattle.archive_core.specs.Holding.{HoldsAt}
+use Rattle.archive_core.specs.DiskReads.{HoldsAt}
 use Rattle.archive_core.specs.declared.archive.Archive.{Archive}
 use Rattle.archive_core.specs.Fields.{below, place_of}
 use Rattle.script_cli_statement.specs.Due.{Due}
 use Rattle.script_cli_statement.specs.Putting.{HasPut, MayHavePut}
 use Rattle.script_cli.specs.Driving.{PutsSome}
 use Rattle.script_cli_statement.specs.Responses.{PutBetween}
-use Rattle.script_cli.proofs.DueRecords.{records_together, spelled_append}
+use Rattle.script_cli.proofs.DueRecords.{records_together, encoded_append}
 
 -- ---- records
 
@@ -62,7 +62,7 @@ module _ (opening xs ys : List Record) where
 pub put_then : (a b c : Meaning) (at m n : ℕ) (xs ys : List LogRecord) → HasPut a b at m xs
     → HasPut b c m n ys → HasPut a c at n (xs ++ ys)
 put_then a b c at m n xs ys one two = record {
-  spelled = spelled_append xs ys one.spelled two.spelled;
+  encoded = encoded_append xs ys one.encoded two.encoded;
   goes = goes_trans a b c one.goes two.goes;
   holds = λ opening held. subst (λ (l : List LogRecord). HoldsAt c n (records_of l))
       (append_assoc opening xs ys) (two.holds (opening ++ xs) (one.holds opening held));
@@ -88,8 +88,8 @@ put_some a b c at m xs due law one may =
     let size : records_of (xs ++ d ∷ []) ≡ records_of xs ++ record_of d ∷ [] =
     map-append record_of xs (d ∷ []) in
     record {
-      done_spelled = one.spelled;
-      spelled = spelled_append xs (d ∷ []) one.spelled (may.spelled, tt);
+      done_encoded = one.encoded;
+      encoded = encoded_append xs (d ∷ []) one.encoded (may.encoded, tt);
       goes = goes_trans a b c one.goes may.puts_it.goes;
       leaves = λ opening honest stands. subst
           (λ (l : List Record). Leaves a c (HoldsPrefix (records_of opening) l 0 (length l)))

@@ -20,12 +20,12 @@ use Rattle.script_cli_statement.specs.Replies.{Recorded}
 use Rattle.script_cli.specs.Output.{part_reply, all_puts, recorded_after, any_error, parts_of}
 use Rattle.script_cli.specs.Output.{ending_of, has_error, tail_text, tail_is_due}
 use Rattle.script_cli.specs.declared.script_run.ScriptRun.{ScriptRun}
-use Rattle.script_cli_statement.specs.declared.halt.Halt.{Halt}
-use Rattle.script_cli_statement.specs.declared.halt.Halt.TheVariants as halt
+use Rattle.script_cli_statement.specs.declared.stop_reason.StopReason.{StopReason}
+use Rattle.script_cli_statement.specs.declared.stop_reason.StopReason.TheVariants as reason
 use Rattle.script_cli_statement.specs.Responses.{RepresentsAt, PutBetween}
-use Rattle.script_cli.specs.Taking.{Took, Halted, next_reply, parts_after, ending_after}
+use Rattle.script_cli.specs.Taking.{Fed, Stopped, next_reply, parts_after, ending_after}
 use Rattle.script_cli.specs.Runs.{Log, Wrote, WroteAll, begun, logged_in}
-use Rattle.script_cli.specs.Driving.{Drove, PutBy, Ends, is_faulty, status_of}
+use Rattle.script_cli.specs.Driving.{RanScript, PutBy, Ends, is_faulty, status_of}
 use Rattle.script_cli.specs.Limits.{longest_script}
 use Rattle.script_cli.specs.declared.status.Status.{Status}
 use Rattle.script_cli.specs.declared.status.Status.TheVariants.{Done, Refused, Words, ReadFault}
@@ -50,28 +50,28 @@ pub record Reached {D : Type 0} {g : Ghosts D} (limit : Given) (start : Recorded
   pub taken : List ℕ
   pub consumed : Consumes left_old left_new taken
   pub counted : count ≡ length taken
-  pub took : Took limit start run script_run a b taken [] written_old written_new
+  pub fed : Fed limit start run script_run a b taken [] written_old written_new
 
 module _ {D : Type 0} {g : Ghosts D} (limit : Given) (start : Recorded) (a b : Archive D g)
     (run script_run : ScriptRun) (begun_so : IsStart run) (taken : List ℕ) (u v : Option (List ℕ))
-    (took : Took limit start run script_run a b taken [] u v) where
-  pub parts_is : (more : List ℕ) → parts_of (taken ++ more) ≡ took.parts
+    (fed : Fed limit start run script_run a b taken [] u v) where
+  pub parts_is : (more : List ℕ) → parts_of (taken ++ more) ≡ fed.parts
       ++ parts_after script_run more
   parts_is more = ap (λ s. parts_from s.mode s.kept (taken ++ more)) (sym begun_so.splitter)
-      ∙ took.cut more
+      ∙ fed.cut more
 
   pub ending_is : ending_of taken ≡ ending_after script_run []
   ending_is = ap ending_of (sym (append-nil taken))
       ∙ ap (λ s. ending (tail_from s.mode s.kept (taken ++ []))) (sym begun_so.splitter)
-      ∙ took.end []
+      ∙ fed.end []
 
-  pub all_parts : parts_of taken ≡ took.parts
-  all_parts = ap parts_of (sym (append-nil taken)) ∙ parts_is [] ∙ append-nil took.parts
+  pub all_parts : parts_of taken ≡ fed.parts
+  all_parts = ap parts_of (sym (append-nil taken)) ∙ parts_is [] ∙ append-nil fed.parts
 
   pub faulty_is : is_faulty script_run ≡ has_error limit start taken
   faulty_is =
       ap (λ x. x || tail_is_due (ending_after script_run []))
-      (took.refused ∙ ap (λ x. x || any_error limit start took.parts) begun_so.refused)
+      (fed.refused ∙ ap (λ x. x || any_error limit start fed.parts) begun_so.refused)
       ∙ ap (λ l. any_error limit start l || tail_is_due (ending_after script_run []))
       (sym all_parts)
       ∙ ap (λ e. any_error limit start (parts_of taken) || tail_is_due e) (sym ending_is)
@@ -137,7 +137,7 @@ reach_start limit start archive a u s law h represents k =
       taken = [];
       consumed = k;
       counted = refl;
-      took =
+      fed =
           took_none limit start s archive [] u law represents;
     }
 
@@ -153,77 +153,78 @@ within_still n taken counted l = subst (λ k. k ≤ longest_script) counted l
 module _ {D : Type 0} {g : Ghosts D} (limit : Given) (start : Recorded)
     (o m : Archive D g) {a b c u v : Option (List ℕ)} {s : ScriptRun} {n : ℕ} where
   pub drove_read : Reached limit start o m a b u v s n → n ≤ longest_script → Keeps b c
-      → Drove limit start ReadFault a c u v (below o) (below m) (place_of o)
+      → RanScript limit start ReadFault a c u v (below o) (below m) (place_of o)
   drove_read r l k = record {
     ran = record {
       taken = r.taken;
       consumed = Consumes-kept a b c r.taken r.consumed k;
-      whole = r.took.parts;
+      whole = r.fed.parts;
       rest = [];
-      are = all_parts limit start o m r.run s r.begun_so r.taken u v r.took
-          ∙ sym (append-nil r.took.parts);
+      are = all_parts limit start o m r.run s r.begun_so r.taken u v r.fed
+          ∙ sym (append-nil r.fed.parts);
       between = v;
-      replied = r.took.wrote;
+      replied = r.fed.wrote;
       wrote = (within_still n r.taken r.counted l, refl, refl);
     };
-    log = whole_log limit start ReadFault r.took.parts [] o m refl r.took.puts;
-    puts = (place_of m, whole_put limit start ReadFault r.took.parts [] o m refl r.took.puts);
+    log = whole_log limit start ReadFault r.fed.parts [] o m refl r.fed.puts;
+    puts = (place_of m, whole_put limit start ReadFault r.fed.parts [] o m refl r.fed.puts);
   }
 
   pub drove_limit : (r : Reached limit start o m a b u v s n) (chunk : List ℕ) → Consumes b c chunk
       → n ≡ longest_script → length chunk ≡ 1
-      → Drove limit start InputLimit a c u v (below o) (below m) (place_of o)
+      → RanScript limit start InputLimit a c u v (below o) (below m) (place_of o)
   drove_limit r chunk k e l = record {
     ran = record {
       taken = r.taken ++ chunk;
       consumed = Consumes-trans a b c r.taken chunk r.consumed k;
-      whole = r.took.parts;
+      whole = r.fed.parts;
       rest = parts_after s chunk;
-      are = parts_is limit start o m r.run s r.begun_so r.taken u v r.took chunk;
+      are = parts_is limit start o m r.run s r.begun_so r.taken u v r.fed chunk;
       between = v;
-      replied = r.took.wrote;
+      replied = r.fed.wrote;
       wrote = (
         length-append r.taken chunk ∙ omega (arith, r.counted, e, l),
         sym (ap parts_of (take_at r.taken chunk longest_script (sym r.counted ∙ e))
-            ∙ all_parts limit start o m r.run s r.begun_so r.taken u v r.took),
+            ∙ all_parts limit start o m r.run s r.begun_so r.taken u v r.fed),
         refl,
       );
     };
-    log = whole_log limit start InputLimit r.took.parts (parts_after s chunk) o m refl
-        r.took.puts;
+    log = whole_log limit start InputLimit r.fed.parts (parts_after s chunk) o m refl
+        r.fed.puts;
     puts = (
       place_of m,
-      whole_put limit start InputLimit r.took.parts (parts_after s chunk) o m
-          refl r.took.puts,
+      whole_put limit start InputLimit r.fed.parts (parts_after s chunk) o m
+          refl r.fed.puts,
     );
   }
 
 -- what the run had answered when it stopped, and in which reply it did
 stopped : {D : Type 0} {g : Ghosts D} (limit : Given) (start : Recorded) (o m e : Archive D g)
-    (a b u v w : Option (List ℕ)) (s : ScriptRun) (n : ℕ) (h : Halt)
+    (a b u v w : Option (List ℕ)) (s : ScriptRun) (n : ℕ) (h : StopReason)
     (r : Reached limit start o m a b u v s n) (chunk : List ℕ)
     → ((now : Recorded) → RepresentsAt m limit now
-    → Halted h limit now (parts_after s chunk) m e v w)
-    → Halted h limit start (r.took.parts ++ parts_after s chunk) o e u w
+    → Stopped h limit now (parts_after s chunk) m e v w)
+    → Stopped h limit start (r.fed.parts ++ parts_after s chunk) o e u w
 stopped limit start o m e a b u v w s n h r chunk f =
-    halted_after limit start h r.took.parts (parts_after s chunk) o m e u v w r.took.puts
-    r.took.wrote (f (recorded_after limit start r.took.parts) r.took.represents)
+    halted_after limit start h r.fed.parts (parts_after s chunk) o m e u v w r.fed.puts
+    r.fed.wrote (f (recorded_after limit start r.fed.parts) r.fed.represents)
 
 module _ {D : Type 0} {g : Ghosts D} (limit : Given) (start : Recorded) (o e : Archive D g)
     (u w : Option (List ℕ)) where
-  wrote_halted : (h : Halt) (c : Option (List ℕ)) (taken : List ℕ) (parts : List StatementPart)
-      → length taken ≤ longest_script → (x : Halted h limit start parts o e u w)
+  wrote_stopped : (h : StopReason) (c : Option (List ℕ)) (taken : List ℕ)
+      (parts : List StatementPart)
+      → length taken ≤ longest_script → (x : Stopped h limit start parts o e u w)
       → Wrote (status_of h) limit start taken x.whole x.rest c x.between w
-  wrote_halted halt.WriteFault c taken parts l x = (l, inl x.stops.0)
-  wrote_halted halt.DiskFault c taken parts l x =
+  wrote_stopped reason.WriteFault c taken parts l x = (l, inl x.stops.0)
+  wrote_stopped reason.DiskFault c taken parts l x =
       (l, x.stops.0, (x.stops.1.what, x.stops.1.due_is))
-  wrote_halted halt.NoMemory c taken parts l x = (l, x.stops.0)
+  wrote_stopped reason.NoMemory c taken parts l x = (l, x.stops.0)
 
-  puts_halted : (h : Halt) (parts : List StatementPart) → IsValid (below e)
-      → (x : Halted h limit start parts o e u w)
+  puts_stopped : (h : StopReason) (parts : List StatementPart) → IsValid (below e)
+      → (x : Stopped h limit start parts o e u w)
       → (log : Log limit start (status_of h) x.whole x.rest)
       × PutBy (status_of h) (below o) (below e) (place_of o) log.done (logged_in log)
-  puts_halted halt.WriteFault parts law x =
+  puts_stopped reason.WriteFault parts law x =
       let its = x.stops.1 in (
         record {
           done = x.puts.0;
@@ -237,7 +238,7 @@ module _ {D : Type 0} {g : Ghosts D} (limit : Given) (start : Recorded) (o e : A
               (place_of e) x.puts.0 its.0 x.puts.2 its.2,
         ),
       )
-  puts_halted halt.DiskFault parts law x =
+  puts_stopped reason.DiskFault parts law x =
       let may = x.stops.1 in
       let next = next_reply limit (recorded_after limit start x.whole) x.rest in (
         record {
@@ -251,7 +252,7 @@ module _ {D : Type 0} {g : Ghosts D} (limit : Given) (start : Recorded) (o e : A
         put_some (below o) (below x.mid) (below e) (place_of o) (place_of x.mid) x.puts.0 next.puts
             law x.puts.2 may,
       )
-  puts_halted halt.NoMemory parts law x =
+  puts_stopped reason.NoMemory parts law x =
       let all = subst (PutBetween o e) (append-nil (all_puts limit start x.whole))
       (then_between o x.mid e (all_puts limit start x.whole) [] x.puts x.stops.1) in (
         whole_log limit start NoMemory x.whole x.rest o e refl all,
@@ -262,7 +263,7 @@ module _ {D : Type 0} {g : Ghosts D} (limit : Given) (start : Recorded)
     (o m e : Archive D g) {a b c u v w : Option (List ℕ)} {s : ScriptRun} {n : ℕ} where
   pub reach : (r : Reached limit start o m a b u v s n) (chunk : List ℕ) (k : ℕ) (next : ScriptRun)
       → Consumes b c chunk → k ≡ n + length chunk
-      → ((now : Recorded) → RepresentsAt m limit now → Took limit now s next m e chunk [] v w)
+      → ((now : Recorded) → RepresentsAt m limit now → Fed limit now s next m e chunk [] v w)
       → Reached limit start o e a c u w next k
   unfolding took_longer
   reach r chunk k next consumes is f = record {
@@ -271,19 +272,19 @@ module _ {D : Type 0} {g : Ghosts D} (limit : Given) (start : Recorded)
     taken = r.taken ++ chunk;
     consumed = Consumes-trans a b c r.taken chunk r.consumed consumes;
     counted = is ∙ ap (λ j. j + length chunk) r.counted ∙ sym (length-append r.taken chunk);
-    took = took_more limit start r.run s next o m e (r.taken ++ chunk) chunk [] u v w
-        (took_longer limit start r.run s o m r.taken [] chunk u v r.took)
-        (f (recorded_after limit start r.took.parts) r.took.represents);
+    fed = took_more limit start r.run s next o m e (r.taken ++ chunk) chunk [] u v w
+        (took_longer limit start r.run s o m r.taken [] chunk u v r.fed)
+        (f (recorded_after limit start r.fed.parts) r.fed.represents);
   }
 
-  pub drove_halted : (h : Halt) (r : Reached limit start o m a b u v s n) (chunk : List ℕ)
+  pub ran_stopped : (h : StopReason) (r : Reached limit start o m a b u v s n) (chunk : List ℕ)
       → IsValid (below e) → n + length chunk ≤ longest_script → Consumes b c chunk
       → ((now : Recorded) → RepresentsAt m limit now
-      → Halted h limit now (parts_after s chunk) m e v w)
-      → Drove limit start (status_of h) a c u w (below o) (below e) (place_of o)
-  drove_halted h r chunk law l k f =
+      → Stopped h limit now (parts_after s chunk) m e v w)
+      → RanScript limit start (status_of h) a c u w (below o) (below e) (place_of o)
+  ran_stopped h r chunk law l k f =
       let x = stopped limit start o m e a b u v w s n h r chunk f in
-      let puts = puts_halted limit start o e u w h (r.took.parts ++ parts_after s chunk) law x in
+      let puts = puts_stopped limit start o e u w h (r.fed.parts ++ parts_after s chunk) law x in
       let within : length (r.taken ++ chunk) ≤ longest_script =
       omega (arith, l, r.counted, length-append r.taken chunk) in
       record {
@@ -292,11 +293,11 @@ module _ {D : Type 0} {g : Ghosts D} (limit : Given) (start : Recorded)
           consumed = Consumes-trans a b c r.taken chunk r.consumed k;
           whole = x.whole;
           rest = x.rest;
-          are = parts_is limit start o m r.run s r.begun_so r.taken u v r.took chunk ∙ x.are;
+          are = parts_is limit start o m r.run s r.begun_so r.taken u v r.fed chunk ∙ x.are;
           between = x.between;
           replied = x.wrote;
-          wrote = wrote_halted limit start o e u w h c (r.taken ++ chunk)
-              (r.took.parts ++ parts_after s chunk) within x;
+          wrote = wrote_stopped limit start o e u w h c (r.taken ++ chunk)
+              (r.fed.parts ++ parts_after s chunk) within x;
         };
         log = puts.0;
         puts = puts.1;
@@ -306,20 +307,20 @@ module _ {D : Type 0} {g : Ghosts D} (limit : Given) (start : Recorded)
     (o m : Archive D g) {a b c u v w : Option (List ℕ)} {s : ScriptRun} {n : ℕ}
     (r : Reached limit start o m a b u v s n)
     (within : n ≤ longest_script) (consumes : Consumes b c []) (end : IsAtEnd c) where
-  ended : (status : Status) → Wrote status limit start r.taken r.took.parts [] c v w
-      → (log : Log limit start status r.took.parts [])
+  ended : (status : Status) → Wrote status limit start r.taken r.fed.parts [] c v w
+      → (log : Log limit start status r.fed.parts [])
       × PutBy status (below o) (below m) (place_of o) log.done (logged_in log)
-      → Drove limit start status a c u w (below o) (below m) (place_of o)
+      → RanScript limit start status a c u w (below o) (below m) (place_of o)
   ended status wrote puts = record {
     ran = record {
       taken = r.taken;
       consumed = consumed_still a b c r.taken r.consumed consumes;
-      whole = r.took.parts;
+      whole = r.fed.parts;
       rest = [];
-      are = all_parts limit start o m r.run s r.begun_so r.taken u v r.took
-          ∙ sym (append-nil r.took.parts);
+      are = all_parts limit start o m r.run s r.begun_so r.taken u v r.fed
+          ∙ sym (append-nil r.fed.parts);
       between = v;
-      replied = r.took.wrote;
+      replied = r.fed.wrote;
       wrote = wrote;
     };
     log = puts.0;
@@ -332,24 +333,24 @@ module _ {D : Type 0} {g : Ghosts D} (limit : Given) (start : Recorded)
     within = within_still n r.taken r.counted within;
     answered = refl;
     all = subst (λ e. Appends v w (tail_text e))
-        (sym (ending_is limit start o m r.run s r.begun_so r.taken u v r.took)) p;
+        (sym (ending_is limit start o m r.run s r.begun_so r.taken u v r.fed)) p;
   }
 
   pub drove_end : (status : Status) → Ends status s v w
-      → Drove limit start status a c u w (below o) (below m) (place_of o)
+      → RanScript limit start status a c u w (below o) (below m) (place_of o)
   drove_end Done e = ended Done (
     wrote_all e.0,
-    sym (faulty_is limit start o m r.run s r.begun_so r.taken u v r.took) ∙ e.1,
+    sym (faulty_is limit start o m r.run s r.begun_so r.taken u v r.fed) ∙ e.1,
   ) (
-    whole_log limit start Done r.took.parts [] o m refl r.took.puts,
-    (place_of m, whole_put limit start Done r.took.parts [] o m refl r.took.puts),
+    whole_log limit start Done r.fed.parts [] o m refl r.fed.puts,
+    (place_of m, whole_put limit start Done r.fed.parts [] o m refl r.fed.puts),
   )
   drove_end Refused e = ended Refused (
     wrote_all e.0,
-    sym (faulty_is limit start o m r.run s r.begun_so r.taken u v r.took) ∙ e.1,
+    sym (faulty_is limit start o m r.run s r.begun_so r.taken u v r.fed) ∙ e.1,
   ) (
-    whole_log limit start Refused r.took.parts [] o m refl r.took.puts,
-    (place_of m, whole_put limit start Refused r.took.parts [] o m refl r.took.puts),
+    whole_log limit start Refused r.fed.parts [] o m refl r.fed.puts,
+    (place_of m, whole_put limit start Refused r.fed.parts [] o m refl r.fed.puts),
   )
   drove_end WriteFault e = ended WriteFault (
     within_still n r.taken r.counted within,
@@ -357,11 +358,11 @@ module _ {D : Type 0} {g : Ghosts D} (limit : Given) (start : Recorded)
       end = end;
       answered = refl;
       prefix = subst (λ x. AppendsPrefix v w (tail_text x))
-          (sym (ending_is limit start o m r.run s r.begun_so r.taken u v r.took)) e;
+          (sym (ending_is limit start o m r.run s r.begun_so r.taken u v r.fed)) e;
     }),
   ) (
-    whole_log limit start WriteFault r.took.parts [] o m refl r.took.puts,
-    (place_of m, whole_put limit start WriteFault r.took.parts [] o m refl r.took.puts),
+    whole_log limit start WriteFault r.fed.parts [] o m refl r.fed.puts,
+    (place_of m, whole_put limit start WriteFault r.fed.parts [] o m refl r.fed.puts),
   )
   drove_end Words e = absurd e
   drove_end ReadFault e = absurd e

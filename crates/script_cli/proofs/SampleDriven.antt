@@ -14,14 +14,14 @@ use Rattle.script_cli_statement.specs.Given.{Given}
 use Rattle.script_cli_statement.specs.Replies.{Recorded}
 use Rattle.script_cli.specs.Output.{output, has_error, script_puts, all_puts, parts_of}
 use Rattle.script_cli.specs.Files.{OpensPrefix, EndsAs}
-use Rattle.script_cli_statement.specs.Halts.{SaidCounted}
-use Rattle.script_cli.specs.Driving.{Drove, CountsPuts, CountsOpening, status_of}
+use Rattle.script_cli_statement.specs.StopReasons.{SaidCounted}
+use Rattle.script_cli.specs.Driving.{RanScript, CountsPuts, CountsOpening, status_of}
 use Rattle.script_cli.specs.Runs.{Ran, RanOpened, SinkCounted, DiskCounted, begun, is_whole}
 use Rattle.script_cli.specs.Runs.{logged_in}
-use Rattle.script_cli.specs.Sampling.{WroteSummary, SampleLeft, Sampled, DroveSample, PutsSummary}
+use Rattle.script_cli.specs.Sampling.{WroteSummary, SampleLeft, Sampled, RanSample, PutsSummary}
 use Rattle.script_cli.specs.Sampling.{ToldBy, EndsSample, told_after, stop_of, was_read}
-use Rattle.script_cli_statement.specs.declared.halt.Halt.{Halt}
-use Rattle.script_cli_statement.specs.declared.halt.Halt.TheVariants as halt
+use Rattle.script_cli_statement.specs.declared.stop_reason.StopReason.{StopReason}
+use Rattle.script_cli_statement.specs.declared.stop_reason.StopReason.TheVariants as reason
 use Rattle.script_cli.specs.declared.status.Status.{Status}
 use Rattle.script_cli.specs.declared.status.Status.TheVariants.{Done, Refused, Words, ReadFault}
 use Rattle.script_cli.specs.declared.status.Status.TheVariants.{WriteFault, DiskFault, NotAJournal}
@@ -32,11 +32,11 @@ use Rattle.script_cli.proofs.Telling.{told_end, ran_whole, attempted_prefix}
 
 -- ---- what is told
 
-pub told_by_halt : (driven : Status) (h : Halt) (text : List ℕ) (u w : Option (List ℕ))
+pub told_by_reason : (driven : Status) (h : StopReason) (text : List ℕ) (u w : Option (List ℕ))
     → PutsSummary {T = Unit {0}} (Err h) text u w → ToldBy driven (status_of h) text u w
-told_by_halt driven halt.WriteFault text u w puts = inr (inl (refl, puts))
-told_by_halt driven halt.DiskFault text u w puts = absurd puts
-told_by_halt driven halt.NoMemory text u w puts = inr (inr (refl, puts))
+told_by_reason driven reason.WriteFault text u w puts = inr (inl (refl, puts))
+told_by_reason driven reason.DiskFault text u w puts = absurd puts
+told_by_reason driven reason.NoMemory text u w puts = inr (inr (refl, puts))
 
 stop_wrote : (driven : Status) (text : List ℕ) (faulty : Bool) (u w : Option (List ℕ)) → w ≡ u
     → WroteSummary (stop_of driven) text faulty u w
@@ -52,11 +52,11 @@ stop_wrote InputLimit text faulty u w same = same
 
 -- ---- the counts of faults
 
-pub sink_told : (h : Halt) (old new : ℕ) → SaidCounted {T = Unit {0}} (Err h) old new
+pub sink_told : (h : StopReason) (old new : ℕ) → SaidCounted {T = Unit {0}} (Err h) old new
     → SinkCounted (status_of h) old new
-sink_told halt.WriteFault old new said = said
-sink_told halt.DiskFault old new said = absurd said
-sink_told halt.NoMemory old new said = said
+sink_told reason.WriteFault old new said = said
+sink_told reason.DiskFault old new said = absurd said
+sink_told reason.NoMemory old new said = said
 
 pub sink_whole : (driven : Status) (old new : ℕ) → is_whole driven ≡ true → new ≡ old
     → SinkCounted driven old new
@@ -93,14 +93,16 @@ disk_whole (NotAJournal place) old new e counted = cc
 disk_whole NoMemory old new e counted = cc
 disk_whole InputLimit old new e counted = cc
 
-pub disk_told : (driven : Status) (h : Halt) (text : List ℕ) (u w : Option (List ℕ)) (old new : ℕ)
+pub disk_told : (driven : Status) (h : StopReason) (text : List ℕ) (u w : Option (List ℕ))
+    (old new : ℕ)
     → is_whole driven ≡ true → PutsSummary {T = Unit {0}} (Err h) text u w
     → DiskCounted driven old new
     → DiskCounted (status_of h) old new
-disk_told driven halt.WriteFault text u w old new e puts counted =
+disk_told driven reason.WriteFault text u w old new e puts counted =
     disk_whole driven old new e counted
-disk_told driven halt.DiskFault text u w old new e puts counted = absurd puts
-disk_told driven halt.NoMemory text u w old new e puts counted = disk_whole driven old new e counted
+disk_told driven reason.DiskFault text u w old new e puts counted = absurd puts
+disk_told driven reason.NoMemory text u w old new e puts counted =
+    disk_whole driven old new e counted
 
 pub disk_stop : (driven : Status) (old new : ℕ) → DiskCounted driven old new
     → DiskCounted (stop_of driven) old new
@@ -333,27 +335,29 @@ module _ (size : ℕ) (limit : Given) (script : List ℕ) (start : Recorded) (co
     (status : Status) (u w : Option (List ℕ)) (driven : Status) (made : List ℕ)
     (left : Option (List ℕ)) (before kept : List ℕ) (old new : Meaning) (at : ℕ)
     (is : made ≡ script) (none : before ≡ [])
-    (drove : Drove limit start driven (Some made) left (Some before) (Some kept) old new
+    (ran_script : RanScript limit start driven (Some made) left (Some before) (Some kept) old new
     at) where
-  drove_script : Drove limit start driven (Some script) left (Some []) (Some kept) old new at
-  drove_script = subst (λ s. Drove limit start driven (Some s) left (Some []) (Some kept) old new
-      at) is (subst (λ s. Drove limit start driven (Some made) left (Some s) (Some kept) old new at)
-      none drove)
+  drove_script : RanScript limit start driven (Some script) left (Some []) (Some kept) old new at
+  drove_script = subst (λ s. RanScript limit start driven (Some s) left (Some []) (Some kept) old
+      new
+      at) is (subst (λ s. RanScript limit start driven (Some made) left (Some s) (Some kept) old new
+      at)
+      none ran_script)
 
   pub sample_stops : status ≡ stop_of driven → w ≡ u
-      → DroveSample size limit script start count status u w old new at
+      → RanSample size limit script start count status u w old new at
   sample_stops ends same = record {
     driven = driven;
     left = left;
     kept = kept;
-    drove = drove_script;
+    ran_script = drove_script;
     ended = inr (ends, same);
   }
 
   pub sample_tells : (puts : ℕ) (said : List ℕ) → is_whole driven ≡ true
       → CountsPuts driven limit start (Some made) puts → said ≡ kept
       → ToldBy driven status (summary size (count + puts) said) u w
-      → DroveSample size limit script start count status u w old new at
+      → RanSample size limit script start count status u w old new at
   sample_tells puts said whole counts same told =
       let counted : puts ≡ length (commands_due (script_puts limit start script)) =
       subst (λ s. puts ≡ length (commands_due (script_puts limit start s))) is
@@ -362,7 +366,7 @@ module _ (size : ℕ) (limit : Given) (script : List ℕ) (start : Recorded) (co
         driven = driven;
         left = left;
         kept = kept;
-        drove = drove_script;
+        ran_script = drove_script;
         ended = inl (
           whole,
           subst (λ n. ToldBy driven status (summary size (count + n) kept) u w)

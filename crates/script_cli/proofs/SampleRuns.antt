@@ -3,7 +3,7 @@ use Rattle.std.proofs.Common.{◌≡◌, ◌⊎◌, inl, inr, ⊎_elim, ℕ, Boo
 use Rattle.std.proofs.Common.{length, refl, sym, ap, ◌∙◌, subst, length-append}
 use Rattle.std.specs.Prelude.{Option, Some, None}
 use Rattle.std.specs.Io.KnownBytes.{Appends}
-use Rattle.disk_model.specs.Meaning.{Meaning, Tells, borrowed_as}
+use Rattle.disk_model.specs.Meaning.{Meaning, IfKnown, borrowed_as}
 use Rattle.disk_model.specs.BorrowLaws.{borrowed_turns}
 use Rattle.disk_model.specs.Moments.{UntilSynced}
 use Rattle.disk_model.specs.MomentLaws.{turns_weaker, until_weaker}
@@ -120,7 +120,7 @@ module _ (size : ℕ) (limit : Given) (script : List ℕ) (status : Status) (a c
       over
 
   pub sample_damaged : (place : ℕ) → status ≡ NotAJournal place
-      → Tells old.seen (λ file. Damages file place)
+      → IfKnown old.seen (λ file. Damages file place)
   sample_damaged place is = ⊎_elim
       (λ n. unopened_told status u w f h old.seen new.seen place is n.told)
       (λ s. absurd (wrote_not_damaged (told_after size limit s.start s.count script)

@@ -16,12 +16,12 @@ use Rattle.smo_ops_types.specs.Commands.{PlainCommand}
 use Rattle.script_cli_statement.specs.Due.{Due, commands_due}
 use Rattle.script_cli_statement.specs.Given.{Given}
 use Rattle.script_cli.specs.declared.script_run.ScriptRun.{ScriptRun}
-use Rattle.script_cli_statement.specs.declared.halt.Halt.{Halt}
-use Rattle.script_cli_statement.specs.declared.halt.Halt.TheVariants.{NoMemory}
+use Rattle.script_cli_statement.specs.declared.stop_reason.StopReason.{StopReason}
+use Rattle.script_cli_statement.specs.declared.stop_reason.StopReason.TheVariants.{NoMemory}
 use Rattle.script_cli_statement.specs.Replies.{Recorded}
 use Rattle.script_cli.specs.Output.{part_reply, replies, all_puts, recorded_after, any_error}
 use Rattle.script_cli_statement.specs.Responses.{RepresentsAt, PutBetween, StopsIn}
-use Rattle.script_cli.specs.Taking.{Took, Halted, next_reply, parts_after, ending_after}
+use Rattle.script_cli.specs.Taking.{Fed, Stopped, next_reply, parts_after, ending_after}
 use Rattle.script_cli_statement.proofs.OnePut.{nothing_between}
 use Rattle.script_cli.proofs.PutsAfter.{then_between}
 use Rattle.script_cli.proofs.DueRecords.{commands_append}
@@ -77,7 +77,7 @@ module _ (limit : Given) where
 module _ {D : Type 0} {g : Ghosts D} (limit : Given) (now : Recorded) where
   -- none was taken
   pub took_none : (s : ScriptRun) (a : Archive D g) (bytes : List ℕ) (w : Option (List ℕ))
-      → IsValid (below a) → RepresentsAt a limit now → Took limit now s s a a bytes bytes w w
+      → IsValid (below a) → RepresentsAt a limit now → Fed limit now s s a a bytes bytes w w
   took_none s a bytes w law represents = record {
     parts = [];
     cut = λ more. refl;
@@ -98,7 +98,7 @@ module _ {D : Type 0} {g : Ghosts D} (limit : Given) (now : Recorded) where
       → t.refused ≡ (s.refused || (part_reply limit now part).is_error)
       → PutBetween a b (part_reply limit now part).puts
       → t.puts ≡ s.puts + length (commands_due (part_reply limit now part).puts)
-      → Appends u v (part_reply limit now part).text → Took limit now s t a b xs ys u v
+      → Appends u v (part_reply limit now part).text → Fed limit now s t a b xs ys u v
   took_one s t a b xs ys u v part cut end represents faulty puts counted wrote = record {
     parts = part ∷ [];
     cut = cut;
@@ -113,9 +113,9 @@ module _ {D : Type 0} {g : Ghosts D} (limit : Given) (now : Recorded) where
 
   -- more were taken
   pub took_more : (s t n : ScriptRun) (a b c : Archive D g) (xs ys zs : List ℕ)
-      (u v w : Option (List ℕ)) → (k : Took limit now s t a b xs ys u v)
-      → Took limit (recorded_after limit now k.parts) t n b c ys zs v w
-      → Took limit now s n a c xs zs u w
+      (u v w : Option (List ℕ)) → (k : Fed limit now s t a b xs ys u v)
+      → Fed limit (recorded_after limit now k.parts) t n b c ys zs v w
+      → Fed limit now s n a c xs zs u w
   took_more s t n a b c xs ys zs u v w k m =
       let next = recorded_after limit now k.parts in record {
         parts = k.parts ++ m.parts;
@@ -148,8 +148,8 @@ module _ {D : Type 0} {g : Ghosts D} (limit : Given) (now : Recorded) where
 
   -- the same bytes before others
   unfoldable pub took_longer : (s t : ScriptRun) (a b : Archive D g) (xs ys zs : List ℕ)
-      (u v : Option (List ℕ)) → Took limit now s t a b xs ys u v
-      → Took limit now s t a b (xs ++ zs) (ys ++ zs) u v
+      (u v : Option (List ℕ)) → Fed limit now s t a b xs ys u v
+      → Fed limit now s t a b (xs ++ zs) (ys ++ zs) u v
   took_longer s t a b xs ys zs u v k = record {
     parts = k.parts;
     cut = λ more. ap (parts_after s) (append_assoc xs zs more) ∙ k.cut (zs ++ more)
@@ -164,12 +164,12 @@ module _ {D : Type 0} {g : Ghosts D} (limit : Given) (now : Recorded) where
   }
 
   -- after statements that were answered the run stopped
-  pub halted_after : (halt : Halt) (before parts : List StatementPart) (a b c : Archive D g)
+  pub halted_after : (reason : StopReason) (before parts : List StatementPart) (a b c : Archive D g)
       (u v w : Option (List ℕ)) → PutBetween a b (all_puts limit now before)
       → Appends u v (replies limit now before)
-      → Halted halt limit (recorded_after limit now before) parts b c v w
-      → Halted halt limit now (before ++ parts) a c u w
-  halted_after halt before parts a b c u v w puts wrote h =
+      → Stopped reason limit (recorded_after limit now before) parts b c v w
+      → Stopped reason limit now (before ++ parts) a c u w
+  halted_after reason before parts a b c u v w puts wrote h =
       let next = recorded_after limit now before in record {
         whole = before ++ h.whole;
         rest = h.rest;
@@ -182,28 +182,28 @@ module _ {D : Type 0} {g : Ghosts D} (limit : Given) (now : Recorded) where
         puts = subst (PutBetween a h.mid) (sym (put-append limit now before h.whole))
             (then_between a b h.mid (all_puts limit now before) (all_puts limit next h.whole) puts
             h.puts);
-        stops = subst (λ n. StopsIn halt (next_reply limit n h.rest) h.mid c h.between w)
+        stops = subst (λ n. StopsIn reason (next_reply limit n h.rest) h.mid c h.between w)
             (sym (after-append limit now before h.whole)) h.stops;
       }
 
   -- after bytes that were taken
-  pub halted_more : (halt : Halt) (s t : ScriptRun) (a b c : Archive D g) (xs ys : List ℕ)
-      (u v w : Option (List ℕ)) → (k : Took limit now s t a b xs ys u v)
-      → Halted halt limit (recorded_after limit now k.parts) (parts_after t ys) b c v w
-      → Halted halt limit now (parts_after s xs) a c u w
-  halted_more halt s t a b c xs ys u v w k h =
+  pub halted_more : (reason : StopReason) (s t : ScriptRun) (a b c : Archive D g) (xs ys : List ℕ)
+      (u v w : Option (List ℕ)) → (k : Fed limit now s t a b xs ys u v)
+      → Stopped reason limit (recorded_after limit now k.parts) (parts_after t ys) b c v w
+      → Stopped reason limit now (parts_after s xs) a c u w
+  halted_more reason s t a b c xs ys u v w k h =
       let all : parts_after s xs ≡ k.parts ++ parts_after t ys =
       ap (parts_after s) (sym (append-nil xs)) ∙ k.cut []
       ∙ ap (λ l. k.parts ++ parts_after t l) (append-nil ys) in
-      subst (λ l. Halted halt limit now l a c u w) (sym all)
-      (halted_after halt k.parts (parts_after t ys) a b c u v w k.puts k.wrote h)
+      subst (λ l. Stopped reason limit now l a c u w) (sym all)
+      (halted_after reason k.parts (parts_after t ys) a b c u v w k.puts k.wrote h)
 
   -- the run stopped in the first of these
-  pub halted_first : (halt : Halt) (parts : List StatementPart) (a b : Archive D g)
+  pub halted_first : (reason : StopReason) (parts : List StatementPart) (a b : Archive D g)
       (u v : Option (List ℕ)) → IsValid (below a)
-      → StopsIn halt (next_reply limit now parts) a b u v
-      → Halted halt limit now parts a b u v
-  halted_first halt parts a b u v law stops = record {
+      → StopsIn reason (next_reply limit now parts) a b u v
+      → Stopped reason limit now parts a b u v
+  halted_first reason parts a b u v law stops = record {
     whole = [];
     rest = parts;
     are = refl;
@@ -216,7 +216,7 @@ module _ {D : Type 0} {g : Ghosts D} (limit : Given) (now : Recorded) where
 
   -- memory ran out before any of these was answered
   pub halted_memory : (parts : List StatementPart) (a : Archive D g) (u : Option (List ℕ))
-      → IsValid (below a) → Halted NoMemory limit now parts a a u u
+      → IsValid (below a) → Stopped NoMemory limit now parts a a u u
   halted_memory parts a u law =
       halted_first NoMemory parts a a u u law (refl, nothing_between a law)
 
@@ -243,7 +243,7 @@ module _ {D : Type 0} {g : Ghosts D} (limit : Given) (now : Recorded) (s t : Scr
     (same : t.splitter ≡ z) where
   -- no statement ended
   pub took_all : cut ≡ More → ys ≡ [] → IsValid (below a) → RepresentsAt a limit now
-      → t.refused ≡ s.refused → t.puts ≡ s.puts → Took limit now s t a a xs [] u u
+      → t.refused ≡ s.refused → t.puts ≡ s.puts → Fed limit now s t a a xs [] u u
   took_all e all law represents faulty counted = record {
     parts = [];
     cut = λ more. statements more ∙ ap (λ k. found k ++ parts_from z.mode z.kept (ys ++ more)) e
@@ -264,7 +264,7 @@ module _ {D : Type 0} {g : Ghosts D} (limit : Given) (now : Recorded) (s t : Scr
       → t.refused ≡ (s.refused || (part_reply limit now part).is_error)
       → PutBetween a b (part_reply limit now part).puts
       → t.puts ≡ s.puts + length (commands_due (part_reply limit now part).puts)
-      → Appends u v (part_reply limit now part).text → Took limit now s t a b xs ys u v
+      → Appends u v (part_reply limit now part).text → Fed limit now s t a b xs ys u v
   took_answer part e represents faulty puts counted wrote = took_one limit now s t a b xs ys u v
       part
       (λ more. statements more ∙ ap (λ l. l ++ parts_from z.mode z.kept (ys ++ more)) e
@@ -273,13 +273,13 @@ module _ {D : Type 0} {g : Ghosts D} (limit : Given) (now : Recorded) (s t : Scr
       represents faulty puts counted wrote
 
   -- or the run stopped in its reply
-  pub halted_answer : (halt : Halt) (part : StatementPart) → found cut ≡ part ∷ []
-      → IsValid (below a) → StopsIn halt (part_reply limit now part) a b u v
-      → Halted halt limit now (parts_after s xs) a b u v
-  halted_answer halt part e law stops =
+  pub halted_answer : (reason : StopReason) (part : StatementPart) → found cut ≡ part ∷ []
+      → IsValid (below a) → StopsIn reason (part_reply limit now part) a b u v
+      → Stopped reason limit now (parts_after s xs) a b u v
+  halted_answer reason part e law stops =
       let whole : parts_after s xs ≡ part ∷ parts_from z.mode z.kept (ys ++ []) =
       ap (parts_after s) (sym (append-nil xs)) ∙ statements []
       ∙ ap (λ l. l ++ parts_from z.mode z.kept (ys ++ [])) e in
-      subst (λ l. Halted halt limit now l a b u v) (sym whole)
-      (halted_first limit now halt (part ∷ parts_from z.mode z.kept (ys ++ [])) a b u v law
+      subst (λ l. Stopped reason limit now l a b u v) (sym whole)
+      (halted_first limit now reason (part ∷ parts_from z.mode z.kept (ys ++ [])) a b u v law
       stops)

@@ -7,7 +7,7 @@ use Rattle.std.specs.Io.KnownBytes.{Consumes, Appends, IsAtEnd}
 use Rattle.std.proofs.KnownBytes.{Appends-trans, Appends-nil}
 use Rattle.prima_io.specs.Moves.{AppendsPrefix}
 use Rattle.prima_io.proofs.Prefixes.{after, longer, whole as all_of}
-use Rattle.disk_model.specs.Meaning.{Meaning, Tells, IsValid}
+use Rattle.disk_model.specs.Meaning.{Meaning, IfKnown, IsValid}
 use Rattle.disk_model.specs.Moments.{Leaves, Turns, UntilSynced}
 use Rattle.disk_model.specs.MomentLaws.{turns_weaker, until_weaker}
 use Rattle.journal.specs.Mounting.{SameOrNine, IsNotSynced, KeepsFile}
@@ -70,7 +70,7 @@ module _ (limit : Given) (start : Recorded) where
 
   prefix_told : (a c u w : Option (List ℕ)) (taken : List ℕ) → Consumes a c taken
       → AppendsPrefix u w (replies_of limit start taken)
-      → Tells a (λ script. AppendsPrefix u w (output limit start script))
+      → IfKnown a (λ script. AppendsPrefix u w (output limit start script))
   prefix_told None c u w taken k p = tt
   prefix_told (Some script) None u w taken k p = absurd k
   prefix_told (Some script) (Some ys) u w taken k p =
@@ -78,7 +78,7 @@ module _ (limit : Given) (start : Recorded) where
 
   -- the whole script was taken
   pub told_end : (P : List ℕ → Type 0) (a c : Option (List ℕ)) (taken : List ℕ) → Consumes a c taken
-      → IsAtEnd c → P taken → Tells a P
+      → IsAtEnd c → P taken → IfKnown a P
   told_end P None c taken k e p = tt
   told_end P (Some script) None taken k e p = absurd k
   told_end P (Some script) (Some ys) taken k e p =
@@ -98,10 +98,10 @@ module _ (limit : Given) (start : Recorded) where
 
     said_prefix : AppendsPrefix ran.between w
         (next_reply limit (recorded_after limit start ran.whole) ran.rest).text
-        → Tells a (λ script. AppendsPrefix u w (output limit start script))
+        → IfKnown a (λ script. AppendsPrefix u w (output limit start script))
     said_prefix p = prefix_told a c u w ran.taken ran.consumed (said_next p)
 
-    said_nothing : w ≡ ran.between → Tells a
+    said_nothing : w ≡ ran.between → IfKnown a
         (λ script. AppendsPrefix u w (output limit start script))
     said_nothing same = said_prefix (kept_prefix ran.between w _ same)
 
@@ -111,26 +111,26 @@ module _ (limit : Given) (start : Recorded) where
         (sym (ran.are ∙ ap (λ l. ran.whole ++ l) none ∙ append-nil ran.whole)) ran.replied
 
     said_tail : WroteTail ran.taken ran.rest c ran.between w
-        → Tells a (λ script. AppendsPrefix u w (output limit start script))
+        → IfKnown a (λ script. AppendsPrefix u w (output limit start script))
     said_tail t = told_end (λ script. AppendsPrefix u w (output limit start script)) a c ran.taken
         ran.consumed t.end
         (after u ran.between w (replies_of limit start ran.taken) (tail_text (ending_of ran.taken))
         (all_replies t.answered) t.prefix)
 
     said_all : ran.rest ≡ [] → IsAtEnd c → Appends ran.between w (tail_text (ending_of ran.taken))
-        → Tells a (λ script. Appends u w (output limit start script))
+        → IfKnown a (λ script. Appends u w (output limit start script))
     said_all none end all = told_end (λ script. Appends u w (output limit start script)) a c
         ran.taken ran.consumed end
         (Appends-trans u ran.between w (replies_of limit start ran.taken)
         (tail_text (ending_of ran.taken)) (all_replies none) all)
 
   weaker_told : (a : Option (List ℕ)) (P Q : List ℕ → Type 0)
-      → ((script : List ℕ) → P script → Q script) → Tells a P → Tells a Q
+      → ((script : List ℕ) → P script → Q script) → IfKnown a P → IfKnown a Q
   weaker_told None P Q f p = tt
   weaker_told (Some script) P Q f p = f script p
 
   pub ran_whole : (status : Status) (a c u w : Option (List ℕ)) → Ran limit start status a c u w
-      → is_whole status ≡ true → Tells a (λ script. Appends u w (output limit start script))
+      → is_whole status ≡ true → IfKnown a (λ script. Appends u w (output limit start script))
   ran_whole Done a c u w r e = said_all r r.wrote.0.answered r.wrote.0.end r.wrote.0.all
   ran_whole Refused a c u w r e = said_all r r.wrote.0.answered r.wrote.0.end r.wrote.0.all
   ran_whole Words a c u w r e = cc
@@ -142,7 +142,7 @@ module _ (limit : Given) (start : Recorded) where
   ran_whole InputLimit a c u w r e = cc
 
   pub ran_prefix : (status : Status) (a c u w : Option (List ℕ)) → Ran limit start status a c u w
-      → Tells a (λ script. AppendsPrefix u w (output limit start script))
+      → IfKnown a (λ script. AppendsPrefix u w (output limit start script))
   ran_prefix Done a c u w r = weaker_told a _ _
       (λ script p. all_of u w (output limit start script) p) (ran_whole Done a c u w r refl)
   ran_prefix Refused a c u w r = weaker_told a _ _
@@ -201,7 +201,7 @@ module _ (limit : Given) (opening log : List LogRecord) (status : Status) (taken
     (its : AreRecordsOf (all_puts limit (recorded opening) (whole ++ begun status rest)) log)
     (turns : Turns old new (OpensPrefix opening log)) where
   prefix_told_on_disk : (a c : Option (List ℕ)) → Consumes a c taken
-      → Tells a (λ script. LeavesPrefix old new opening
+      → IfKnown a (λ script. LeavesPrefix old new opening
       (script_puts limit (recorded opening) script))
   prefix_told_on_disk None c k = tt
   prefix_told_on_disk (Some script) None k = absurd k
@@ -216,7 +216,7 @@ module _ (limit : Given) (opening log : List LogRecord) (status : Status) (taken
       )
 
 told_always : (a : Option (List ℕ)) (P : List ℕ → Type 0) → ((script : List ℕ) → P script)
-    → Tells a P
+    → IfKnown a P
 told_always None P f = tt
 told_always (Some script) P f = f script
 
@@ -234,7 +234,7 @@ unopened_kept apart ReadFault u w f h seen then file opening is opens t = absurd
 unopened_kept apart WriteFault u w f h seen then file opening is opens t = absurd t
 unopened_kept apart DiskFault u w f h seen then file opening is opens t = t
 unopened_kept apart (NotAJournal place) u w f h seen then file opening is opens t =
-    absurd (apart file opening place opens (subst (λ s. Tells s (λ x. Damages x place)) is t.1))
+    absurd (apart file opening place opens (subst (λ s. IfKnown s (λ x. Damages x place)) is t.1))
 unopened_kept apart NoMemory u w f h seen then file opening is opens t = t
 unopened_kept apart InputLimit u w f h seen then file opening is opens t = absurd t
 
@@ -264,7 +264,7 @@ unopened_damaged place_once ReadFault u w f h seen then file place is damages t 
 unopened_damaged place_once WriteFault u w f h seen then file place is damages t = absurd t
 unopened_damaged place_once DiskFault u w f h seen then file place is damages t = inr (inl refl)
 unopened_damaged place_once (NotAJournal p) u w f h seen then file place is damages t =
-    inl (ap NotAJournal (place_once file p place (subst (λ s. Tells s (λ x. Damages x p)) is t.1)
+    inl (ap NotAJournal (place_once file p place (subst (λ s. IfKnown s (λ x. Damages x p)) is t.1)
     damages))
 unopened_damaged place_once NoMemory u w f h seen then file place is damages t = inr (inr refl)
 unopened_damaged place_once InputLimit u w f h seen then file place is damages t = absurd t
@@ -272,7 +272,7 @@ unopened_damaged place_once InputLimit u w f h seen then file place is damages t
 pub unopened_told : (status : Status) (u w : Option (List ℕ)) (f h : ℕ)
     (seen then : Option (List ℕ)) (place : ℕ) → status ≡ NotAJournal place
     → ToldUnopened status u w f h seen then
-    → Tells seen (λ file. Damages file place)
+    → IfKnown seen (λ file. Damages file place)
 unopened_told status u w f h seen then place is t =
     let here = subst (λ s. ToldUnopened s u w f h seen then) is t in here.1
 
@@ -317,24 +317,24 @@ module _ (limit : Given) (status : Status) (a c u w : Option (List ℕ)) (f h : 
         (start_here r) r.log.all_are
 
     pub prefix_over : RunsOver limit status a c u w f h old new
-        → Tells a (λ script. AppendsPrefix u w (output limit (recorded opening) script))
+        → IfKnown a (λ script. AppendsPrefix u w (output limit (recorded opening) script))
     prefix_over (inl n) = told_always a (λ script.
         AppendsPrefix u w (output limit (recorded opening) script))
         (λ script. kept_prefix u w (output limit (recorded opening) script)
         (unopened_kept apart status u w f h old.seen new.seen file opening is opens n.told))
-    prefix_over (inr r) = subst (λ s. Tells a
+    prefix_over (inr r) = subst (λ s. IfKnown a
         (λ script. AppendsPrefix u w (output limit s script))) (start_here r)
         (ran_prefix limit r.start status a c u w r.ran)
 
     pub whole_over : is_whole status ≡ true → RunsOver limit status a c u w f h old new
-        → Tells a (λ script. Appends u w (output limit (recorded opening) script))
+        → IfKnown a (λ script. Appends u w (output limit (recorded opening) script))
     whole_over e (inl n) = absurd (unopened_not_whole status u w f h old.seen new.seen n.told e)
-    whole_over e (inr r) = subst (λ s. Tells a (λ script. Appends u w (output limit s script)))
+    whole_over e (inr r) = subst (λ s. IfKnown a (λ script. Appends u w (output limit s script)))
         (start_here r)
         (ran_whole limit r.start status a c u w r.ran e)
 
     pub crash_over : IsTrue old.is_honest → RunsOver limit status a c u w f h old new
-        → Tells a (λ script. LeavesPrefix old new opening
+        → IfKnown a (λ script. LeavesPrefix old new opening
         (script_puts limit (recorded opening) script))
     crash_over honest (inl n) = told_always a
         (λ script. LeavesPrefix old new opening (script_puts limit (recorded opening) script))
@@ -359,7 +359,7 @@ module _ (limit : Given) (status : Status) (a c u w : Option (List ℕ)) (f h : 
         (λ x p. sound_opening opening log sound put x p))
 
   pub damaged_over : (place : ℕ) → status ≡ NotAJournal place
-      → RunsOver limit status a c u w f h old new → Tells old.seen (λ file. Damages file place)
+      → RunsOver limit status a c u w f h old new → IfKnown old.seen (λ file. Damages file place)
   damaged_over place is (inl n) = unopened_told status u w f h old.seen new.seen place is n.told
   damaged_over place is (inr r) = absurd (ran_not_damaged limit r.start status place a c u w is
       r.ran)
@@ -385,7 +385,7 @@ module _ {D : Type 0} (M : D → Meaning) (status : Status) (a c u w : Option (L
       (sym none.disk) (λ x left. law.only_now x left))
 
   pub crash_untouched : IsValid (M disk) → (limit : Given) (opening : List LogRecord)
-      → Tells a (λ script. LeavesPrefix (M disk) (M back) opening
+      → IfKnown a (λ script. LeavesPrefix (M disk) (M back) opening
       (script_puts limit (recorded opening) script))
   crash_untouched law limit opening = told_always a
       (λ script. LeavesPrefix (M disk) (M back) opening
@@ -393,7 +393,7 @@ module _ {D : Type 0} (M : D → Meaning) (status : Status) (a c u w : Option (L
       (λ script. ([], tt, untouched_leaves law (OpensPrefix opening [])))
 
   pub prefix_untouched : (limit : Given) (start : Recorded)
-      → Tells a (λ script. AppendsPrefix u w (output limit start script))
+      → IfKnown a (λ script. AppendsPrefix u w (output limit start script))
   prefix_untouched limit start = told_always a
       (λ script. AppendsPrefix u w (output limit start script))
       (λ script. kept_prefix u w (output limit start script) none.wrote)

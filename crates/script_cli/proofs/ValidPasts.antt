@@ -1,7 +1,7 @@
 -- The past after any statements is valid, after whatever opening records.
 use Rattle.std.proofs.Common.{◌≡◌, ℕ, false, List, [], ◌∷◌, refl, arith}
 use Rattle.archive_core_file_spec.specs.LogRecords.{LogRecord, logged, checkpointed, has_image}
-use Rattle.archive_core_file_spec.specs.LogRecords.{after_records, AreSpelled, AreAccepted}
+use Rattle.archive_core_file_spec.specs.LogRecords.{after_records, AreEncoded, AreAccepted}
 use Rattle.store_image_spec.specs.Images.{Image, IsImage}
 use Rattle.store_image_spec.specs.ShownPast.{image_past}
 use Rattle.smo_ops_spec.specs.ValidPast.{IsPast}
@@ -12,7 +12,7 @@ use Rattle.script_cli_statement.specs.Given.{Given}
 use Rattle.script_cli_statement.specs.Replies.{Recorded, recorded}
 use Rattle.script_cli.specs.Output.{part_reply, recorded_after}
 use Rattle.script_cli_statement.proofs.ReplyPasts.{IsOfScript, command_keeps, reply_keeps}
-use Rattle.script_cli.proofs.SpelledConstants.{spelled_valid, named_valid}
+use Rattle.script_cli.proofs.EncodedConstants.{encoded_valid, named_valid}
 
 pub beginning_is : IsOfScript beginning
 beginning_is = record { made = beginning_is_past; ends = omega arith; constants = tt }
@@ -44,19 +44,19 @@ module _ (shown : ImagesShowPasts) where
   }
 
   -- from a past on, or from the first image
-  opening_keeps : (log : List LogRecord) (past : Past) → AreSpelled log → AreAccepted past log
+  opening_keeps : (log : List LogRecord) (past : Past) → AreEncoded log → AreAccepted past log
       → (has_image log ≡ false → IsOfScript past) → IsOfScript (after_records past log)
   opening_keeps [] past are accepted h = h refl
   opening_keeps (logged c ∷ log) past ((stamp, (writable, named)), later) accepted h =
       opening_keeps log (past_with past c) later accepted.1
-      (λ none. command_keeps past c (h none) (stamp, spelled_valid c.body named)
+      (λ none. command_keeps past c (h none) (stamp, encoded_valid c.body named)
       (accepted.0 none))
   opening_keeps (checkpointed i ∷ log) past are accepted h =
       opening_keeps log (image_past past.commands i) are.1 accepted
       (λ none. image_is past.commands i are.0)
 
   pub of_script : (limit : Given) (opening : List LogRecord) (parts : List StatementPart)
-      → AreSpelled opening → AreAccepted beginning opening
+      → AreEncoded opening → AreAccepted beginning opening
       → IsOfScript (recorded_after limit (recorded opening) parts).past
   of_script limit opening parts are accepted =
       keeps limit parts (recorded opening) (opening_keeps opening beginning are accepted
@@ -64,6 +64,6 @@ module _ (shown : ImagesShowPasts) where
 
   -- it is one that accepted commands make
   pub still_made : (limit : Given) (opening : List LogRecord) (parts : List StatementPart)
-      → AreSpelled opening → AreAccepted beginning opening
+      → AreEncoded opening → AreAccepted beginning opening
       → IsPast (recorded_after limit (recorded opening) parts).past
   still_made limit opening parts are accepted = (of_script limit opening parts are accepted).made

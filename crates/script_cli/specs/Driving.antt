@@ -4,14 +4,14 @@ use Rattle.std.specs.Prelude.{Option, Some}
 use Rattle.std.specs.Io.KnownBytes.{Appends}
 use Rattle.prima_io.specs.Causes.{Rose}
 use Rattle.prima_io.specs.Moves.{AppendsPrefix}
-use Rattle.disk_model.specs.Meaning.{Meaning, Tells}
+use Rattle.disk_model.specs.Meaning.{Meaning, IfKnown}
 use Rattle.disk_model.specs.Moments.{GoesOn, Leaves}
 use Rattle.disk_model.specs.declared.disk.Disk.{Ghosts}
 use Rattle.journal.specs.Mounting.{IsNotSynced, KeepsFile}
 use Rattle.journal.specs.JournalFiles.{Stands}
 use Rattle.journal.specs.Puts.{HoldsPrefix}
 use Rattle.journal.specs.Records.{Holds}
-use Rattle.archive_core_file_spec.specs.LogRecords.{LogRecord, records_of, commands_in, AreSpelled}
+use Rattle.archive_core_file_spec.specs.LogRecords.{LogRecord, records_of, commands_in, AreEncoded}
 use Rattle.archive_core_file_spec.specs.Opening.{Opens, Damages}
 use Rattle.archive_core_state.specs.ArchiveContents.{RepresentsSome}
 use Rattle.archive_core.specs.declared.archive.Archive.{Archive}
@@ -19,7 +19,7 @@ use Rattle.archive_core_replay.specs.declared.opened.Opened.{Opened}
 use Rattle.archive_core.specs.declared.fault.MountFault.{MountFault}
 use Rattle.archive_core.specs.declared.fault.MountFault.TheVariants as mounting
 use Rattle.archive_core.specs.Fields.{standing_of, below, place_of, limit_of}
-use Rattle.archive_core.specs.Holding.{HoldsAt}
+use Rattle.archive_core.specs.DiskReads.{HoldsAt}
 use Rattle.archive_core.specs.Mounting.{IsMounted}
 use Rattle.script_cli_statement.specs.Due.{commands_due}
 use Rattle.script_cli_statement.specs.Given.{Given}
@@ -31,8 +31,8 @@ use Rattle.script_cli.specs.Runs.{Ran, Log, PutsLine, counted_limit, logged_in}
 use Rattle.script_cli_statement.specs.Responses.{TakesRecords}
 use Rattle.script_cli.specs.Taking.{ending_after}
 use Rattle.script_cli.specs.declared.script_run.ScriptRun.{ScriptRun}
-use Rattle.script_cli_statement.specs.declared.halt.Halt.{Halt}
-use Rattle.script_cli_statement.specs.declared.halt.Halt.TheVariants as halt
+use Rattle.script_cli_statement.specs.declared.stop_reason.StopReason.{StopReason}
+use Rattle.script_cli_statement.specs.declared.stop_reason.StopReason.TheVariants as reason
 use Rattle.script_cli.specs.declared.status.Status.{Status}
 use Rattle.script_cli.specs.declared.status.Status.TheVariants.{Done, Refused, WriteFault}
 use Rattle.script_cli.specs.declared.status.Status.TheVariants.{DiskFault, NotAJournal, NoMemory}
@@ -51,17 +51,17 @@ Ends WriteFault script_run old new = AppendsPrefix old new (tail_text (ending_af
 Ends other script_run old new = ⊥
 
 -- how a run ends that stops before the script's end
-abbrev pub status_of : Halt → Status
-status_of halt.WriteFault = WriteFault
-status_of halt.DiskFault = DiskFault
-status_of halt.NoMemory = NoMemory
+abbrev pub status_of : StopReason → Status
+status_of reason.WriteFault = WriteFault
+status_of reason.DiskFault = DiskFault
+status_of reason.NoMemory = NoMemory
 
 -- The disk failed at the last of these, which are these that were done and one more: of an honest
 -- disk a crash leaves at each moment a prefix of these, and now all that were done, and the last or
 -- not.
 pub record PutsSome (old new : Meaning) (at : ℕ) (done log : List LogRecord) : Type 0 where
-  pub done_spelled : AreSpelled done
-  pub spelled : AreSpelled log
+  pub done_encoded : AreEncoded done
+  pub encoded : AreEncoded log
   pub goes : GoesOn old new
   pub leaves : (opening : List LogRecord) → IsTrue old.is_honest
       → Stands old at (records_of opening)
@@ -77,7 +77,7 @@ PutBy DiskFault old new at done log = PutsSome old new at done log
 PutBy other old new at done log = (next : ℕ) × HasPut old new at next log
 
 -- a script was read over an opened archive
-pub record Drove (limit : Given) (start : Recorded) (status : Status)
+pub record RanScript (limit : Given) (start : Recorded) (status : Status)
     (left_old left_new written_old written_new : Option (List ℕ)) (old new : Meaning) (at : ℕ) :
     Type 0 where
   pub ran : Ran limit start status left_old left_new written_old written_new
@@ -86,9 +86,9 @@ pub record Drove (limit : Given) (start : Recorded) (status : Status)
 
 -- so many commands were put by the script, where it was read to its end
 abbrev pub CountsPuts : Status → Given → Recorded → Option (List ℕ) → ℕ → Type 0
-CountsPuts Done limit start left puts = Tells left
+CountsPuts Done limit start left puts = IfKnown left
     (λ script. puts ≡ length (commands_due (script_puts limit start script)))
-CountsPuts Refused limit start left puts = Tells left
+CountsPuts Refused limit start left puts = IfKnown left
     (λ script. puts ≡ length (commands_due (script_puts limit start script)))
 CountsPuts other limit start left puts = Unit {0}
 
@@ -112,7 +112,7 @@ PutsUnopened other written_old written_new faults_old faults_new = written_new �
 -- an archive was opened over this disk
 pub record HasOpened {D : Type 0} {g : Ghosts D} (old : Meaning) (limit : ℕ)
     (archive : Archive D g) : Type 0 where
-  pub mounted : Tells old.seen (λ file. (opened : Opened)
+  pub mounted : IfKnown old.seen (λ file. (opened : Opened)
       × IsMounted file (standing_of archive) (place_of archive) opened)
   pub represents : RepresentsSome (standing_of archive)
   pub limit_is : limit_of archive ≡ counted_limit limit
@@ -131,7 +131,7 @@ pub record HasNotOpened (old new : Meaning) (fault : MountFault) : Type 0 where
   pub goes : GoesOn old new
   pub turns : ((fault ≡ mounting.Disk) × IsNotSynced old new) ⊎ KeepsFile old new
   pub damaged : (place : ℕ) → fault ≡ mounting.Damaged place
-      → Tells old.seen (λ file. Damages file place)
+      → IfKnown old.seen (λ file. Damages file place)
   pub untouched : (place : ℕ) → fault ≡ mounting.Damaged place → new.seen ≡ old.seen
   pub cause : fault ≡ mounting.Disk → Rose old.faults new.faults
   pub unfailed : (fault ≡ mounting.Disk → ⊥) → new.faults ≡ old.faults

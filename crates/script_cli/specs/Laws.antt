@@ -13,7 +13,7 @@ use Rattle.temporal_lang_types.specs.Queries.{PlainQuery, slice_of}
 use Rattle.temporal_lang_spec.specs.Accepted.{fault_of_query, HasNoWayBack}
 use Rattle.temporal_lang_spec.specs.Answers.{asked_at, listing, answer}
 use Rattle.piece_ir_spec.specs.Rules.{Book}
-use Rattle.archive_core_file_spec.specs.LogRecords.{LogRecord, AreSpelled, AreAccepted, AreSound}
+use Rattle.archive_core_file_spec.specs.LogRecords.{LogRecord, AreEncoded, AreAccepted, AreSound}
 use Rattle.archive_core_file_spec.specs.LogRecords.{past_recorded}
 use Rattle.script_parse.specs.Script.{StatementPart, statements_of, tail_of}
 use Rattle.script_parse.specs.Joining.{Each}
@@ -69,7 +69,7 @@ pub record OutputLaws (book : Book) : Type 0 where
   -- a command that is accepted after some statements is seen from its stamp on: before it each
   -- moment's database is as it was
   pub seen : (limit : Given) (opening : List LogRecord) (statements : List StatementPart)
-      (command : PlainCommand) (m : ℕ) → AreSpelled opening → AreAccepted beginning opening
+      (command : PlainCommand) (m : ℕ) → AreEncoded opening → AreAccepted beginning opening
       → let past = (recorded_after limit (recorded opening) statements).past in
       command_fault past command ≡ None
       → (m < command.stamp → database_at (past_with past command) m ≡ database_at past m)
@@ -80,7 +80,7 @@ pub record OutputLaws (book : Book) : Type 0 where
   -- meet every condition of KEEP. What is asked of a moment is asked of that moment's database,
   -- carried to the version that the query names.
   pub answers : (limit : Given) (opening : List LogRecord) (statements : List StatementPart)
-      (query : PlainQuery) → AreSpelled opening → AreAccepted beginning opening
+      (query : PlainQuery) → AreEncoded opening → AreAccepted beginning opening
       → let past = (recorded_after limit (recorded opening) statements).past in
       fault_of_query past query ≡ None → (slice_of query.when).end ≤ forever
       → IsListing row_cmp (asked_at past query) (slice_of query.when) (listing past query)
@@ -89,7 +89,7 @@ pub record OutputLaws (book : Book) : Type 0 where
   -- query's pieces. Of those into which the query unfolds they are just those that are not dead,
   -- which is said over all values of the columns' types.
   pub explains : (limit : ℕ) (opening : List LogRecord) (statements : List StatementPart)
-      (text : List ℕ) (query : PlainQuery) → AreSpelled opening → AreAccepted beginning opening
+      (text : List ℕ) (query : PlainQuery) → AreEncoded opening → AreAccepted beginning opening
       → let now = recorded_after (given_by limit book) (recorded opening) statements in
       reading text ≡ Whole (explain query) → fault_of_query now.past query ≡ None
       → TellsPieces (given_by limit book) now text query

@@ -3,7 +3,7 @@
 use Rattle.std.specs.Prelude.{◌≡◌, ◌⊎◌, ◌++◌, ℕ, IsTrue, true, List, Option, Some}
 use Rattle.std.specs.Io.KnownBytes.{Appends}
 use Rattle.prima_io.specs.Moves.{AppendsPrefix}
-use Rattle.disk_model.specs.Meaning.{Meaning, Tells}
+use Rattle.disk_model.specs.Meaning.{Meaning, IfKnown}
 use Rattle.disk_model.specs.Moments.{UntilSynced}
 use Rattle.archive_core_file_spec.specs.LogRecords.{LogRecord}
 use Rattle.archive_core_file_spec.specs.Opening.{Opens, IsSound, Damages}
@@ -32,19 +32,19 @@ module _ {D : Type 0} where
     -- whatever happens, a prefix of the script's output is written
     pub prefix : (file : List ℕ) (opening : List LogRecord) → (meaning disk_old).seen ≡ Some file
         → Opens file opening
-        → Tells left_old (λ script. AppendsPrefix written_old written_new
+        → IfKnown left_old (λ script. AppendsPrefix written_old written_new
         (output given (recorded opening) script))
     -- and all of it where the script was read to its end
     pub whole : (file : List ℕ) (opening : List LogRecord) → (meaning disk_old).seen ≡ Some file
         → Opens file opening → is_whole status ≡ true
-        → Tells left_old (λ script. Appends written_old written_new
+        → IfKnown left_old (λ script. Appends written_old written_new
         (output given (recorded opening) script))
     -- Wherever the run is stopped: until its first sync has succeeded a crash leaves what it might
     -- have left before, and from then on, at each moment, a file that opens as the opening records
     -- and a prefix of those of what the script's statements put.
     pub crash : (file : List ℕ) (opening : List LogRecord) → IsTrue (meaning disk_old).is_honest
         → (meaning disk_old).seen ≡ Some file → Opens file opening
-        → Tells left_old (λ script. LeavesPrefix (meaning disk_old) (meaning disk_new) opening
+        → IfKnown left_old (λ script. LeavesPrefix (meaning disk_old) (meaning disk_new) opening
         (script_puts given (recorded opening) script))
     -- where the file was sound, so is each that is left
     pub sound : (file : List ℕ) (opening : List LogRecord) → IsTrue (meaning disk_old).is_honest

@@ -4,7 +4,7 @@ use Rattle.std.specs.Prelude.{take, Bool, ◌⊎◌, true, false, Option, Some}
 use Rattle.std.specs.Io.KnownBytes.{Consumes, Appends, IsAtEnd, Keeps}
 use Rattle.prima_io.specs.Causes.{Rose}
 use Rattle.prima_io.specs.Moves.{AppendsPrefix, AppendsLess}
-use Rattle.disk_model.specs.Meaning.{Meaning, Tells}
+use Rattle.disk_model.specs.Meaning.{Meaning, IfKnown}
 use Rattle.disk_model.specs.Moments.{Turns}
 use Rattle.journal.specs.Mounting.{IsNotSynced, KeepsFile}
 use Rattle.journal.specs.Records.{Holds}
@@ -140,7 +140,7 @@ pub record OnDisk (status : Status) (done log : List LogRecord) (old new : Meani
 
 -- the start is that of the records as which the file opened, where the disk tells it
 abbrev pub IsOpening : Recorded → Option (List ℕ) → Type 0
-IsOpening start seen = Tells seen (λ file. (opening : List LogRecord) × Opens file opening
+IsOpening start seen = IfKnown seen (λ file. (opening : List LogRecord) × Opens file opening
     × (start ≡ recorded opening))
 
 -- the file opened, and the script was run after its records
@@ -165,7 +165,7 @@ abbrev pub ToldUnopened : Status → Option (List ℕ) → Option (List ℕ) →
     → Option (List ℕ) → Type 0
 ToldUnopened (NotAJournal place) written_old written_new faults_old faults_new seen_old seen_new =
     PutsLine (not_a_journal_text place) written_old written_new faults_old faults_new
-    × Tells seen_old (λ file. Damages file place) × (seen_new ≡ seen_old)
+    × IfKnown seen_old (λ file. Damages file place) × (seen_new ≡ seen_old)
 ToldUnopened DiskFault written_old written_new faults_old faults_new seen_old seen_new =
     written_new ≡ written_old
 ToldUnopened NoMemory written_old written_new faults_old faults_new seen_old seen_new =

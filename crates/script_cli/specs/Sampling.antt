@@ -4,12 +4,12 @@ use Rattle.std.specs.Prelude.{◌≡◌, ◌⊎◌, ℕ, ◌+◌, IsTrue, List, 
 use Rattle.std.specs.Prelude.{Option, Some, Result, Ok, Err}
 use Rattle.std.specs.Io.KnownBytes.{Appends}
 use Rattle.prima_io.specs.Moves.{AppendsLess}
-use Rattle.disk_model.specs.Meaning.{Meaning, Tells}
+use Rattle.disk_model.specs.Meaning.{Meaning, IfKnown}
 use Rattle.disk_model.specs.Moments.{Turns}
 use Rattle.journal.specs.Records.{Holds}
 use Rattle.archive_core_file_spec.specs.LogRecords.{LogRecord, records_of, commands_in}
 use Rattle.archive_core_file_spec.specs.Opening.{Opens}
-use Rattle.script_cli_arguments.specs.Words.{asked, request}
+use Rattle.script_cli_arguments.specs.Arguments.{asked, request}
 use Rattle.script_cli_arguments.specs.declared.request.Mode.TheVariants.{Sample}
 use Rattle.script_cli_sample.specs.Statements.{sample_script}
 use Rattle.script_cli_sample.specs.Summary.{summary}
@@ -19,16 +19,16 @@ use Rattle.script_cli_statement.specs.Replies.{Recorded, recorded}
 use Rattle.script_cli.specs.Output.{output, has_error, script_puts}
 use Rattle.script_cli.specs.Files.{OpensPrefix}
 use Rattle.script_cli.specs.Runs.{NotOpened, is_whole}
-use Rattle.script_cli.specs.Driving.{Drove}
-use Rattle.script_cli_statement.specs.declared.halt.Halt.{Halt}
-use Rattle.script_cli_statement.specs.declared.halt.Halt.TheVariants as halt
+use Rattle.script_cli.specs.Driving.{RanScript}
+use Rattle.script_cli_statement.specs.declared.stop_reason.StopReason.{StopReason}
+use Rattle.script_cli_statement.specs.declared.stop_reason.StopReason.TheVariants as reason
 use Rattle.script_cli.specs.declared.status.Status.{Status}
 use Rattle.script_cli.specs.declared.status.Status.TheVariants.{Done, Refused, WriteFault}
 use Rattle.script_cli.specs.declared.status.Status.TheVariants.{DiskFault, NoMemory}
 
 -- the words ask for a sample of this size, over a journal with this limit
 abbrev pub AsksSample : List (List ℕ) → ℕ → ℕ → Type 0
-AsksSample words limit size = asked words ≡ Some (request limit (Sample size))
+AsksSample arguments limit size = asked arguments ≡ Some (request limit (Sample size))
 
 -- ---- what is told
 
@@ -102,7 +102,7 @@ pub record SampleLeft (limit : Given) (script : List ℕ) (start : Recorded) (st
 -- the start is that of the records as which the file opened, with so many commands, where the disk
 -- tells it
 abbrev pub IsCounted : Recorded → ℕ → Option (List ℕ) → Type 0
-IsCounted start count seen = Tells seen (λ file. (opening : List LogRecord) × Opens file opening
+IsCounted start count seen = IfKnown seen (λ file. (opening : List LogRecord) × Opens file opening
     × (start ≡ recorded opening) × (count ≡ length (commands_in opening)))
 
 -- the file opened, and this script was run after its records
@@ -132,12 +132,13 @@ stop_of DiskFault = DiskFault
 stop_of other = NoMemory
 
 -- the summary was put whole, or less of it where the sink failed, and nothing where memory ran out
-abbrev pub PutsSummary : {T : Type 0} → Result T Halt → List ℕ → Option (List ℕ) → Option (List ℕ)
+abbrev pub PutsSummary : {T : Type 0} → Result T StopReason → List ℕ → Option (List ℕ)
+    → Option (List ℕ)
     → Type 0
 PutsSummary (Ok x) text old new = Appends old new text
-PutsSummary (Err halt.WriteFault) text old new = AppendsLess old new text
-PutsSummary (Err halt.DiskFault) text old new = ⊥
-PutsSummary (Err halt.NoMemory) text old new = new ≡ old
+PutsSummary (Err reason.WriteFault) text old new = AppendsLess old new text
+PutsSummary (Err reason.DiskFault) text old new = ⊥
+PutsSummary (Err reason.NoMemory) text old new = new ≡ old
 
 -- the same, by the status of a sample whose script was read to its end, with this one
 abbrev pub ToldBy : Status → Status → List ℕ → Option (List ℕ) → Option (List ℕ) → Type 0
@@ -153,12 +154,12 @@ EndsSample driven status text old new =
 
 -- this script was read over an opened archive, its replies were kept, and the summary of them was
 -- told after so many commands
-pub record DroveSample (size : ℕ) (limit : Given) (script : List ℕ) (start : Recorded) (count : ℕ)
+pub record RanSample (size : ℕ) (limit : Given) (script : List ℕ) (start : Recorded) (count : ℕ)
     (status : Status) (written_old written_new : Option (List ℕ)) (old new : Meaning) (at : ℕ) :
     Type 0 where
   pub driven : Status
   pub left : Option (List ℕ)
   pub kept : List ℕ
-  pub drove : Drove limit start driven (Some script) left (Some []) (Some kept) old new at
+  pub ran_script : RanScript limit start driven (Some script) left (Some []) (Some kept) old new at
   pub ended : EndsSample driven status (summary size
       (count + length (commands_due (script_puts limit start script))) kept) written_old written_new

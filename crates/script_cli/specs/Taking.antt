@@ -7,7 +7,7 @@ use Rattle.script_parse.specs.Script.{StatementPart, parts_from, tail_from, endi
 use Rattle.script_parse.specs.declared.splitter.Tail.{Tail}
 use Rattle.archive_core.specs.declared.archive.Archive.{Archive}
 use Rattle.script_cli.specs.declared.script_run.ScriptRun.{ScriptRun}
-use Rattle.script_cli_statement.specs.declared.halt.Halt.{Halt}
+use Rattle.script_cli_statement.specs.declared.stop_reason.StopReason.{StopReason}
 use Rattle.script_cli_statement.specs.Due.{commands_due}
 use Rattle.script_cli_statement.specs.Given.{Given}
 use Rattle.script_cli_statement.specs.Replies.{Recorded, Reply, answered}
@@ -40,7 +40,7 @@ module _ {D : Type 0} {g : Ghosts D} where
     pub wrote : Appends written_old written_new reply.text
 
   -- the bytes were taken up to the rest, and the statements that ended in them were answered
-  pub record Took (limit : Given) (now : Recorded) (old new : ScriptRun) (a b : Archive D g)
+  pub record Fed (limit : Given) (now : Recorded) (old new : ScriptRun) (a b : Archive D g)
       (bytes rest : List ℕ) (written_old written_new : Option (List ℕ)) : Type 0 where
     pub parts : List StatementPart
     pub cut : (more : List ℕ) → parts_after old (bytes ++ more) ≡ parts
@@ -54,7 +54,8 @@ module _ {D : Type 0} {g : Ghosts D} where
 
   -- some of these statements were answered whole, and the run stopped in the reply to the next, or
   -- before any other was whole
-  pub record Halted (halt : Halt) (limit : Given) (now : Recorded) (parts : List StatementPart)
+  pub record Stopped (reason : StopReason) (limit : Given) (now : Recorded)
+      (parts : List StatementPart)
       (a b : Archive D g) (written_old written_new : Option (List ℕ)) : Type 0 where
     pub whole : List StatementPart
     pub rest : List StatementPart
@@ -63,5 +64,6 @@ module _ {D : Type 0} {g : Ghosts D} where
     pub between : Option (List ℕ)
     pub wrote : Appends written_old between (replies limit now whole)
     pub puts : PutBetween a mid (all_puts limit now whole)
-    pub stops : StopsIn halt (next_reply limit (recorded_after limit now whole) rest) mid b between
+    pub stops : StopsIn reason (next_reply limit (recorded_after limit now whole) rest) mid b
+        between
         written_new

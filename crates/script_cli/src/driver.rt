@@ -9,7 +9,7 @@ ghost use Rattle.script_cli_statement.specs.Given.{Given};
 ghost use Rattle.script_cli_statement.specs.Replies.{Recorded};
 ghost use Rattle.script_cli.specs.Runs.{SourceCounted, SinkCounted, DiskCounted};
 ghost use Rattle.script_cli_statement.specs.Responses.{RepresentsAt, TakesRecords};
-ghost use Rattle.script_cli.specs.Driving.{Drove, Ends, CountsPuts, status_of};
+ghost use Rattle.script_cli.specs.Driving.{RanScript, Ends, CountsPuts, status_of};
 
 use crate::SCRIPT_LIMIT;
 use crate::script_run::ScriptRun;
@@ -18,7 +18,7 @@ use archive_core::Archive;
 use disk_model::Disk;
 use prima_io::{Failed, Sink, Source};
 use rewrite_rules_book::{Rule, RuleBook};
-use script_cli_statement::{Halt, Put};
+use script_cli_statement::{ReplyKind, StopReason};
 use std::alloc::Global;
 
 const CHUNK: usize = 4096;
@@ -59,20 +59,20 @@ fn finish<K: Sink>(script_run: ScriptRun, sink: &mut K) -> Status
     ensures sink { SinkCounted result (K.faults sink.old) (K.faults sink.new) }
 {
     match script_run.finish(sink) {
-        Ok(Put::ErrorLine) => Status::Refused,
-        Ok(Put::NoError | Put::Command) => Status::Done,
+        Ok(ReplyKind::ErrorLine) => Status::Refused,
+        Ok(ReplyKind::NoError | ReplyKind::Command) => Status::Done,
         Err(Failed) => Status::WriteFault,
     }
 }
 
 /// How a run ends that stops before the script's end.
-pub(crate) fn status_of(halt: Halt) -> Status
-    ensures { result ≡ status_of halt }
+pub(crate) fn status_of(reason: StopReason) -> Status
+    ensures { result ≡ status_of reason }
 {
-    match halt {
-        Halt::WriteFault => Status::WriteFault,
-        Halt::DiskFault => Status::DiskFault,
-        Halt::NoMemory => Status::NoMemory,
+    match reason {
+        StopReason::WriteFault => Status::WriteFault,
+        StopReason::DiskFault => Status::DiskFault,
+        StopReason::NoMemory => Status::NoMemory,
     }
 }
 
@@ -93,10 +93,10 @@ pub(crate) fn drive<S: Source, K: Sink, D: Disk, R: Rule>(
     sink: &mut K,
 ) -> Driven
     requires takes { TakesRecords archive.old }
-    ensures drove { (limit : Given) → limit.book
+    ensures ran_script { (limit : Given) → limit.book
         ≡ book_meaning R.Rule book.now → (start : Recorded)
         → RepresentsAt archive.old limit start
-        → Drove limit start result.status (S.left source.old) (S.left source.new)
+        → RanScript limit start result.status (S.left source.old) (S.left source.new)
         (K.written sink.old) (K.written sink.new) (below archive.old) (below archive.new)
         (place_of archive.old) }
     ensures counted { (limit : Given) → limit.book
@@ -134,9 +134,9 @@ pub(crate) fn drive<S: Source, K: Sink, D: Disk, R: Rule>(
         }
         match script_run.feed(archive, book, sink, &chunk[..taken]) {
             Ok(()) => count += taken as u64,
-            Err(halt) => {
+            Err(reason) => {
                 return Driven {
-                    status: status_of(halt),
+                    status: status_of(reason),
                     puts,
                 };
             }

@@ -1,7 +1,7 @@
 //! The script language over an archive on a disk: what a script is answered, byte by byte, and what
 //! it leaves in the file.
 //!
-//! `run` judges the words, opens the archive, reads a script of statements from a source, answers
+//! `run` checks the words, opens the archive, reads a script of statements from a source, answers
 //! each when it ends, and writes the replies to a sink. It carries the theorem of the whole. The
 //! adapters are such ends over the system's readers and writers.
 #![tactic(auto)]

@@ -2,11 +2,11 @@
 //! the disk to a status.
 
 ghost use Rattle.std.specs.Prelude.{◌≡◌, ◌⊎◌, List, ℕ, Option, Some, None, map, string_bytes};
-ghost use Rattle.disk_model.specs.Meaning.{Tells};
+ghost use Rattle.disk_model.specs.Meaning.{IfKnown};
 ghost use Rattle.disk_model.specs.Moments.{GoesOn};
 ghost use Rattle.rewrite.specs.Books.{book_meaning};
 ghost use Rattle.archive_core_file_spec.specs.Opening.{Damages};
-ghost use Rattle.script_cli_arguments.specs.Words.{asked, asked_for, limit_of_run};
+ghost use Rattle.script_cli_arguments.specs.Arguments.{asked, asked_for, limit_of_run};
 ghost use Rattle.script_cli_arguments.specs.declared.request.Mode.TheVariants.{Sample};
 ghost use Rattle.script_cli.specs.Laws.{OutputLaws};
 ghost use Rattle.script_cli.specs.Promises.{RunOutcome, SampleOutcome};
@@ -90,7 +90,7 @@ fn perform<S: Source, K: Sink, D: Disk, R: Rule>(
     sink: &mut K,
     disk: &mut D,
 ) -> Status
-    ensures words { result ≡ Status.Words → ⊥ }
+    ensures arguments { result ≡ Status.Words → ⊥ }
     ensures runs { (limit : ℕ) → limit_of_run request ≡ Some limit
         → RunsOver (given_by limit (book_meaning R.Rule book.now)) result
         (S.left source.old) (S.left source.new) (K.written sink.old) (K.written sink.new)
@@ -112,28 +112,30 @@ fn perform<S: Source, K: Sink, D: Disk, R: Rule>(
     }
 }
 
-// The words are judged, and then what they ask for is done.
-fn judge_and_run<S: Source, K: Sink, D: Disk, R: Rule>(
+// The words are checked, and then what they ask for is done.
+fn check_and_run<S: Source, K: Sink, D: Disk, R: Rule>(
     alloc: Global,
-    words: &[Word],
+    arguments: &[Word],
     book: &RuleBook<R>,
     source: &mut S,
     sink: &mut K,
     disk: &mut D,
 ) -> Status
-    ensures words { result ≡ Status.Words → asked (map string_bytes words.now) ≡ None }
-    ensures refused { asked (map string_bytes words.now) ≡ None
+    ensures arguments { result ≡ Status.Words → asked (map string_bytes arguments.now) ≡ None }
+    ensures refused { asked (map string_bytes arguments.now) ≡ None
         → RefusedWords result (S.left source.old) (S.left source.new) (K.written sink.old)
         (K.written sink.new) (K.faults sink.old) (K.faults sink.new) disk.old disk.new }
-    ensures runs { (limit : ℕ) → asked_for (map string_bytes words.now) ≡ Some limit
+    ensures runs { (limit : ℕ) → asked_for (map string_bytes arguments.now) ≡ Some limit
         → IsUntouched result (S.left source.old) (S.left source.new) (K.written sink.old)
         (K.written sink.new) disk.old disk.new
         ⊎ RunsOver (given_by limit (book_meaning R.Rule book.now)) result
         (S.left source.old) (S.left source.new) (K.written sink.old) (K.written sink.new)
         (K.faults sink.old) (K.faults sink.new) (D.meaning disk.old) (D.meaning disk.new) }
-    ensures quiet { (limit : ℕ) → (size : ℕ) → AsksSample (map string_bytes words.now) limit size
+    ensures quiet { (limit : ℕ) → (size : ℕ) → AsksSample (map string_bytes arguments.now) limit
+        size
         → source.new ≡ source.old }
-    ensures samples { (limit : ℕ) → (size : ℕ) → AsksSample (map string_bytes words.now) limit size
+    ensures samples { (limit : ℕ) → (size : ℕ)
+        → AsksSample (map string_bytes arguments.now) limit size
         → IsUntouched result (S.left source.old) (S.left source.new) (K.written sink.old)
         (K.written sink.new) disk.old disk.new
         ⊎ SamplesOver size (given_by limit (book_meaning R.Rule book.now))
@@ -144,7 +146,7 @@ fn judge_and_run<S: Source, K: Sink, D: Disk, R: Rule>(
     ensures sink { SinkCounted result (K.faults sink.old) (K.faults sink.new) }
     ensures disk { DiskCounted result (D.meaning disk.old).faults (D.meaning disk.new).faults }
 {
-    match asked(alloc, words) {
+    match asked(alloc, arguments) {
         Ok(asked) => match asked {
             Some(request) => perform(alloc, request, book, source, sink, disk),
             None => refuse_words(sink),
@@ -155,7 +157,7 @@ fn judge_and_run<S: Source, K: Sink, D: Disk, R: Rule>(
 
 /// Runs a script over the archive on a disk: reads it from the source to its end, puts the records
 /// of accepted commands and of checkpoints on the disk, and the replies into the sink, each
-/// statement's when it ends. The words are judged first; then the disk is opened; then the script
+/// statement's when it ends. The words are checked first; then the disk is opened; then the script
 /// is read. The first fault ends the run. By the book's rules queries are taken from version to
 /// version. Where the words ask for a sample, the script is the one that is made from its size,
 /// nothing is taken from the source, and the summary of the replies is put in their place.
@@ -165,7 +167,7 @@ fn judge_and_run<S: Source, K: Sink, D: Disk, R: Rule>(
 /// last `;`. What it is made of is said by the fields of `OutputLaws`.
 pub fn run<S: Source, K: Sink, D: Disk, R: Rule>(
     alloc: Global,
-    words: &[Word],
+    arguments: &[Word],
     book: &RuleBook<R>,
     source: &mut S,
     sink: &mut K,
@@ -174,32 +176,34 @@ pub fn run<S: Source, K: Sink, D: Disk, R: Rule>(
 
     // Words comes exactly where they are not accepted, unless memory ran out; nothing is then
     // taken, and no disk called.
-    ensures words { result ≡ Status.Words → asked (map string_bytes words.now) ≡ None }
-    ensures refused { asked (map string_bytes words.now) ≡ None
+    ensures arguments { result ≡ Status.Words → asked (map string_bytes arguments.now) ≡ None }
+    ensures refused { asked (map string_bytes arguments.now) ≡ None
         → RefusedWords result (S.left source.old) (S.left source.new) (K.written sink.old)
         (K.written sink.new) (K.faults sink.old) (K.faults sink.new) disk.old disk.new }
 
     // Where the words ask for a run: what is taken, written and left on the disk, by the status;
     // a prefix of the script's output, whatever happens, and all of it where the script was read to
     // its end; what a crash leaves wherever the run is stopped; and that sound files stay so.
-    ensures runs { (limit : ℕ) → asked_for (map string_bytes words.now) ≡ Some limit
+    ensures runs { (limit : ℕ) → asked_for (map string_bytes arguments.now) ≡ Some limit
         → RunOutcome (given_by limit (book_meaning R.Rule book.now)) D.meaning
         result (S.left source.old) (S.left source.new) (K.written sink.old) (K.written sink.new)
         (K.faults sink.old) (K.faults sink.new) disk.old disk.new }
 
     // Where they ask for a sample: the same of its script, of which the summary is written. No
     // source is called.
-    ensures samples { (limit : ℕ) → (size : ℕ) → AsksSample (map string_bytes words.now) limit size
+    ensures samples { (limit : ℕ) → (size : ℕ)
+        → AsksSample (map string_bytes arguments.now) limit size
         → SampleOutcome size (given_by limit (book_meaning R.Rule book.now))
         D.meaning result (S.left source.old) (S.left source.new) (K.written sink.old)
         (K.written sink.new) (K.faults sink.old) (K.faults sink.new) disk.old disk.new }
-    ensures quiet { (limit : ℕ) → (size : ℕ) → AsksSample (map string_bytes words.now) limit size
+    ensures quiet { (limit : ℕ) → (size : ℕ) → AsksSample (map string_bytes arguments.now) limit
+        size
         → source.new ≡ source.old }
 
     // NotAJournal comes exactly where the file is damaged, at its place, unless the disk failed or
     // memory ran out.
     ensures damaged { (place : ℕ) → result ≡ Status.NotAJournal place
-        → Tells (D.meaning disk.old).seen (λ file. Damages file place) }
+        → IfKnown (D.meaning disk.old).seen (λ file. Damages file place) }
 
     // A fault is answered only where the count of its object rose in this call, and with any
     // other status the count is as it was; but where the words are wrong or the file is no journal
@@ -229,5 +233,5 @@ pub fn run<S: Source, K: Sink, D: Disk, R: Rule>(
     a_file_opens_or_is_damaged();
     an_image_shows_a_past();
     book.known();
-    judge_and_run(alloc, words, book, source, sink, disk)
+    check_and_run(alloc, arguments, book, source, sink, disk)
 }

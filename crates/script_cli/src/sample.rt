@@ -9,10 +9,10 @@ ghost use Rattle.script_cli_sample.specs.Statements.{sample_script};
 ghost use Rattle.script_cli_sample.specs.Summary as spec;
 ghost use Rattle.script_cli_statement.specs.Given.{Given};
 ghost use Rattle.script_cli_statement.specs.Replies.{Recorded};
-ghost use Rattle.script_cli_statement.specs.Halts.{SaidCounted};
+ghost use Rattle.script_cli_statement.specs.StopReasons.{SaidCounted};
 ghost use Rattle.script_cli.specs.Runs.{SinkCounted, DiskCounted, given_by, is_whole};
 ghost use Rattle.script_cli_statement.specs.Responses.{RepresentsAt, TakesRecords};
-ghost use Rattle.script_cli.specs.Sampling.{SamplesOver, DroveSample, PutsSummary, stop_of};
+ghost use Rattle.script_cli.specs.Sampling.{SamplesOver, RanSample, PutsSummary, stop_of};
 
 use crate::disk_run::{mount_counted, refuse_file};
 use crate::driver::{drive, status_of};
@@ -25,7 +25,7 @@ use prima_base::NoMemory;
 use prima_io::{Failed, Sink, put_all};
 use rewrite_rules_book::{Rule, RuleBook};
 use script_cli_sample::{SampleSource, summary};
-use script_cli_statement::Halt;
+use script_cli_statement::StopReason;
 use std::alloc::Global;
 use std::marker::Brand;
 use std::sync::ledger::Blank;
@@ -39,20 +39,20 @@ fn tell<K: Sink>(
     puts: u64,
     replies: &[u8],
     sink: &mut K,
-) -> Result<(), Halt>
+) -> Result<(), StopReason>
     ensures told { PutsSummary result (spec.summary size (commands + puts) replies.now)
         (K.written sink.old) (K.written sink.new) }
     ensures counts { SaidCounted result (K.faults sink.old) (K.faults sink.new) }
 {
     let Some(commands) = commands.checked_add(puts) else {
-        return Err(Halt::NoMemory);
+        return Err(StopReason::NoMemory);
     };
     match summary(alloc, size, commands, replies) {
         Ok(text) => match put_all(sink, &text) {
             Ok(()) => Ok(()),
-            Err(Failed) => Err(Halt::WriteFault),
+            Err(Failed) => Err(StopReason::WriteFault),
         },
-        Err(NoMemory) => Err(Halt::NoMemory),
+        Err(NoMemory) => Err(StopReason::NoMemory),
     }
 }
 
@@ -88,10 +88,10 @@ fn sample<K: Sink, D: Disk, R: Rule>(
     sink: &mut K,
 ) -> Status
     requires takes { TakesRecords archive.old }
-    ensures drove { (limit : Given) → limit.book
+    ensures ran_script { (limit : Given) → limit.book
         ≡ book_meaning R.Rule book.now → (start : Recorded)
         → RepresentsAt archive.old limit start
-        → DroveSample size limit (sample_script size) start commands result (K.written sink.old)
+        → RanSample size limit (sample_script size) start commands result (K.written sink.old)
         (K.written sink.new) (below archive.old) (below archive.new) (place_of archive.old) }
     ensures sink { SinkCounted result (K.faults sink.old) (K.faults sink.new) }
     ensures disk { DiskCounted result (below archive.old).faults (below archive.new).faults }
@@ -104,7 +104,7 @@ fn sample<K: Sink, D: Disk, R: Rule>(
     }
     match tell(alloc, size, commands, driven.puts, kept.bytes(), sink) {
         Ok(()) => driven.status,
-        Err(halt) => status_of(halt),
+        Err(reason) => status_of(reason),
     }
 }
 

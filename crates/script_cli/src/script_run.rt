@@ -13,9 +13,9 @@ ghost use Rattle.answer_text.specs.RefusalTexts.{refusal_text};
 ghost use Rattle.script_cli_statement.specs.Given.{Given};
 ghost use Rattle.script_cli_statement.specs.Replies.{Recorded, reply, refused};
 ghost use Rattle.script_cli.specs.Output.{tail_text, tail_is_due};
-ghost use Rattle.script_cli_statement.specs.Halts.{HaltCounted};
+ghost use Rattle.script_cli_statement.specs.StopReasons.{StopCounted};
 ghost use Rattle.script_cli_statement.specs.Puts.{is_error};
-ghost use Rattle.script_cli.specs.Taking.{Took, Answered, Halted, parts_after, ending_after};
+ghost use Rattle.script_cli.specs.Taking.{Fed, Answered, Stopped, parts_after, ending_after};
 ghost use Rattle.script_cli_statement.specs.Responses.{StopsIn, RepresentsAt, TakesRecords};
 
 use archive_core::Archive;
@@ -23,7 +23,7 @@ use disk_model::Disk;
 use prima_base::{NoMemory, Refusal};
 use prima_io::{Failed, Sink};
 use rewrite_rules_book::{Rule, RuleBook};
-use script_cli_statement::{Halt, Put, refuse, respond};
+use script_cli_statement::{ReplyKind, StopReason, refuse, respond};
 use script_parse::{Cut, Splitter, Tail};
 use std::alloc::Global;
 
@@ -65,7 +65,7 @@ impl ScriptRun {
         book: &RuleBook<R>,
         sink: &mut K,
         text: &[u8],
-    ) -> Result<(), Halt>
+    ) -> Result<(), StopReason>
         requires short { length text.now ≤ 1048576 }
         requires takes { TakesRecords archive.old }
         ensures answered { (limit : Given) → limit.book
@@ -76,15 +76,16 @@ impl ScriptRun {
         ensures stopped { (limit : Given) → limit.book
             ≡ book_meaning R.Rule book.now → (now : Recorded)
             → RepresentsAt archive.old limit now
-            → IfErr result (λ halt. StopsIn halt (reply limit now text.now) archive.old archive.new
+            → IfErr result (λ reason. StopsIn reason (reply limit now text.now) archive.old
+            archive.new
             (K.written sink.old) (K.written sink.new)) }
         ensures splitter { self.new.splitter ≡ self.old.splitter }
         ensures takes { OnOk result (TakesRecords archive.new) }
-        ensures counts { HaltCounted result (K.faults sink.old) (K.faults sink.new)
+        ensures counts { StopCounted result (K.faults sink.old) (K.faults sink.new)
             (below archive.old).faults (below archive.new).faults }
     {
         let Some(more) = self.puts.checked_add(1) else {
-            return Err(Halt::NoMemory);
+            return Err(StopReason::NoMemory);
         };
         match respond(self.alloc, archive, book, sink, text) {
             Ok(put) => {
@@ -94,7 +95,7 @@ impl ScriptRun {
                 }
                 Ok(())
             }
-            Err(halt) => Err(halt),
+            Err(reason) => Err(reason),
         }
     }
 
@@ -126,27 +127,27 @@ impl ScriptRun {
         book: &RuleBook<R>,
         sink: &mut K,
         bytes: &'b [u8],
-    ) -> Result<Option<&'b [u8]>, Halt>
+    ) -> Result<Option<&'b [u8]>, StopReason>
         requires ready { self.old.splitter.spent ≡ false }
         requires takes { TakesRecords archive.old }
-        ensures took { (limit : Given) → limit.book
+        ensures fed { (limit : Given) → limit.book
             ≡ book_meaning R.Rule book.now → (now : Recorded)
             → RepresentsAt archive.old limit now
             → IfOk result (λ rest. MatchOption rest
-            (Took limit now self.old self.new archive.old archive.new bytes.now []
+            (Fed limit now self.old self.new archive.old archive.new bytes.now []
             (K.written sink.old) (K.written sink.new))
-            (λ rest. Took limit now self.old self.new archive.old archive.new bytes.now rest.now
+            (λ rest. Fed limit now self.old self.new archive.old archive.new bytes.now rest.now
             (K.written sink.old) (K.written sink.new))) }
         ensures halted { (limit : Given) → limit.book
             ≡ book_meaning R.Rule book.now → (now : Recorded)
             → RepresentsAt archive.old limit now
-            → IfErr result (λ halt. Halted halt limit now (parts_after self.old bytes.now)
+            → IfErr result (λ reason. Stopped reason limit now (parts_after self.old bytes.now)
             archive.old archive.new (K.written sink.old) (K.written sink.new)) }
         ensures fewer { IfOk result (λ rest. MatchOption rest (Unit {0})
             (λ rest. length rest.now < length bytes.now)) }
         ensures ready { OnOk result (self.new.splitter.spent ≡ false) }
         ensures takes { OnOk result (TakesRecords archive.new) }
-        ensures counts { HaltCounted result (K.faults sink.old) (K.faults sink.new)
+        ensures counts { StopCounted result (K.faults sink.old) (K.faults sink.new)
             (below archive.old).faults (below archive.new).faults }
     {
         match self.splitter.feed(bytes) {
@@ -154,14 +155,14 @@ impl ScriptRun {
                 Cut::More => Ok(None),
                 Cut::Text(text) => match self.answer(archive, book, sink, &text) {
                     Ok(()) => Ok(Some(rest)),
-                    Err(halt) => Err(halt),
+                    Err(reason) => Err(reason),
                 },
                 Cut::TooLong => match self.refuse_long(sink) {
                     Ok(()) => Ok(Some(rest)),
-                    Err(Failed) => Err(Halt::WriteFault),
+                    Err(Failed) => Err(StopReason::WriteFault),
                 },
             },
-            Err(NoMemory) => Err(Halt::NoMemory),
+            Err(NoMemory) => Err(StopReason::NoMemory),
         }
     }
 
@@ -173,22 +174,22 @@ impl ScriptRun {
         book: &RuleBook<R>,
         sink: &mut K,
         chunk: &[u8],
-    ) -> Result<(), Halt>
+    ) -> Result<(), StopReason>
         requires ready { self.old.splitter.spent ≡ false }
         requires takes { TakesRecords archive.old }
-        ensures took { (limit : Given) → limit.book
+        ensures fed { (limit : Given) → limit.book
             ≡ book_meaning R.Rule book.now → (now : Recorded)
             → RepresentsAt archive.old limit now
-            → OnOk result (Took limit now self.old self.new archive.old archive.new chunk.now []
+            → OnOk result (Fed limit now self.old self.new archive.old archive.new chunk.now []
             (K.written sink.old) (K.written sink.new)) }
         ensures halted { (limit : Given) → limit.book
             ≡ book_meaning R.Rule book.now → (now : Recorded)
             → RepresentsAt archive.old limit now
-            → IfErr result (λ halt. Halted halt limit now (parts_after self.old chunk.now)
+            → IfErr result (λ reason. Stopped reason limit now (parts_after self.old chunk.now)
             archive.old archive.new (K.written sink.old) (K.written sink.new)) }
         ensures ready { OnOk result (self.new.splitter.spent ≡ false) }
         ensures takes { OnOk result (TakesRecords archive.new) }
-        ensures counts { HaltCounted result (K.faults sink.old) (K.faults sink.new)
+        ensures counts { StopCounted result (K.faults sink.old) (K.faults sink.new)
             (below archive.old).faults (below archive.new).faults }
     {
         let mut rest = chunk;
@@ -198,13 +199,13 @@ impl ScriptRun {
                     Some(left) => rest = left,
                     None => return Ok(()),
                 },
-                Err(halt) => return Err(halt),
+                Err(reason) => return Err(reason),
             }
         }
     }
 
     /// Puts what is due at the script's end, and answers whether an `error` line was put or is.
-    pub(crate) fn finish<K: Sink>(self, sink: &mut K) -> Result<Put, Failed>
+    pub(crate) fn finish<K: Sink>(self, sink: &mut K) -> Result<ReplyKind, Failed>
         requires { self.splitter.spent ≡ false }
         ensures ok { IfOk result (λ put. is_error put
             ≡ (self.refused || tail_is_due (ending_after self []))) }
@@ -216,7 +217,7 @@ impl ScriptRun {
     {
         let refused = self.refused;
         match self.splitter.finish() {
-            Tail::Clean => Ok(Put::new(refused)),
+            Tail::Clean => Ok(ReplyKind::new(refused)),
             Tail::Unfinished => refuse(sink, &Refusal::Unfinished),
             Tail::TooLong => refuse(sink, &Refusal::TooLong),
         }

@@ -9,10 +9,10 @@ use Rattle.clap.specs.Faults.{turn_fault, walk_fault, settle_fault, defaults_fau
 use Rattle.clap.specs.Simple.{built, Shape, matches_of}
 use Rattle.clap.specs.declared.error.kind.ErrorKind.{ErrorKind}
 use Rattle.clap.proofs.FaultLemmas.{leaf_fault}
-use Rattle.script_cli_arguments.specs.Reading.{program, parts_in, parsed}
-use Rattle.script_cli_arguments.specs.Words.{Word, Parts, Setting, journal_limit, size}
-use Rattle.script_cli_arguments.specs.Words.{setting_name}
-use Rattle.script_cli_arguments.specs.Words.{with_value}
+use Rattle.script_cli_arguments.specs.Reading.{program, parts_in, parsed_words}
+use Rattle.script_cli_arguments.specs.Arguments.{Word, Parts, Setting, journal_limit, size}
+use Rattle.script_cli_arguments.specs.Arguments.{setting_name}
+use Rattle.script_cli_arguments.specs.Arguments.{with_value}
 use Rattle.script_cli_arguments.proofs.WordsRead.{with_other}
 use Rattle.script_cli_arguments.proofs.FoundRows.{Keeps, word_name, more_of, word_of}
 
@@ -105,30 +105,31 @@ end_fault h = or_else (settle_fault rules_built false h)
     (check_fault shape (finished rules_built h) false))
 
 abbrev pub end_of_walk : Walk → List Word → Walk
-end_of_walk w words = fold (walked rules_built []) w words
+end_of_walk w arguments = fold (walked rules_built []) w arguments
 
 abbrev pub outcome_by : Kinds → List Row → Option Parts
 outcome_by kinds rows = if is_empty kinds then Some (parts_in rows) else None
 
 abbrev pub outcome : Walk → List Word → Option Parts
-outcome w words = outcome_by (or_else (walk_fault shape [] w words)
-    (end_fault (end_of_walk w words).held))
-    (finished rules_built (end_of_walk w words).held)
+outcome w arguments = outcome_by (or_else (walk_fault shape [] w arguments)
+    (end_fault (end_of_walk w arguments).held))
+    (finished rules_built (end_of_walk w arguments).held)
 
-pub outcome_at_once : (words : List Word) → parsed words ≡ outcome (walk_from nothing_held) words
-outcome_at_once words = ap (λ kinds. outcome_by kinds (matches_of program words))
-    (leaf_fault (built program) nothing_held words refl)
+pub outcome_at_once : (arguments : List Word)
+    → parsed_words arguments ≡ outcome (walk_from nothing_held) arguments
+outcome_at_once arguments = ap (λ kinds. outcome_by kinds (matches_of program arguments))
+    (leaf_fault (built program) nothing_held arguments refl)
 
-pub goes_on : (w v : Walk) (word : Word) (words : List Word) → turn_fault shape [] w word ≡ []
-    → walked rules_built [] w word ≡ v → outcome w (word ∷ words) ≡ outcome v words
+pub goes_on : (w v : Walk) (word : Word) (arguments : List Word) → turn_fault shape [] w word ≡ []
+    → walked rules_built [] w word ≡ v → outcome w (word ∷ arguments) ≡ outcome v arguments
 unfolding walk_fault
-goes_on w v word words fault next = rw fault (ap (λ x. outcome x words) next)
+goes_on w v word arguments fault next = rw fault (ap (λ x. outcome x arguments) next)
 
-pub is_refused : (w : Walk) (word : Word) (words : List Word) (kind : ErrorKind)
+pub is_refused : (w : Walk) (word : Word) (arguments : List Word) (kind : ErrorKind)
     → turn_fault shape [] w word ≡ kind ∷ []
-    → outcome w (word ∷ words) ≡ None
+    → outcome w (word ∷ arguments) ≡ None
 unfolding walk_fault
-is_refused w word words kind fault = rw fault
+is_refused w word arguments kind fault = rw fault
 
 abbrev some_parts : List Word → List Word → Option Word → Option Parts
 some_parts limits sizes other = Some (record { limits = limits; sizes = sizes; other = other })

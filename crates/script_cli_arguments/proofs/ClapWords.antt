@@ -7,9 +7,9 @@ use Rattle.std.proofs.lemmas.Str.{encode_ascii, IsUtf8-past_char, encodes-chars}
 use Rattle.clap.specs.Walk.{Row, Text, Waiting, walked, idle, option, positional}
 use Rattle.clap.specs.Faults.{turn_fault, settle_fault, flags_fault}
 use Rattle.clap.specs.declared.error.kind.ErrorKind.TheVariants.{InvalidValue, UnknownArgument}
-use Rattle.script_cli_arguments.specs.Words.{Word, Parts, Setting, journal_limit, size}
-use Rattle.script_cli_arguments.specs.Words.{setting_name}
-use Rattle.script_cli_arguments.specs.Words.{option_value}
+use Rattle.script_cli_arguments.specs.Arguments.{Word, Parts, Setting, journal_limit, size}
+use Rattle.script_cli_arguments.specs.Arguments.{setting_name}
+use Rattle.script_cli_arguments.specs.Arguments.{option_value}
 use Rattle.script_cli_arguments.proofs.WordKinds.{IsPlainWord}
 use Rattle.script_cli_arguments.proofs.FoundRows.{Keeps}
 use Rattle.script_cli_arguments.proofs.WordsRead.{IsNamed, IsUnknown}

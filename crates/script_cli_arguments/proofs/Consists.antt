@@ -7,12 +7,13 @@ use Rattle.std.proofs.lemmas.Bool.{both_ways}
 use Rattle.std.proofs.lemmas.Slice.Eq.{bytes_eq-Decides}
 use Rattle.script_cli_arguments.specs.declared.request.Mode.{Mode}
 use Rattle.script_cli_arguments.specs.declared.request.Request.{Request}
-use Rattle.script_cli_arguments.specs.Words.{Word, Parts, Setting, journal_limit, size}
-use Rattle.script_cli_arguments.specs.Words.{setting_name}
-use Rattle.script_cli_arguments.specs.Words.{with_value, any, value, no_option, no_parts, asked_by}
-use Rattle.script_cli_arguments.specs.Words.{asked}
-use Rattle.script_cli_arguments.specs.Words.{limit_of, size_of, mode_of, words_read, is_dashed}
-use Rattle.script_cli_arguments.specs.Words.{option_name, option_value}
+use Rattle.script_cli_arguments.specs.Arguments.{Word, Parts, Setting, journal_limit, size}
+use Rattle.script_cli_arguments.specs.Arguments.{setting_name}
+use Rattle.script_cli_arguments.specs.Arguments.{with_value, any, value, no_option, no_parts}
+use Rattle.script_cli_arguments.specs.Arguments.{asked_by}
+use Rattle.script_cli_arguments.specs.Arguments.{asked}
+use Rattle.script_cli_arguments.specs.Arguments.{limit_of, size_of, mode_of, words_read, is_dashed}
+use Rattle.script_cli_arguments.specs.Arguments.{option_name, option_value}
 use Rattle.script_cli_arguments.specs.Consisting.{AskFor, Item, joined, apart, plain, IsItem}
 use Rattle.script_cli_arguments.specs.Consisting.{words_of}
 use Rattle.script_cli_arguments.specs.Consisting.{values_in, plain_in, with_dashes, after_dashes}
@@ -119,30 +120,31 @@ module _ (word : Word) where
 
 -- ---- words that are read consist of items
 
-record Consists (before : Parts) (words : List Word) (after : Parts) : Type 0 where
+record Consists (before : Parts) (arguments : List Word) (after : Parts) : Type 0 where
   items : List Item
   tail : Option (List Word)
-  words_are : words ≡ words_of items ++ with_dashes tail
+  words_are : arguments ≡ words_of items ++ with_dashes tail
   valid : AllByRecursion IsItem items
   other_is : others before.other ++ (plain_in items ++ after_dashes tail) ≡ others after.other
   limits_are : after.limits ≡ before.limits ++ values_in journal_limit items
   sizes_are : after.sizes ≡ before.sizes ++ values_in size items
 
-record BeginsWithValue (setting : Setting) (before : Parts) (words : List Word) (after : Parts) :
+record BeginsWithValue (setting : Setting) (before : Parts) (arguments : List Word)
+    (after : Parts) :
     Type 0 where
   text : Word
   rest : List Word
-  words_are : words ≡ text ∷ rest
+  words_are : arguments ≡ text ∷ rest
   plain_text : is_dashed text ≡ false
   later : Consists (with_value setting text before) rest after
 
 nothing_read : {A : Type 0} (a : Option Parts) (parts : Parts) → a ≡ None → a ≡ Some parts → A
 nothing_read a parts none some = let clash : None ≡ Some parts = sym none ∙ some in absurd (cc)
 
-after_consists : (words : List Word) (limits sizes : List Word) (other : Option Word)
+after_consists : (arguments : List Word) (limits sizes : List Word) (other : Option Word)
     (after : Parts)
-    → words_read no_option (parts_at limits sizes other) words ≡ Some after
-    → (others other ++ words ≡ others after.other) × (after.limits ≡ limits)
+    → words_read no_option (parts_at limits sizes other) arguments ≡ Some after
+    → (others other ++ arguments ≡ others after.other) × (after.limits ≡ limits)
     × (after.sizes ≡ sizes)
 after_consists [] limits sizes other after e =
     let same : parts_at limits sizes other ≡ after = cc in (
@@ -150,10 +152,11 @@ after_consists [] limits sizes other after e =
       sym (ap (λ (p : Parts). p.limits) same),
       sym (ap (λ (p : Parts). p.sizes) same),
     )
-after_consists (word ∷ words) limits sizes None after e =
-    after_consists words limits sizes (Some word) after e
-after_consists (word ∷ words) limits sizes (Some u) after e =
-    nothing_read _ after (reads_second_after (parts_at limits sizes (Some u)) words word u refl) e
+after_consists (word ∷ arguments) limits sizes None after e =
+    after_consists arguments limits sizes (Some word) after e
+after_consists (word ∷ arguments) limits sizes (Some u) after e =
+    nothing_read _ after (reads_second_after (parts_at limits sizes (Some u)) arguments word u refl)
+    e
 
 -- the name of an option that is known
 named : (setting : Setting) (text : Word) → IsNamed setting text
@@ -182,35 +185,35 @@ module _ (text : Word) (before after : Parts) (items : List Item) where
   other_same journal_limit rest e = e
   other_same size rest e = e
 
-module _ (words : List Word) (later : (before after : Parts)
-    → words_read any before words ≡ Some after → Consists before words after)
+module _ (arguments : List Word) (later : (before after : Parts)
+    → words_read any before arguments ≡ Some after → Consists before arguments after)
     (later_value : (setting : Setting) (before after : Parts)
-    → words_read (value setting) before words ≡ Some after
-    → BeginsWithValue setting before words after)
+    → words_read (value setting) before arguments ≡ Some after
+    → BeginsWithValue setting before arguments after)
     (before after : Parts) where
   value_consists : (setting : Setting) (word : Word) (b : Bool) → is_dashed word ≡ b
-      → words_read (value setting) before (word ∷ words) ≡ Some after
-      → BeginsWithValue setting before (word ∷ words) after
+      → words_read (value setting) before (word ∷ arguments) ≡ Some after
+      → BeginsWithValue setting before (word ∷ arguments) after
   value_consists setting word true d e = nothing_read _ after
-      (reads_no_value before words setting word d) e
+      (reads_no_value before arguments setting word d) e
   value_consists setting word false d e = record {
     text = word;
-    rest = words;
+    rest = arguments;
     words_are = refl;
     plain_text = d;
     later = later (with_value setting word before) after
-        (sym (reads_value before words setting word d) ∙ e);
+        (sym (reads_value before arguments setting word d) ∙ e);
   }
 
   option_consists : (x : ℕ) (xs : List ℕ) (given : Option Word) → Naming (x ∷ xs)
       → option_value (x ∷ xs) ≡ given
-      → words_read any before ((45 ∷ 45 ∷ x ∷ xs) ∷ words) ≡ Some after
-      → Consists before ((45 ∷ 45 ∷ x ∷ xs) ∷ words) after
+      → words_read any before ((45 ∷ 45 ∷ x ∷ xs) ∷ arguments) ≡ Some after
+      → Consists before ((45 ∷ 45 ∷ x ∷ xs) ∷ arguments) after
   option_consists x xs given (unknown n) d e =
-      nothing_read _ after (reads_unknown before words x xs n) e
+      nothing_read _ after (reads_unknown before arguments x xs n) e
   option_consists x xs None (names setting n) d e =
       let found = later_value setting before after
-      (sym (reads_apart before words setting x xs n d) ∙ e) in
+      (sym (reads_apart before arguments setting x xs n d) ∙ e) in
       let text_is : x ∷ xs ≡ setting_name setting =
       sym (named setting (x ∷ xs) n ∙ name_alone (x ∷ xs) d) in record {
         items = apart setting found.text ∷ found.later.items;
@@ -227,7 +230,7 @@ module _ (words : List Word) (later : (before after : Parts)
       }
   option_consists x xs (Some text) (names setting n) d e =
       let found = later (with_value setting text before) after
-      (sym (reads_joined before words setting x xs text n d) ∙ e) in
+      (sym (reads_joined before arguments setting x xs text n d) ∙ e) in
       let text_is : x ∷ xs ≡ setting_name setting ++ 61 ∷ text = name_and_value (x ∷ xs) text d
       ∙ ap (λ (t : Word). t ++ 61 ∷ text) (sym (named setting (x ∷ xs) n)) in record {
         items = joined setting text ∷ found.items;
@@ -240,10 +243,11 @@ module _ (words : List Word) (later : (before after : Parts)
       }
 
   plain_consists : (other : Option Word) (word : Word) → before.other ≡ other → IsPlainWord word
-      → words_read any before (word ∷ words) ≡ Some after → Consists before (word ∷ words) after
+      → words_read any before (word ∷ arguments) ≡ Some after
+      → Consists before (word ∷ arguments) after
   plain_consists None word o w e =
       let found = later (record before { other = Some word }) after
-      (sym (reads_other before words word w o) ∙ e) in record {
+      (sym (reads_other before arguments word w o) ∙ e) in record {
         items = plain word ∷ found.items;
         tail = found.tail;
         words_are = ap (λ (ws : List Word). word ∷ ws) found.words_are;
@@ -253,36 +257,38 @@ module _ (words : List Word) (later : (before after : Parts)
         limits_are = found.limits_are;
         sizes_are = found.sizes_are;
       }
-  plain_consists (Some u) word o w e = nothing_read _ after (reads_second before words word u w o) e
+  plain_consists (Some u) word o w e = nothing_read _ after
+      (reads_second before arguments word u w o) e
 
-  word_consists : (word : Word) → KindOf word → words_read any before (word ∷ words) ≡ Some after
-      → Consists before (word ∷ words) after
+  word_consists : (word : Word) → KindOf word
+      → words_read any before (word ∷ arguments) ≡ Some after
+      → Consists before (word ∷ arguments) after
   word_consists word (dashes is) e =
-      let following = after_consists words before.limits before.sizes before.other after
-      (subst (λ (w : Word). words_read any before (w ∷ words) ≡ Some after) is e) in record {
+      let following = after_consists arguments before.limits before.sizes before.other after
+      (subst (λ (w : Word). words_read any before (w ∷ arguments) ≡ Some after) is e) in record {
         items = [];
-        tail = Some words;
-        words_are = ap (λ (w : Word). w ∷ words) is;
+        tail = Some arguments;
+        words_are = ap (λ (w : Word). w ∷ arguments) is;
         valid = tt;
         other_is = following.0;
         limits_are = following.1 ∙ sym (append-nil before.limits);
         sizes_are = following.2 ∙ sym (append-nil before.sizes);
       }
-  word_consists word (long x xs is) e = subst (λ (w : Word). Consists before (w ∷ words) after)
+  word_consists word (long x xs is) e = subst (λ (w : Word). Consists before (w ∷ arguments) after)
       (sym is)
       (option_consists x xs (option_value (x ∷ xs)) (naming (x ∷ xs)) refl
-      (subst (λ (w : Word). words_read any before (w ∷ words) ≡ Some after) is e))
+      (subst (λ (w : Word). words_read any before (w ∷ arguments) ≡ Some after) is e))
   word_consists word (short x xs is f) e =
-      nothing_read _ after (reads_short before words x xs f)
-      (subst (λ (w : Word). words_read any before (w ∷ words) ≡ Some after) is e)
+      nothing_read _ after (reads_short before arguments x xs f)
+      (subst (λ (w : Word). words_read any before (w ∷ arguments) ≡ Some after) is e)
   word_consists word (kinds.plain w) e = plain_consists before.other word refl w e
 
-all_consist : (words : List Word)
-    → ((before after : Parts) → words_read any before words ≡ Some after
-    → Consists before words after)
+all_consist : (arguments : List Word)
+    → ((before after : Parts) → words_read any before arguments ≡ Some after
+    → Consists before arguments after)
     × ((setting : Setting) (before after : Parts)
-    → words_read (value setting) before words ≡ Some after
-    → BeginsWithValue setting before words after)
+    → words_read (value setting) before arguments ≡ Some after
+    → BeginsWithValue setting before arguments after)
 all_consist [] = (
   λ before after e. let same : before ≡ after = cc in record {
     items = [];
@@ -295,19 +301,20 @@ all_consist [] = (
   },
   λ setting before after e. absurd (cc),
 )
-all_consist (word ∷ words) =
-    let later = all_consist words in (
-      λ before after e. word_consists words later.0 later.1 before after word (kind_of_word word) e,
-      λ setting before after e. value_consists words later.0 later.1 before after setting word
+all_consist (word ∷ arguments) =
+    let later = all_consist arguments in (
+      λ before after e. word_consists arguments later.0 later.1 before after word
+          (kind_of_word word) e,
+      λ setting before after e. value_consists arguments later.0 later.1 before after setting word
           (is_dashed word) refl e,
     )
 
 -- ---- what is asked for
 
-is_asked : (words : List Word) (request : Request) → AskFor words request
-    → asked words ≡ Some request
-is_asked words request ask =
-    let read : words_read any no_parts words ≡ Some
+is_asked : (arguments : List Word) (request : Request) → AskFor arguments request
+    → asked arguments ≡ Some request
+is_asked arguments request ask =
+    let read : words_read any no_parts arguments ≡ Some
     (parts_at (values_in journal_limit ask.items) (values_in size ask.items) (Some ask.word)) =
     ap (words_read any no_parts) ask.words_are
     ∙ completes ask.word ask.tail ask.items ask.valid [] [] None ask.one_other in
@@ -316,14 +323,15 @@ is_asked words request ask =
     let mode_is = ask.mode_is in
     ap asked_by read ∙ rw (limit_is, size_is, mode_is)
 
-module _ (words : List Word) (request : Request) (parts : Parts) (c : Consists no_parts words parts)
+module _ (arguments : List Word) (request : Request) (parts : Parts)
+    (c : Consists no_parts arguments parts)
     (h : asked_by (Some parts) ≡ Some request) where
-  refused : asked_by (Some parts) ≡ None → AskFor words request
+  refused : asked_by (Some parts) ≡ None → AskFor arguments request
   refused none = let clash : None ≡ Some request = sym none ∙ h in absurd (cc)
 
   by_mode : (limit n : ℕ) (other : Option Word) (mode : Option Mode)
       → limit_of parts.limits ≡ Some limit → size_of parts.sizes ≡ Some n → parts.other ≡ other
-      → mode_of other n ≡ mode → AskFor words request
+      → mode_of other n ≡ mode → AskFor arguments request
   by_mode limit n None mode l s o m = refused (rw (l, s, o))
   by_mode limit n (Some word) None l s o m = refused (rw (l, s, o, m))
   by_mode limit n (Some word) (Some mode) l s o m =
@@ -346,28 +354,29 @@ module _ (words : List Word) (request : Request) (parts : Parts) (c : Consists n
       }
 
   by_size : (limit : ℕ) (n : Option ℕ) → limit_of parts.limits ≡ Some limit
-      → size_of parts.sizes ≡ n → AskFor words request
+      → size_of parts.sizes ≡ n → AskFor arguments request
   by_size limit None l s = refused (rw (l, s))
   by_size limit (Some n) l s = by_mode limit n parts.other (mode_of parts.other n) l s refl refl
 
-  by_limit : (limit : Option ℕ) → limit_of parts.limits ≡ limit → AskFor words request
+  by_limit : (limit : Option ℕ) → limit_of parts.limits ≡ limit → AskFor arguments request
   by_limit None l = refused (rw l)
   by_limit (Some limit) l = by_size limit (size_of parts.sizes) l refl
 
-asked_parts : (words : List Word) (request : Request) (read : Option Parts)
-    → words_read any no_parts words ≡ read → asked_by read ≡ Some request → AskFor words request
-asked_parts words request None e h = absurd (cc)
-asked_parts words request (Some parts) e h = by_limit words request parts
-    ((all_consist words).0 no_parts parts e) h (limit_of parts.limits) refl
+asked_parts : (arguments : List Word) (request : Request) (read : Option Parts)
+    → words_read any no_parts arguments ≡ read → asked_by read ≡ Some request
+    → AskFor arguments request
+asked_parts arguments request None e h = absurd (cc)
+asked_parts arguments request (Some parts) e h = by_limit arguments request parts
+    ((all_consist arguments).0 no_parts parts e) h (limit_of parts.limits) refl
 
-words_ask : (words : List Word) (request : Request)
-    → (asked words ≡ Some request) ↔ AskFor words request
-words_ask words request = (
-  asked_parts words request (words_read any no_parts words) refl,
-  is_asked words request,
+words_ask : (arguments : List Word) (request : Request)
+    → (asked arguments ≡ Some request) ↔ AskFor arguments request
+words_ask arguments request = (
+  asked_parts arguments request (words_read any no_parts arguments) refl,
+  is_asked arguments request,
 )
 
-pub asked_consist : (words : List Word) (it : Option Request) → it ≡ asked words
-    → (request : Request) → (it ≡ Some request) ↔ AskFor words request
-asked_consist words it e request = subst (λ (o : Option Request). (o ≡ Some request)
-    ↔ AskFor words request) (sym e) (words_ask words request)
+pub asked_consist : (arguments : List Word) (it : Option Request) → it ≡ asked arguments
+    → (request : Request) → (it ≡ Some request) ↔ AskFor arguments request
+asked_consist arguments it e request = subst (λ (o : Option Request). (o ≡ Some request)
+    ↔ AskFor arguments request) (sym e) (words_ask arguments request)

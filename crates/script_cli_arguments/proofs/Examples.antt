@@ -2,7 +2,7 @@
 use Rattle.std.proofs.Common.{◌≡◌, [], ◌∷◌, refl, codes}
 use Rattle.std.specs.Prelude.{Some, None}
 use Rattle.script_cli_arguments.specs.declared.request.Mode.TheVariants.{Run, Sample}
-use Rattle.script_cli_arguments.specs.Words.{asked, request}
+use Rattle.script_cli_arguments.specs.Arguments.{asked, request}
 
 run_alone : asked (codes "run" ∷ []) ≡ Some (request 1073741824 Run)
 run_alone = refl

@@ -8,9 +8,9 @@ use Rattle.std.proofs.lemmas.Bool.{or_parts}
 use Rattle.clap.specs.Walk.{Row, all_of, first_of, has_row, with_values, without}
 use Rattle.clap.specs.declared.builder.value_parser.Reading.{Reading}
 use Rattle.clap.specs.declared.parser.matches.ValueSource.TheVariants.{CommandLine}
-use Rattle.script_cli_arguments.specs.Words.{Word, Parts, Setting, journal_limit, size}
-use Rattle.script_cli_arguments.specs.Words.{setting_name}
-use Rattle.script_cli_arguments.specs.Words.{with_value}
+use Rattle.script_cli_arguments.specs.Arguments.{Word, Parts, Setting, journal_limit, size}
+use Rattle.script_cli_arguments.specs.Arguments.{setting_name}
+use Rattle.script_cli_arguments.specs.Arguments.{with_value}
 
 abbrev pub word_name : Word
 word_name = codes "word"

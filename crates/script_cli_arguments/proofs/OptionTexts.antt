@@ -1,7 +1,7 @@
 -- The text of an option is its name, and a `=` with its value where it has one.
 use Rattle.std.proofs.Common.{◌≡◌, ℕ, Bool, true, false, [], ◌∷◌, ◌++◌, refl, ap, ap₂, sym, ◌∙◌}
 use Rattle.std.proofs.Common.{Some, None, eqb-true, add-one, one-add}
-use Rattle.script_cli_arguments.specs.Words.{Word, option_name, option_value, is_equals}
+use Rattle.script_cli_arguments.specs.Arguments.{Word, option_name, option_value, is_equals}
 
 module _ (a : ℕ) (text : Word) where
   name_here : is_equals a ≡ true → option_name (a ∷ text) ≡ []

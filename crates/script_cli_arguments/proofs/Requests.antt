@@ -1,7 +1,7 @@
 -- What is asked for by equal values is equal.
 use Rattle.std.proofs.Common.{◌≡◌, ap, ◌∙◌, List, [], Option, unwrap_or}
 use Rattle.script_cli_arguments.specs.declared.request.Request.{Request}
-use Rattle.script_cli_arguments.specs.Words.{Word, asked_with, limit_of, size_of}
+use Rattle.script_cli_arguments.specs.Arguments.{Word, asked_with, limit_of, size_of}
 
 abbrev pub by_values : Option (List Word) → Option (List Word) → Option Word → Option Request
 by_values limits sizes other = asked_with (limit_of (unwrap_or limits []))

@@ -3,7 +3,7 @@ use Rattle.std.proofs.Common.{◌≡◌, ℕ, ◌==◌, Bool, true, false, List,
 use Rattle.std.proofs.Common.{subst, eqb-true}
 use Rattle.std.specs.Str.{bytes_eq}
 use Rattle.clap.specs.Lexer.{long_of, short_of}
-use Rattle.script_cli_arguments.specs.Words.{Word, option_text, is_dashed}
+use Rattle.script_cli_arguments.specs.Arguments.{Word, option_text, is_dashed}
 
 -- a word that is not dashed
 pub record IsPlainWord (word : Word) : Type 0 where

@@ -3,9 +3,9 @@ use Rattle.std.specs.Prelude.{◌≡◌, ℕ, Bool, true, false, List, [], ◌�
 use Rattle.std.specs.Prelude.{codes, if◌then◌else◌}
 use Rattle.std.specs.List.{AllByRecursion}
 use Rattle.script_cli_arguments.specs.declared.request.Request.{Request}
-use Rattle.script_cli_arguments.specs.Words.{Word, Setting, setting_name, journal_limit, size}
-use Rattle.script_cli_arguments.specs.Words.{is_dashed}
-use Rattle.script_cli_arguments.specs.Words.{limit_of, size_of, mode_of}
+use Rattle.script_cli_arguments.specs.Arguments.{Word, Setting, setting_name, journal_limit, size}
+use Rattle.script_cli_arguments.specs.Arguments.{is_dashed}
+use Rattle.script_cli_arguments.specs.Arguments.{limit_of, size_of, mode_of}
 
 -- `--NAME=TEXT`; `--NAME` and after it TEXT; a word that is no option
 pub data Item : Type 0 where
@@ -61,12 +61,12 @@ after_dashes (Some after) = after
 -- The words consist of options, of one other word, and of a `--` or none, after which nothing is an
 -- option. Each option is given once, with this number, or not at all, and then the number is the
 -- one without it; and the other word is that of the mode.
-pub record AskFor (words : List Word) (asked : Request) : Type 0 where
+pub record AskFor (arguments : List Word) (asked : Request) : Type 0 where
   pub items : List Item
   pub tail : Option (List Word)
   pub word : Word
   pub n : ℕ
-  pub words_are : words ≡ words_of items ++ with_dashes tail
+  pub words_are : arguments ≡ words_of items ++ with_dashes tail
   pub valid : AllByRecursion IsItem items
   pub one_other : plain_in items ++ after_dashes tail ≡ word ∷ []
   pub limit_is : limit_of (values_in journal_limit items) ≡ Some asked.journal_limit

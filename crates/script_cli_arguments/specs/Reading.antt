@@ -5,7 +5,7 @@ use Rattle.clap.specs.Faults.{fault_of}
 use Rattle.clap.specs.Simple.{App, matches_of, new_rule, new_shape}
 use Rattle.clap.specs.Walk.{Row, Rule, all_of, first_of, is_empty}
 use Rattle.clap.specs.declared.builder.action.ArgAction.TheVariants.{Append}
-use Rattle.script_cli_arguments.specs.Words.{Word, Parts}
+use Rattle.script_cli_arguments.specs.Arguments.{Word, Parts}
 
 abbrev pub limit_rule : Rule
 limit_rule = record (new_rule (codes "journal-limit")) {
@@ -39,6 +39,7 @@ parts_in rows = record {
 }
 
 -- what clap makes of the words, where it takes them
-abbrev pub parsed : List Word → Option Parts
-parsed words =
-    if is_empty (fault_of program words) then Some (parts_in (matches_of program words)) else None
+abbrev pub parsed_words : List Word → Option Parts
+parsed_words arguments =
+    if is_empty (fault_of program arguments) then Some (parts_in (matches_of program arguments))
+    else None

@@ -11,10 +11,10 @@ use std::alloc::Global;
 
 /// The words as clap reads them: two options, each of which may come more than once as far as clap
 /// is concerned, and one other word.
-pub fn parse<'a>(alloc: Global, words: &'a [String]) -> Result<ArgMatches<'a>, Error>
+pub fn parse<'a>(alloc: Global, arguments: &'a [String]) -> Result<ArgMatches<'a>, Error>
     ensures rows { IfOk result (λ m. rows_of (found_of m)
-        ≡ matches_of program (map string_bytes words.entry.now)) }
-    ensures fails { FailsBy (fault_of program (map string_bytes words.entry.now)) result }
+        ≡ matches_of program (map string_bytes arguments.entry.now)) }
+    ensures fails { FailsBy (fault_of program (map string_bytes arguments.entry.now)) result }
 {
     let limit = Arg::new(alloc, "journal-limit")
         .long("journal-limit")
@@ -29,5 +29,5 @@ pub fn parse<'a>(alloc: Global, words: &'a [String]) -> Result<ArgMatches<'a>, E
         .arg(limit)?
         .arg(size)?
         .arg(word)?;
-    command.try_get_matches_from(words)
+    command.try_get_matches_from(arguments)
 }

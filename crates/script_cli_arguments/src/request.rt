@@ -7,7 +7,7 @@ ghost use Rattle.clap.specs.Walk.{rows_of};
 ghost use Rattle.script_cli_arguments.specs.Reading.{program, parts_in};
 ghost use Rattle.script_cli_arguments.specs.Consisting.{AskFor};
 ghost use Rattle.script_cli_arguments.specs.declared.request.Request.{Request as Asked};
-ghost use Rattle.script_cli_arguments.specs.Words as spec;
+ghost use Rattle.script_cli_arguments.specs.Arguments as spec;
 
 use crate::number::number_of;
 use crate::parser::parse;
@@ -142,7 +142,7 @@ fn request_of(
 }
 
 // What is asked for by what clap found.
-fn found(matches: &ArgMatches) -> Option<Request>
+fn request_matched(matches: &ArgMatches) -> Option<Request>
     ensures { result ≡ spec.asked_by (Some (parts_in (rows_of (found_of matches.now)))) }
 {
     request_of(
@@ -158,13 +158,13 @@ fn found(matches: &ArgMatches) -> Option<Request>
 /// `run` or `sample`, and of at most one `--`, which is skipped and after which no option is read.
 /// N is 1 to 20 digits with a value below 2^64, and that of `--size`, which matters for `sample`
 /// alone, is 1 to 2,000.
-pub fn asked(alloc: Global, words: &[String]) -> Result<Option<Request>, NoMemory>
-    ensures asked { IfOk result (λ it. it ≡ spec.asked (map string_bytes words.now)) }
+pub fn asked(alloc: Global, arguments: &[String]) -> Result<Option<Request>, NoMemory>
+    ensures asked { IfOk result (λ it. it ≡ spec.asked (map string_bytes arguments.now)) }
     ensures consist { IfOk result (λ it. (request : Asked)
-        → (it ≡ Some request) ↔ AskFor (map string_bytes words.now) request) }
+        → (it ≡ Some request) ↔ AskFor (map string_bytes arguments.now) request) }
 {
-    match parse(alloc, words) {
-        Ok(matches) => Ok(found(&matches)),
+    match parse(alloc, arguments) {
+        Ok(matches) => Ok(request_matched(&matches)),
         Err(fault) => match fault.kind() {
             ErrorKind::OutOfMemory => Err(NoMemory),
             _ => Ok(None),

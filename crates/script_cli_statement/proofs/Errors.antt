@@ -30,10 +30,10 @@ use Rattle.script_cli_statement.specs.Replies.{put_image, refused_or, body_text,
 use Rattle.script_cli_statement.specs.Replies.{reading_reply, reply}
 use Rattle.script_cli_sample.specs.Summary.{is_error_line}
 
-abbrev Told : Reply → Type 0
-Told r = r.is_error ≡ is_error_line r.text
+abbrev BothKnown : Reply → Type 0
+BothKnown r = r.is_error ≡ is_error_line r.text
 
-refusal_told : (r : Refusal) (now : Recorded) → Told (refused r now)
+refusal_told : (r : Refusal) (now : Recorded) → BothKnown (refused r now)
 unfolding refusal_text
 refusal_told r now = refl
 
@@ -43,29 +43,29 @@ unfolding changed_text evolved_text
 body_told stamp (changing changes) past next = refl
 body_told stamp (evolving op inverse) past next = refl
 
-put_told : (command : PlainCommand) (now : Recorded) → Told (put_command command now)
+put_told : (command : PlainCommand) (now : Recorded) → BothKnown (put_command command now)
 put_told command now = sym (body_told command.stamp command.body now.past
     (past_with now.past command))
 
-image_told : (now : Recorded) → Told (put_image now)
+image_told : (now : Recorded) → BothKnown (put_image now)
 unfolding checkpoint_text
 image_told now = refl
 
 listing_told : (told : Bool) (entries : List (Entry (List Value))) (now : Recorded)
-    → Told (answered (listing_text told entries) now)
+    → BothKnown (answered (listing_text told entries) now)
 unfolding listing_text
 listing_told told [] now = refl
 listing_told false (e ∷ entries) now = refl
 listing_told true (e ∷ entries) now = refl
 
 pieces_told_so : (pieces : List PlainExplained) (now : Recorded)
-    → Told (answered (explain_text pieces) now)
+    → BothKnown (answered (explain_text pieces) now)
 unfolding explain_text piece_head
 pieces_told_so [] now = refl
 pieces_told_so (e ∷ pieces) now = refl
 
 versions_told : (versions : List PlainVersion) (now : Recorded)
-    → Told (answered (versions_text versions) now)
+    → BothKnown (answered (versions_text versions) now)
 unfolding versions_text version_head
 versions_told versions now = refl
 
@@ -74,22 +74,23 @@ tables_told : (tables : List (List ℕ × List Column)) (n : ℕ)
 tables_told [] n = refl
 tables_told (t ∷ tables) n = refl
 
-schema_told : (tables : Tables) (now : Recorded) → Told (answered (schema_text tables) now)
+schema_told : (tables : Tables) (now : Recorded) → BothKnown (answered (schema_text tables) now)
 unfolding schema_text
 schema_told tables now = sym (tables_told (entries tables) (length (entries tables)))
 
 sizes_told : (newest : ℕ) (sizes : List Size) (now : Recorded)
-    → Told (answered (sizes_text newest sizes) now)
+    → BothKnown (answered (sizes_text newest sizes) now)
 unfolding sizes_text size_text
 sizes_told newest [] now = refl
 sizes_told newest (s ∷ sizes) now = refl
 
-refused_told : (fault : Fault) (now : Recorded) (r : Reply) → Told r → Told (refused_or fault now r)
+refused_told : (fault : Fault) (now : Recorded) (r : Reply) → BothKnown r
+    → BothKnown (refused_or fault now r)
 refused_told None now r h = h
 refused_told (Some refusal) now r h = refusal_told refusal now
 
 statement_told : (limit : Given) (s : PlainStatement) (now : Recorded)
-    → Told (statement_reply limit s now)
+    → BothKnown (statement_reply limit s now)
 statement_told limit (write command) now = refused_told
     (commit_fault now.past now.at limit.limit command) now (put_command command now)
     (put_told command now)
@@ -108,7 +109,8 @@ statement_told limit show_sizes now = sizes_told (length now.past.versions) now.
 statement_told limit checkpoint now = refused_told (checkpoint_fault now.past now.at limit.limit)
     now (put_image now) (image_told now)
 
-reading_told : (limit : Given) (r : Reading) (now : Recorded) → Told (reading_reply limit r now)
+reading_told : (limit : Given) (r : Reading) (now : Recorded)
+    → BothKnown (reading_reply limit r now)
 reading_told limit Blank now = refl
 reading_told limit (Refused r) now = refusal_told r now
 reading_told limit (Whole s) now = statement_told limit s now

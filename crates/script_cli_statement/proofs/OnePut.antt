@@ -7,8 +7,8 @@ use Rattle.disk_model.specs.MomentLaws.{goes_refl}
 use Rattle.journal.specs.Records.{Record}
 use Rattle.journal.specs.Puts.{Puts, Acknowledges}
 use Rattle.journal.specs.PutLaws.{have_none, have_more}
-use Rattle.archive_core_file_spec.specs.LogRecords.{LogRecord, record_of, records_of, IsSpelled}
-use Rattle.archive_core.specs.Holding.{HoldsAt}
+use Rattle.archive_core_file_spec.specs.LogRecords.{LogRecord, record_of, records_of, IsEncoded}
+use Rattle.archive_core.specs.DiskReads.{HoldsAt}
 use Rattle.archive_core.specs.declared.archive.Archive.{Archive}
 use Rattle.archive_core.specs.Fields.{below, place_of}
 use Rattle.script_cli_statement.specs.Putting.{HasPut}
@@ -17,7 +17,7 @@ use Rattle.script_cli_statement.specs.Responses.{PutBetween}
 -- nothing is put
 pub put_nothing : (d : Meaning) (at : ℕ) → IsValid d → HasPut d d at at []
 put_nothing d at law = record {
-  spelled = tt;
+  encoded = tt;
   goes = goes_refl d law;
   holds = λ opening held. subst (λ (l : List LogRecord). HoldsAt d at (records_of l))
       (sym (append-nil opening)) held;
@@ -25,12 +25,12 @@ put_nothing d at law = record {
 }
 
 -- one is put
-pub put_one : (old new : Meaning) (at next : ℕ) (c : LogRecord) → IsValid old → IsSpelled c
+pub put_one : (old new : Meaning) (at next : ℕ) (c : LogRecord) → IsValid old → IsEncoded c
     → ((rs : List Record) → HoldsAt old at rs → HoldsAt new next (rs ++ record_of c ∷ []))
     → Puts old new at (record_of c) → Acknowledges old new at next (record_of c)
     → HasPut old new at next (c ∷ [])
 put_one old new at next c law is holds puts acknowledges = record {
-  spelled = (is, tt);
+  encoded = (is, tt);
   goes = puts.goes;
   holds = λ opening held. subst (HoldsAt new next) (sym (map-append record_of opening (c ∷ [])))
       (holds (records_of opening) held);

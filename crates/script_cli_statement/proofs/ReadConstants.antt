@@ -15,18 +15,19 @@ use Rattle.cond_expr.specs.Seen.{trees_of, tests_of}
 use Rattle.piece_ir_spec.specs.Constants.{ValidInTree, ValidInTrees, ValidInTest, ValidInTests}
 use Rattle.lexer_spec.specs.declared.kind.TokenKind.{TokenKind}
 use Rattle.lexer_spec.specs.declared.kind.TokenKind.TheVariants.{Word, Number, Text, Sign}
-use Rattle.lexer_spec.specs.declared.scanned.Scanned.{Scanned}
-use Rattle.lexer_spec.specs.declared.scanned.Scanned.TheVariants.{End, Of, Bad, Open, Long}
-use Rattle.lexer_spec.specs.declared.scanned.Scanned.TheVariants.{Big}
-use Rattle.lexer_spec.specs.Bytes.{gap_len, scanned}
+use Rattle.lexer_spec.specs.declared.scan_of.Scanned.{Scanned}
+use Rattle.lexer_spec.specs.declared.scan_of.Scanned.TheVariants.{End, Of, Bad, Open, Long}
+use Rattle.lexer_spec.specs.declared.scan_of.Scanned.TheVariants.{Big}
+use Rattle.lexer_spec.specs.Bytes.{gap_len, scan_of}
 use Rattle.lexer_spec.specs.Lexed.{after_gap}
 use Rattle.lexer_spec.specs.Lexemes.{Lexeme, word, number, text, sign, says, is_int}
-use Rattle.lexer_spec.proofs.Whole.{again}
+use Rattle.lexer_spec.proofs.WholeTokens.{again}
 use Rattle.lexer_spec.proofs.Shapes.{shape}
 use Rattle.lexer_spec.proofs.Valid.{texted}
 use Rattle.lexer_combinators.specs.Grammar.{Size}
 use Rattle.lexer_trees_spec.specs.Grammar as g
-use Rattle.lexer_trees_spec.specs.Grammar.{spelled, IsExpr, AreParts, IsFact, AreFacts, IsConj}
+use Rattle.lexer_trees_spec.specs.Grammar.{comparison_lexeme, IsExpr, AreParts, IsFact, AreFacts}
+use Rattle.lexer_trees_spec.specs.Grammar.{IsConj}
 use Rattle.lexer_trees_spec.specs.Grammar.{AreConjs, IsCond}
 use Rattle.script_parse.specs.Lexing.{Placed, a_token, Lexed, Tokens, Faulty, after_token}
 use Rattle.script_parse.specs.Lexing.{by_scanned}
@@ -43,7 +44,7 @@ ValidLexeme (sign s) = ⊤
 pub record AllValid (ts : List Lexeme) : Type 0 where
   pub each : (x : Lexeme) → In x ts → ValidLexeme x
 
-text_valid : (n : ℕ) (bytes : List ℕ) → scanned bytes ≡ Of Text n
+text_valid : (n : ℕ) (bytes : List ℕ) → scan_of bytes ≡ Of Text n
     → ValidLexeme (says Text (take n bytes))
 text_valid n bytes e =
     let h = shape bytes Text n e in
@@ -52,7 +53,7 @@ text_valid n bytes e =
     let whole : n ≡ length (take n bytes) = sym (length-take-le n bytes few) in
     (texted (take n bytes) (again bytes Text n e ∙ ap (Of Text) whole)).1
 
-token_valid : (kind : TokenKind) (n : ℕ) (bytes : List ℕ) → scanned bytes ≡ Of kind n
+token_valid : (kind : TokenKind) (n : ℕ) (bytes : List ℕ) → scan_of bytes ≡ Of kind n
     → ValidLexeme (says kind (take n bytes))
 token_valid Word n bytes e = tt
 token_valid Number n bytes e = tt
@@ -80,10 +81,10 @@ pub lexed_valid : (n at : ℕ) (bytes : List ℕ) → TokensValid (lexed_from n 
 unfolding lexed_from
 lexed_valid zero at bytes = none_valid
 lexed_valid (suc n) at bytes = step (λ k. lexed_valid n (at + gap_len false 0 bytes + k)
-    (drop k (after_gap bytes))) (scanned (after_gap bytes)) refl
+    (drop k (after_gap bytes))) (scan_of (after_gap bytes)) refl
   where
     step : ((k : ℕ) → TokensValid (lexed_from n (at + gap_len false 0 bytes + k)
-        (drop k (after_gap bytes)))) → (p : Scanned) → scanned (after_gap bytes) ≡ p
+        (drop k (after_gap bytes)))) → (p : Scanned) → scan_of (after_gap bytes) ≡ p
         → TokensValid (by_scanned (at + gap_len false 0 bytes) (after_gap bytes) (lexed_from n) p)
     step more End e = none_valid
     step more (Of kind k) e =
@@ -195,8 +196,8 @@ mutual
   fact_valid q c s ts l (g.truth p) = tt
   fact_valid q c s ts l (g.falsehood p) = tt
   fact_valid q c s ts l (g.comparison p o a b u v k m ha hb) = (
-    expr_valid p a u k (prefix k (spelled o ∷ m) l) ha,
-    expr_valid p b v m (after (spelled o) m (back k (spelled o ∷ m) l)) hb,
+    expr_valid p a u k (prefix k (comparison_lexeme o ∷ m) l) ha,
+    expr_valid p b v m (after (comparison_lexeme o) m (back k (comparison_lexeme o ∷ m) l)) hb,
   )
 
   facts_valid : (q : Bool) (cs : List Test) (s : Size) (ts : List Lexeme) → AllValid ts

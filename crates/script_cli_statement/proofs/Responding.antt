@@ -34,12 +34,14 @@ use Rattle.script_cli_statement.specs.Replies.{Recorded, recorded_with, Reply, d
 use Rattle.script_cli_statement.specs.Replies.{refused, refused_or, put, body_text, command_text}
 use Rattle.script_cli_statement.specs.Replies.{command_reply, checkpoint_reply, statement_reply}
 use Rattle.script_cli_statement.specs.Replies.{reading_reply, reply}
-use Rattle.script_cli_statement.specs.declared.put.Put.{Put}
-use Rattle.script_cli_statement.specs.declared.put.Put.TheVariants.{NoError, Command, ErrorLine}
-use Rattle.script_cli_statement.specs.declared.halt.Halt.{Halt}
-use Rattle.script_cli_statement.specs.declared.halt.Halt.TheVariants.{WriteFault, DiskFault}
-use Rattle.script_cli_statement.specs.declared.halt.Halt.TheVariants.{NoMemory}
-use Rattle.script_cli_statement.specs.Halts.{or_write_fault, HaltCounted, SaidCounted}
+use Rattle.script_cli_statement.specs.declared.reply_kind.ReplyKind.{ReplyKind}
+use Rattle.script_cli_statement.specs.declared.reply_kind.ReplyKind.TheVariants.{NoError, Command}
+use Rattle.script_cli_statement.specs.declared.reply_kind.ReplyKind.TheVariants.{ErrorLine}
+use Rattle.script_cli_statement.specs.declared.stop_reason.StopReason.{StopReason}
+use Rattle.script_cli_statement.specs.declared.stop_reason.StopReason.TheVariants.{WriteFault}
+use Rattle.script_cli_statement.specs.declared.stop_reason.StopReason.TheVariants.{DiskFault}
+use Rattle.script_cli_statement.specs.declared.stop_reason.StopReason.TheVariants.{NoMemory}
+use Rattle.script_cli_statement.specs.StopReasons.{or_write_fault, StopCounted, SaidCounted}
 use Rattle.script_cli_statement.specs.Puts.{put_for}
 use Rattle.script_cli_statement.specs.Putting.{HasPut}
 use Rattle.script_cli_statement.specs.Responses.{Says, Responds, RepresentsAt, TakesRecords}
@@ -67,28 +69,29 @@ pub nothing_put : (at : Option (List ℕ)) (text : List ℕ) → AppendsPrefix a
 nothing_put at text = ([], text, refl, Appends-nil at)
 
 -- the counts of faults of what calls no disk
-pub said_counted : (r : Result Put Failed) (before now : ℕ) → HasCause before now r
+pub said_counted : (r : Result ReplyKind Failed) (before now : ℕ) → HasCause before now r
     → SaidCounted (or_write_fault r) before now
 said_counted (Ok p) before now h = h.kept
 said_counted (Err e) before now h = (h.later, h.failed)
 
-pub halt_counted : (r : Result Put Failed) (before now disk later : ℕ) → HasCause before now r
-    → later ≡ disk → HaltCounted (or_write_fault r) before now disk later
-halt_counted (Ok p) before now disk later h same = (h.kept, same)
-halt_counted (Err e) before now disk later h same = ((h.later, h.failed), same)
+pub reason_counted : (r : Result ReplyKind Failed) (before now disk later : ℕ)
+    → HasCause before now r
+    → later ≡ disk → StopCounted (or_write_fault r) before now disk later
+reason_counted (Ok p) before now disk later h same = (h.kept, same)
+reason_counted (Err e) before now disk later h same = ((h.later, h.failed), same)
 
 -- what is said without a disk is counted
-pub halt_said : (r : Result Put Halt) (before now disk : ℕ) → SaidCounted r before now
-    → HaltCounted r before now disk disk
-halt_said (Ok p) before now disk h = (h, refl)
-halt_said (Err WriteFault) before now disk h = (h, refl)
-halt_said (Err DiskFault) before now disk h = absurd h
-halt_said (Err NoMemory) before now disk h = (h, refl)
+pub reason_said : (r : Result ReplyKind StopReason) (before now disk : ℕ) → SaidCounted r before now
+    → StopCounted r before now disk disk
+reason_said (Ok p) before now disk h = (h, refl)
+reason_said (Err WriteFault) before now disk h = (h, refl)
+reason_said (Err DiskFault) before now disk h = absurd h
+reason_said (Err NoMemory) before now disk h = (h, refl)
 
 module _ (old new : Option (List ℕ)) where
   -- a refusal
   pub refused_says : (fault : Fault) (r : Refusal) (now : Recorded) (reply : Reply)
-      (result : Result Put Failed) → fault ≡ Some r
+      (result : Result ReplyKind Failed) → fault ≡ Some r
       → IfOk result (λ put. put ≡ ErrorLine) → OnOk result (Appends old new (refusal_text r))
       → OnErr result (AppendsPrefix old new (refusal_text r))
       → Says (refused_or fault now reply) (or_write_fault result) old new
@@ -100,7 +103,7 @@ module _ (old new : Option (List ℕ)) where
 
   -- an answer
   pub answered_says : (fault : Fault) (now : Recorded) (text said : List ℕ)
-      (result : Result Put Failed) → fault ≡ None → said ≡ text
+      (result : Result ReplyKind Failed) → fault ≡ None → said ≡ text
       → IfOk result (λ put. put ≡ NoError) → OnOk result (Appends old new said)
       → OnErr result (AppendsPrefix old new said)
       → Says (refused_or fault now (answered text now)) (or_write_fault result) old new
@@ -112,7 +115,7 @@ module _ (old new : Option (List ℕ)) where
 
   -- what is said of a query that is not refused
   pub accepted_says : (fault : Fault) (now : Recorded) (text said : List ℕ)
-      (result : Result Put Halt) → fault ≡ None → said ≡ text
+      (result : Result ReplyKind StopReason) → fault ≡ None → said ≡ text
       → Says (answered said now) result old new
       → Says (refused_or fault now (answered text now)) result old new
   accepted_says None now text said result e same h =
@@ -121,7 +124,7 @@ module _ (old new : Option (List ℕ)) where
 
   module _ {D : Type 0} {g : Ghosts D} (limit : Given) (now : Recorded) (a b : Archive D g) where
     -- a statement that calls no disk
-    pub says_responds : (reply : Reply) (result : Result Put Halt) → IsValid (below a)
+    pub says_responds : (reply : Reply) (result : Result ReplyKind StopReason) → IsValid (below a)
         → RepresentsAt a limit now → reply.puts ≡ [] → reply.after ≡ now → Says reply result old new
         → Responds limit reply result a a old new
     says_responds reply (Ok put) law represents none same says = record {
@@ -136,8 +139,9 @@ module _ (old new : Option (List ℕ)) where
     says_responds reply (Err NoMemory) law represents none same says = (says, nothing_between a law)
 
     -- the record of what is due was put, and then a line
-    put_responds : (text said : List ℕ) (due : Due) (told : Put) (fault : Fault)
-        (result : Result Put Failed) → fault ≡ None → told ≡ put_for false (due ∷ []) → said ≡ text
+    put_responds : (text said : List ℕ) (due : Due) (told : ReplyKind) (fault : Fault)
+        (result : Result ReplyKind Failed) → fault ≡ None → told ≡ put_for false (due ∷ [])
+        → said ≡ text
         → RepresentsAt b limit (recorded_with now due) → PutBetween a b (due ∷ [])
         → IfOk result (λ p. p ≡ told) → OnOk result (Appends old new said)
         → OnErr result (AppendsPrefix old new said)
@@ -157,7 +161,7 @@ module _ (old new : Option (List ℕ)) where
         absurd (cc)
 
     -- an accepted command that was put
-    pub done_responds : (command : PlainCommand) (done : Done) (result : Result Put Failed)
+    pub done_responds : (command : PlainCommand) (done : Done) (result : Result ReplyKind Failed)
         → commit_fault now.past now.at limit.limit command ≡ None → IsDone now.past command done
         → RepresentsAt b limit (recorded_with now (command_due command))
         → PutBetween a b (command_due command ∷ []) → IfOk result (λ put. put ≡ Command)
@@ -170,7 +174,7 @@ module _ (old new : Option (List ℕ)) where
         e refl (done_said now.past command done h) represents puts ok all part
 
     -- a checkpoint that was put
-    pub stored_responds : (result : Result Put Failed)
+    pub stored_responds : (result : Result ReplyKind Failed)
         → checkpoint_fault now.past now.at limit.limit ≡ None
         → RepresentsAt b limit (recorded_with now (image_due now.past))
         → PutBetween a b (image_due now.past ∷ []) → IfOk result (λ put. put ≡ NoError)
@@ -184,7 +188,8 @@ module _ (old new : Option (List ℕ)) where
 
     -- what is refused
     pub refused_responds : (r : Refusal) (fault : Fault) (other : Reply)
-        (result : Result Put Failed) → fault ≡ Some r → RepresentsAt b limit now → PutBetween a b []
+        (result : Result ReplyKind Failed) → fault ≡ Some r → RepresentsAt b limit now
+        → PutBetween a b []
         → IfOk result (λ put. put ≡ ErrorLine) → OnOk result (Appends old new (refusal_text r))
         → OnErr result (AppendsPrefix old new (refusal_text r))
         → Responds limit (refused_or fault now other) (or_write_fault result) a b old new
@@ -192,7 +197,7 @@ module _ (old new : Option (List ℕ)) where
         subst (λ (f : Fault). Responds limit (refused_or f now other) (or_write_fault result) a b
         old new) (sym e) (step result ok all part)
       where
-        step : (x : Result Put Failed) → IfOk x (λ put. put ≡ ErrorLine)
+        step : (x : Result ReplyKind Failed) → IfOk x (λ put. put ≡ ErrorLine)
             → OnOk x (Appends old new (refusal_text r))
             → OnErr x (AppendsPrefix old new (refusal_text r))
             → Responds limit (refused r now) (or_write_fault x) a b old new
@@ -293,7 +298,8 @@ reply_is limit now text r e = ap (λ x. reading_reply limit x now) e
 module _ {D : Type 0} {g : Ghosts D} (a b : Archive D g) (limit : Given) (now : Recorded)
     (text : List ℕ) (u w : Option (List ℕ)) where
   -- a statement
-  pub read_responds : (s : PlainStatement) (result : Result Put Halt) → Whole s ≡ reading text
+  pub read_responds : (s : PlainStatement) (result : Result ReplyKind StopReason)
+      → Whole s ≡ reading text
       → Responds limit (statement_reply limit s now) result a b u w
       → Responds limit (reply limit now text) result a b u w
   read_responds s result e h = subst (λ y. Responds limit y result a b u w)
@@ -308,7 +314,8 @@ module _ {D : Type 0} {g : Ghosts D} (a b : Archive D g) (limit : Given) (now : 
       (refl, Appends-nil u))
 
   -- what is read as no statement is refused
-  pub unread_responds : (r : Refusal) (put : Result Put Failed) (said : Result Put Halt)
+  pub unread_responds : (r : Refusal) (put : Result ReplyKind Failed)
+      (said : Result ReplyKind StopReason)
       → Refused r ≡ reading text → said ≡ or_write_fault put → IsValid (below a)
       → RepresentsAt a limit now
       → IfOk put (λ p. p ≡ ErrorLine) → OnOk put (Appends u w (refusal_text r))
@@ -327,8 +334,9 @@ module _ {D : Type 0} {g : Ghosts D} (a b : Archive D g) (limit : Given) (now : 
   memory_responds reply law = (refl, nothing_between a law)
 
 -- the counts of faults of what is said without a disk
-pub said_halt : (put : Result Put Failed) (said : Result Put Halt) (before now disk : ℕ)
-    → said ≡ or_write_fault put → HasCause before now put → HaltCounted said before now disk disk
-said_halt put said before now disk is cause =
-    subst (λ x. HaltCounted x before now disk disk) (sym is)
-    (halt_counted put before now disk disk cause refl)
+pub said_reason : (put : Result ReplyKind Failed) (said : Result ReplyKind StopReason)
+    (before now disk : ℕ)
+    → said ≡ or_write_fault put → HasCause before now put → StopCounted said before now disk disk
+said_reason put said before now disk is cause =
+    subst (λ x. StopCounted x before now disk disk) (sym is)
+    (reason_counted put before now disk disk cause refl)

@@ -2,7 +2,7 @@ pub mod Given
 pub mod Due
 pub mod Replies
 pub mod Puts
-pub mod Halts
+pub mod StopReasons
 pub mod Putting
 pub mod Responses
 pub mod Written

@@ -4,16 +4,16 @@ use Rattle.disk_model.specs.Meaning.{Meaning}
 use Rattle.disk_model.specs.Moments.{GoesOn}
 use Rattle.journal.specs.JournalFiles.{Stands}
 use Rattle.journal.specs.Puts.{HavePut, Puts}
-use Rattle.archive_core_file_spec.specs.LogRecords.{LogRecord, record_of, records_of, IsSpelled}
-use Rattle.archive_core_file_spec.specs.LogRecords.{AreSpelled}
-use Rattle.archive_core.specs.Holding.{HoldsAt}
+use Rattle.archive_core_file_spec.specs.LogRecords.{LogRecord, record_of, records_of, IsEncoded}
+use Rattle.archive_core_file_spec.specs.LogRecords.{AreEncoded}
+use Rattle.archive_core.specs.DiskReads.{HoldsAt}
 use Rattle.script_cli_statement.specs.Due.{Due, IsRecordOf}
 
 -- These were put after the gate at `at`, each answered Ok, and the gate after them is at `next`:
 -- where the disk held some records, it now holds these after them; and of an honest disk, where a
 -- crash left just those, it leaves at each moment a prefix of these after them, and now all.
 pub record HasPut (old new : Meaning) (at next : ℕ) (log : List LogRecord) : Type 0 where
-  pub spelled : AreSpelled log
+  pub encoded : AreEncoded log
   pub goes : GoesOn old new
   pub holds : (opening : List LogRecord) → HoldsAt old at (records_of opening)
       → HoldsAt new next (records_of (opening ++ log))
@@ -26,5 +26,5 @@ pub record MayHavePut (old new : Meaning) (at : ℕ) (due : List Due) : Type 0 w
   pub due_is : due ≡ what ∷ []
   pub its_record : LogRecord
   pub is_its : IsRecordOf what its_record
-  pub spelled : IsSpelled its_record
+  pub encoded : IsEncoded its_record
   pub puts_it : Puts old new at (record_of its_record)

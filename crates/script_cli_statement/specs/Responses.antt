@@ -9,10 +9,11 @@ use Rattle.archive_core_file_spec.specs.LogRecords.{LogRecord}
 use Rattle.archive_core_state.specs.ArchiveContents.{RepresentsPast}
 use Rattle.archive_core.specs.declared.archive.Archive.{Archive}
 use Rattle.archive_core.specs.Fields.{standing_of, below, place_of, limit_of, is_broken}
-use Rattle.script_cli_statement.specs.declared.put.Put.{Put}
-use Rattle.script_cli_statement.specs.declared.halt.Halt.{Halt}
-use Rattle.script_cli_statement.specs.declared.halt.Halt.TheVariants.{WriteFault, DiskFault}
-use Rattle.script_cli_statement.specs.declared.halt.Halt.TheVariants.{NoMemory}
+use Rattle.script_cli_statement.specs.declared.reply_kind.ReplyKind.{ReplyKind}
+use Rattle.script_cli_statement.specs.declared.stop_reason.StopReason.{StopReason}
+use Rattle.script_cli_statement.specs.declared.stop_reason.StopReason.TheVariants.{WriteFault}
+use Rattle.script_cli_statement.specs.declared.stop_reason.StopReason.TheVariants.{DiskFault}
+use Rattle.script_cli_statement.specs.declared.stop_reason.StopReason.TheVariants.{NoMemory}
 use Rattle.script_cli_statement.specs.Puts.{put_for}
 use Rattle.script_cli_statement.specs.Due.{Due, AreRecordsOf}
 use Rattle.script_cli_statement.specs.Given.{Given}
@@ -20,12 +21,12 @@ use Rattle.script_cli_statement.specs.Replies.{Recorded, Reply}
 use Rattle.script_cli_statement.specs.Putting.{HasPut, MayHavePut}
 
 -- what is put of the reply
-abbrev pub put_of : Reply → Put
+abbrev pub put_of : Reply → ReplyKind
 put_of reply = put_for reply.is_error reply.puts
 
 -- The whole reply was put, or a prefix of it where the sink failed, and nothing where memory ran
 -- out; no disk is called.
-abbrev pub Says : Reply → Result Put Halt → Option (List ℕ) → Option (List ℕ) → Type 0
+abbrev pub Says : Reply → Result ReplyKind StopReason → Option (List ℕ) → Option (List ℕ) → Type 0
 Says reply (Ok put) old new = (put ≡ put_of reply) × Appends old new reply.text
 Says reply (Err WriteFault) old new = AppendsPrefix old new reply.text
 Says reply (Err DiskFault) old new = ⊥
@@ -51,7 +52,8 @@ module _ {D : Type 0} {g : Ghosts D} where
   -- A run stopped in this reply. Where the sink failed, what the statement puts had been put; where
   -- the disk failed, nothing of the reply was written, and its record was put or not; where memory
   -- ran out, nothing of the reply was written and nothing was put.
-  abbrev pub StopsIn : Halt → Reply → Archive D g → Archive D g → Option (List ℕ) → Option (List ℕ)
+  abbrev pub StopsIn : StopReason → Reply → Archive D g → Archive D g → Option (List ℕ)
+      → Option (List ℕ)
       → Type 0
   StopsIn WriteFault reply a b old new = AppendsPrefix old new reply.text
       × PutBetween a b reply.puts
@@ -60,7 +62,7 @@ module _ {D : Type 0} {g : Ghosts D} where
   StopsIn NoMemory reply a b old new = (new ≡ old) × PutBetween a b []
 
   -- the whole reply was written, what it puts was put, and the archive represents what is after it
-  pub record Replied (limit : Given) (reply : Reply) (put : Put) (a b : Archive D g)
+  pub record Replied (limit : Given) (reply : Reply) (put : ReplyKind) (a b : Archive D g)
       (written_old written_new : Option (List ℕ)) : Type 0 where
     pub is : put ≡ put_of reply
     pub represents : RepresentsAt b limit reply.after
@@ -68,7 +70,7 @@ module _ {D : Type 0} {g : Ghosts D} where
     pub text : Appends written_old written_new reply.text
 
   -- it was, or the run stopped in it
-  abbrev pub Responds : Given → Reply → Result Put Halt → Archive D g → Archive D g
+  abbrev pub Responds : Given → Reply → Result ReplyKind StopReason → Archive D g → Archive D g
       → Option (List ℕ) → Option (List ℕ) → Type 0
   Responds limit reply result a b old new = MatchResult result
-      (λ put. Replied limit reply put a b old new) (λ halt. StopsIn halt reply a b old new)
+      (λ put. Replied limit reply put a b old new) (λ reason. StopsIn reason reply a b old new)

@@ -6,10 +6,10 @@
 #![tactic(auto)]
 
 mod checkpoint;
-mod halt;
-mod put;
+mod reply_kind;
 mod response;
+mod stop_reason;
 
-pub use halt::Halt;
-pub use put::Put;
+pub use reply_kind::ReplyKind;
 pub use response::{refuse, respond};
+pub use stop_reason::StopReason;

@@ -27,13 +27,13 @@ ghost use Rattle.script_cli_statement.specs.Replies.{Recorded, reply, answered, 
 ghost use Rattle.script_cli_statement.specs.Replies.{command_reply, query_reply, explain_reply};
 ghost use Rattle.script_cli_statement.specs.Replies.{versions_reply, schema_reply, sizes_reply};
 ghost use Rattle.script_cli_statement.specs.Replies.{statement_reply};
-ghost use Rattle.script_cli_statement.specs.Halts.{HaltCounted, SaidCounted};
-ghost use Rattle.script_cli_statement.specs.declared.put.Put.TheVariants as Put;
+ghost use Rattle.script_cli_statement.specs.StopReasons.{StopCounted, SaidCounted};
+ghost use Rattle.script_cli_statement.specs.declared.reply_kind.ReplyKind.TheVariants as ReplyKind;
 ghost use Rattle.script_cli_statement.specs.Responses.{Says, Responds, RepresentsAt, TakesRecords};
 
 use crate::checkpoint::respond_checkpoint;
-use crate::halt::{Halt, or_write_fault};
-use crate::put::Put;
+use crate::reply_kind::ReplyKind;
+use crate::stop_reason::{StopReason, or_write_fault};
 use answer_text::{
     Listing, PutStop, put_changed, put_count, put_evolved, put_explained, put_listing, put_refusal,
     put_schema, put_size, put_versions,
@@ -57,8 +57,8 @@ use version_groups::{Groups, lifelines_are_few};
 const MOST_LIFELINES: u32 = 2 * MAX_VERSIONS as u32;
 
 /// Puts the line of a refusal.
-pub fn refuse<K: Sink>(sink: &mut K, refusal: &Refusal) -> Result<Put, Failed>
-    ensures ok { IfOk result (λ put. put ≡ Put.ErrorLine) }
+pub fn refuse<K: Sink>(sink: &mut K, refusal: &Refusal) -> Result<ReplyKind, Failed>
+    ensures ok { IfOk result (λ put. put ≡ ReplyKind.ErrorLine) }
     ensures all { OnOk result (Appends (K.written sink.old) (K.written sink.new)
         (refusal_text refusal.now)) }
     ensures part { OnErr result (AppendsPrefix (K.written sink.old) (K.written sink.new)
@@ -66,14 +66,14 @@ pub fn refuse<K: Sink>(sink: &mut K, refusal: &Refusal) -> Result<Put, Failed>
     ensures cause { HasCause (K.faults sink.old) (K.faults sink.new) result }
 {
     match put_refusal(sink, refusal) {
-        Ok(()) => Ok(Put::ErrorLine),
+        Ok(()) => Ok(ReplyKind::ErrorLine),
         Err(Failed) => Err(Failed),
     }
 }
 
 // Puts the `ok` line of an accepted command.
-fn put_done<K: Sink>(sink: &mut K, done: Done) -> Result<Put, Failed>
-    ensures ok { IfOk result (λ put. put ≡ Put.Command) }
+fn put_done<K: Sink>(sink: &mut K, done: Done) -> Result<ReplyKind, Failed>
+    ensures ok { IfOk result (λ put. put ≡ ReplyKind.Command) }
     ensures all { OnOk result (Appends (K.written sink.old) (K.written sink.new) (done_text done)) }
     ensures part { OnErr result (AppendsPrefix (K.written sink.old) (K.written sink.new)
         (done_text done)) }
@@ -84,7 +84,7 @@ fn put_done<K: Sink>(sink: &mut K, done: Done) -> Result<Put, Failed>
         Some(version) => put_evolved(sink, done.stamp, version),
     };
     match put {
-        Ok(()) => Ok(Put::Command),
+        Ok(()) => Ok(ReplyKind::Command),
         Err(Failed) => Err(Failed),
     }
 }
@@ -95,27 +95,27 @@ fn respond_write<K: Sink, D: Disk>(
     archive: &mut Archive<D>,
     sink: &mut K,
     command: Command,
-) -> Result<Put, Halt>
+) -> Result<ReplyKind, StopReason>
     requires takes { TakesRecords archive.old }
     ensures replies { (limit : Given) → (now : Recorded) → RepresentsAt archive.old limit now
         → Responds limit (command_reply limit (command_of command) now) result archive.old
         archive.new (K.written sink.old) (K.written sink.new) }
     ensures takes { OnOk result (TakesRecords archive.new) }
-    ensures counts { HaltCounted result (K.faults sink.old) (K.faults sink.new)
+    ensures counts { StopCounted result (K.faults sink.old) (K.faults sink.new)
         (below archive.old).faults (below archive.new).faults }
 {
     match archive.commit(command) {
         Ok(done) => or_write_fault(put_done(sink, done)),
         Err(CommitFault::Refused(refusal)) => or_write_fault(refuse(sink, &refusal)),
-        Err(CommitFault::Broken) => Err(Halt::DiskFault),
-        Err(CommitFault::Disk) => Err(Halt::DiskFault),
-        Err(CommitFault::NoMemory) => Err(Halt::NoMemory),
+        Err(CommitFault::Broken) => Err(StopReason::DiskFault),
+        Err(CommitFault::Disk) => Err(StopReason::DiskFault),
+        Err(CommitFault::NoMemory) => Err(StopReason::NoMemory),
     }
 }
 
 // Puts the lines of an answer.
-fn put_query_answer<K: Sink>(sink: &mut K, listing: &Listing<'_>) -> Result<Put, Failed>
-    ensures ok { IfOk result (λ put. put ≡ Put.NoError) }
+fn put_query_answer<K: Sink>(sink: &mut K, listing: &Listing<'_>) -> Result<ReplyKind, Failed>
+    ensures ok { IfOk result (λ put. put ≡ ReplyKind.NoError) }
     ensures all { OnOk result (Appends (K.written sink.old) (K.written sink.new)
         (listing_text listing.now.periods (entries_of listing.now.rows.items))) }
     ensures part { OnErr result (AppendsPrefix (K.written sink.old) (K.written sink.new)
@@ -123,21 +123,25 @@ fn put_query_answer<K: Sink>(sink: &mut K, listing: &Listing<'_>) -> Result<Put,
     ensures cause { HasCause (K.faults sink.old) (K.faults sink.new) result }
 {
     match put_listing(sink, listing) {
-        Ok(()) => Ok(Put::NoError),
+        Ok(()) => Ok(ReplyKind::NoError),
         Err(Failed) => Err(Failed),
     }
 }
 
 // Puts the lines of EXPLAIN.
-fn put_pieces<K: Sink>(alloc: Global, sink: &mut K, pieces: &[Explained]) -> Result<Put, Halt>
+fn put_pieces<K: Sink>(
+    alloc: Global,
+    sink: &mut K,
+    pieces: &[Explained],
+) -> Result<ReplyKind, StopReason>
     ensures says { (now : Recorded) → Says (answered (explain_text (all_explained pieces.now)) now)
         result (K.written sink.old) (K.written sink.new) }
     ensures counts { SaidCounted result (K.faults sink.old) (K.faults sink.new) }
 {
     match put_explained(alloc, sink, pieces) {
-        Ok(()) => Ok(Put::NoError),
-        Err(PutStop::WriteFault) => Err(Halt::WriteFault),
-        Err(PutStop::NoMemory) => Err(Halt::NoMemory),
+        Ok(()) => Ok(ReplyKind::NoError),
+        Err(PutStop::WriteFault) => Err(StopReason::WriteFault),
+        Err(PutStop::NoMemory) => Err(StopReason::NoMemory),
     }
 }
 
@@ -164,7 +168,7 @@ fn respond_ask<K: Sink, D: Disk, R: Rule>(
     book: &RuleBook<R>,
     sink: &mut K,
     query: &Query,
-) -> Result<Put, Halt>
+) -> Result<ReplyKind, StopReason>
     ensures says { (now : Recorded) → RepresentsPast (standing_of archive.now) now.past
         → Says (query_reply (query_of query.now) now) result (K.written sink.old)
         (K.written sink.new) }
@@ -173,7 +177,7 @@ fn respond_ask<K: Sink, D: Disk, R: Rule>(
     match ask_counted::<D, Brand, R>(archive, book, query, Blank::new(1)) {
         Ok(listing) => or_write_fault(put_query_answer(sink, &listing)),
         Err(AskFault::Refused(refusal)) => or_write_fault(refuse(sink, &refusal)),
-        Err(AskFault::NoMemory) => Err(Halt::NoMemory),
+        Err(AskFault::NoMemory) => Err(StopReason::NoMemory),
     }
 }
 
@@ -184,7 +188,7 @@ fn respond_explain<K: Sink, D: Disk, R: Rule>(
     book: &RuleBook<R>,
     sink: &mut K,
     query: &Query,
-) -> Result<Put, Halt>
+) -> Result<ReplyKind, StopReason>
     ensures says { (now : Recorded) → RepresentsPast (standing_of archive.now) now.past
         → Says (explain_reply (book_meaning R.Rule book.now)
         (query_of query.now) now) result (K.written sink.old) (K.written sink.new) }
@@ -193,7 +197,7 @@ fn respond_explain<K: Sink, D: Disk, R: Rule>(
     match archive.explain(book, query) {
         Ok(pieces) => put_pieces(alloc, sink, &pieces),
         Err(AskFault::Refused(refusal)) => or_write_fault(refuse(sink, &refusal)),
-        Err(AskFault::NoMemory) => Err(Halt::NoMemory),
+        Err(AskFault::NoMemory) => Err(StopReason::NoMemory),
     }
 }
 
@@ -202,15 +206,15 @@ fn respond_versions<K: Sink, D: Disk>(
     alloc: Global,
     archive: &Archive<D>,
     sink: &mut K,
-) -> Result<Put, Halt>
+) -> Result<ReplyKind, StopReason>
     ensures says { (now : Recorded) → RepresentsPast (standing_of archive.now) now.past
         → Says (versions_reply now) result (K.written sink.old) (K.written sink.new) }
     ensures counts { SaidCounted result (K.faults sink.old) (K.faults sink.new) }
 {
     match put_versions(alloc, sink, &archive.groups().versions().list) {
-        Ok(()) => Ok(Put::NoError),
-        Err(PutStop::WriteFault) => Err(Halt::WriteFault),
-        Err(PutStop::NoMemory) => Err(Halt::NoMemory),
+        Ok(()) => Ok(ReplyKind::NoError),
+        Err(PutStop::WriteFault) => Err(StopReason::WriteFault),
+        Err(PutStop::NoMemory) => Err(StopReason::NoMemory),
     }
 }
 
@@ -220,7 +224,7 @@ fn respond_schema<K: Sink, D: Disk>(
     archive: &Archive<D>,
     sink: &mut K,
     version: u32,
-) -> Result<Put, Halt>
+) -> Result<ReplyKind, StopReason>
     ensures says { (now : Recorded) → RepresentsPast (standing_of archive.now) now.past
         → Says (schema_reply version now) result (K.written sink.old) (K.written sink.new) }
     ensures counts { SaidCounted result (K.faults sink.old) (K.faults sink.new) }
@@ -228,9 +232,9 @@ fn respond_schema<K: Sink, D: Disk>(
     let groups = archive.groups();
     match groups.schema(version) {
         Some(schema) => match put_schema(alloc, sink, schema) {
-            Ok(()) => Ok(Put::NoError),
-            Err(PutStop::WriteFault) => Err(Halt::WriteFault),
-            Err(PutStop::NoMemory) => Err(Halt::NoMemory),
+            Ok(()) => Ok(ReplyKind::NoError),
+            Err(PutStop::WriteFault) => Err(StopReason::WriteFault),
+            Err(PutStop::NoMemory) => Err(StopReason::NoMemory),
         },
         None => or_write_fault(refuse(sink, &Refusal::NoVersion(version, groups.newest()))),
     }
@@ -250,8 +254,8 @@ fn count_lifelines(groups: &Groups) -> u32
 }
 
 // Puts the lines of the lifelines, which are so many.
-fn put_lifelines<K: Sink>(sink: &mut K, groups: &Groups, count: u32) -> Result<Put, Failed>
-    ensures ok { IfOk result (λ put. put ≡ Put.NoError) }
+fn put_lifelines<K: Sink>(sink: &mut K, groups: &Groups, count: u32) -> Result<ReplyKind, Failed>
+    ensures ok { IfOk result (λ put. put ≡ ReplyKind.NoError) }
     ensures all { (past : Past) → Represents groups.now past → count ≡ length past.sizes
         → OnOk result (Appends (K.written sink.old) (K.written sink.new)
         (sizes_text (length past.versions) past.sizes)) }
@@ -268,11 +272,14 @@ fn put_lifelines<K: Sink>(sink: &mut K, groups: &Groups, count: u32) -> Result<P
         }
     }
     put_count(sink, u64::from(count))?;
-    Ok(Put::NoError)
+    Ok(ReplyKind::NoError)
 }
 
 // Responds to SHOW SIZES.
-fn respond_sizes<K: Sink, D: Disk>(archive: &Archive<D>, sink: &mut K) -> Result<Put, Halt>
+fn respond_sizes<K: Sink, D: Disk>(
+    archive: &Archive<D>,
+    sink: &mut K,
+) -> Result<ReplyKind, StopReason>
     ensures says { (now : Recorded) → RepresentsPast (standing_of archive.now) now.past
         → Says (sizes_reply now) result (K.written sink.old) (K.written sink.new) }
     ensures counts { SaidCounted result (K.faults sink.old) (K.faults sink.new) }
@@ -289,7 +296,7 @@ fn respond_statement<K: Sink, D: Disk, R: Rule>(
     book: &RuleBook<R>,
     sink: &mut K,
     statement: Statement,
-) -> Result<Put, Halt>
+) -> Result<ReplyKind, StopReason>
     requires takes { TakesRecords archive.old }
     ensures replies { (limit : Given) → limit.book
         ≡ book_meaning R.Rule book.now → (now : Recorded)
@@ -297,7 +304,7 @@ fn respond_statement<K: Sink, D: Disk, R: Rule>(
         → Responds limit (statement_reply limit (statement_of statement) now) result archive.old
         archive.new (K.written sink.old) (K.written sink.new) }
     ensures takes { OnOk result (TakesRecords archive.new) }
-    ensures counts { HaltCounted result (K.faults sink.old) (K.faults sink.new)
+    ensures counts { StopCounted result (K.faults sink.old) (K.faults sink.new)
         (below archive.old).faults (below archive.new).faults }
 {
     match statement {
@@ -319,7 +326,7 @@ pub fn respond<K: Sink, D: Disk, R: Rule>(
     book: &RuleBook<R>,
     sink: &mut K,
     text: &[u8],
-) -> Result<Put, Halt>
+) -> Result<ReplyKind, StopReason>
     requires short { length text.now ≤ 1048576 }
     requires takes { TakesRecords archive.old }
     ensures replies { (limit : Given) → limit.book
@@ -328,17 +335,17 @@ pub fn respond<K: Sink, D: Disk, R: Rule>(
         → Responds limit (reply limit now text.now) result archive.old archive.new
         (K.written sink.old) (K.written sink.new) }
     ensures takes { OnOk result (TakesRecords archive.new) }
-    ensures counts { HaltCounted result (K.faults sink.old) (K.faults sink.new)
+    ensures counts { StopCounted result (K.faults sink.old) (K.faults sink.new)
         (below archive.old).faults (below archive.new).faults }
 {
     match next_statement(alloc, text) {
-        Ok(None) => Ok(Put::NoError),
+        Ok(None) => Ok(ReplyKind::NoError),
         Ok(Some(statement)) => respond_statement(alloc, archive, book, sink, statement),
         Err(ReadFault::Syntax(at)) => or_write_fault(refuse(sink, &Refusal::Syntax(at))),
         Err(ReadFault::TooMany(what, limit)) => or_write_fault(refuse(
             sink,
             &Refusal::TooMany(what, limit),
         )),
-        Err(ReadFault::NoMemory) => Err(Halt::NoMemory),
+        Err(ReadFault::NoMemory) => Err(StopReason::NoMemory),
     }
 }

@@ -4,14 +4,14 @@ use Rattle.std.proofs.Common.{sym, subst}
 use Rattle.prima_base.specs.declared.refusal.What.{What}
 use Rattle.lexer_spec.specs.Lexemes.{Lexeme}
 use Rattle.lexer_combinators.specs.Grammar.{Size}
-use Rattle.lexer_combinators.specs.Crossings.{IsFirstCrossing}
+use Rattle.lexer_combinators.specs.Overflows.{IsFirstOverflow}
 use Rattle.script_parse.specs.declared.statement.ReadFault.{ReadFault}
 use Rattle.script_parse.specs.declared.statement.ReadFault.TheVariants.{NoMemory, Syntax, TooMany}
 use Rattle.script_parse.specs.declared.statement.Statement.{Statement}
 use Rattle.script_parse.specs.Statements.{PlainStatement}
 use Rattle.script_parse.specs.Lexing.{Placed, Tokens, lexed, saying}
 use Rattle.script_parse.specs.Productions.{IsStatement}
-use Rattle.script_parse.specs.StatementCrossings.{statement_crossings}
+use Rattle.script_parse.specs.StatementOverflows.{statement_overflows}
 use Rattle.script_parse.specs.Reading.{Reading, reading, Answers, Gives, IsOver, IsReadAs}
 use Rattle.script_parse.specs.Reading.{IsReading}
 use Rattle.script_parse.proofs.ReadingLaws.{of_the_grammar, are_read, are_kept}
@@ -42,7 +42,7 @@ module _ (text : List ℕ) (found : Result (Option Statement) ReadFault)
   pub given_over : (w : What) (tokens : List Placed) (prefix suffix more : List Lexeme) (x : Lexeme)
       (s : PlainStatement) (size : Size) (h : IsStatement s size (prefix ++ x ∷ more))
       → lexed text ≡ Tokens tokens → saying tokens ≡ prefix ++ x ∷ suffix →
-      IsFirstCrossing w (statement_crossings s size (prefix ++ x ∷ more) h) (length prefix)
+      IsFirstOverflow w (statement_overflows s size (prefix ++ x ∷ more) h) (length prefix)
       → Answers (IsOver w) found
   given_over w tokens prefix suffix more x s size h l e f =
       given (IsOver w) (reading text) found g

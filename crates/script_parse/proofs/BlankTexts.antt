@@ -2,10 +2,10 @@
 use Rattle.std.proofs.Common.{◌≡◌, ℕ, zero, suc, ◌+◌, Bool, true, false, not, cond, ◌||◌, ◌==◌}
 use Rattle.std.proofs.Common.{List, [], ◌∷◌, ◌++◌, length, drop, None, refl, sym, ap, ◌∙◌, subst}
 use Rattle.std.proofs.Common.{append-nil, arith, length-append}
-use Rattle.lexer_spec.specs.declared.scanned.Scanned.{Scanned}
-use Rattle.lexer_spec.specs.declared.scanned.Scanned.TheVariants.{End, Of, Bad, Open, Long}
-use Rattle.lexer_spec.specs.declared.scanned.Scanned.TheVariants.{Big}
-use Rattle.lexer_spec.specs.Bytes.{is_blank, gap_len, gap_dash, scanned}
+use Rattle.lexer_spec.specs.declared.scan_of.Scanned.{Scanned}
+use Rattle.lexer_spec.specs.declared.scan_of.Scanned.TheVariants.{End, Of, Bad, Open, Long}
+use Rattle.lexer_spec.specs.declared.scan_of.Scanned.TheVariants.{Big}
+use Rattle.lexer_spec.specs.Bytes.{is_blank, gap_len, gap_dash, scan_of}
 use Rattle.lexer_spec.specs.Lexed.{Lexes, EndsBy, after_gap}
 use Rattle.lexer_spec.specs.Spaced.{Each, in_line, IsGap, no_gap, a_blank, a_comment}
 use Rattle.lexer_spec.specs.Spaced.{last_comment}
@@ -50,7 +50,7 @@ has_no_token : (text : List ℕ) (n : ℕ) → lexed_from (suc n) 0 text ≡ Tok
     → Lexes 0 text [] None
 unfolding lexed_from
 has_no_token text n e = at_its_end (0 + gap_len false 0 text) (after_gap text) (lexed_from n)
-    (scanned (after_gap text)) e
+    (scan_of (after_gap text)) e
 
 pub blank_is_pads : (text : List ℕ) → lexed text ≡ Tokens [] → ArePads text
 blank_is_pads [] e = none
@@ -134,7 +134,7 @@ unfolding lexed_from
 ends_there text zero e = refl
 ends_there text (suc n) e = ap (by_scanned (0 + gap_len false 0 text) (after_gap text)
     (lexed_from n))
-    (ap scanned e)
+    (ap scan_of e)
 
 pub pads_are_blank : (text : List ℕ) → ArePads text → lexed text ≡ Tokens []
 pads_are_blank text h = ends_there text (length text) (nothing_after text h)

@@ -12,12 +12,12 @@ use Rattle.lexer_combinators.specs.Parsing.{Out, Parsed, Unexpected, LimitExceed
 use Rattle.lexer_combinators.specs.Grammar.{Size}
 use Rattle.lexer_combinators.specs.Found.{IsFirst}
 use Rattle.lexer_spec.proofs.Cases.{by_test}
-use Rattle.lexer_combinators.proofs.Crossing.{back_reads, over_at}
+use Rattle.lexer_combinators.proofs.OverflowSteps.{back_reads, over_at}
 use Rattle.script_parse.specs.Statements.{PlainStatement}
 use Rattle.script_parse.specs.Lexing.{Placed, Lexed, Tokens, Faulty, lexed, saying}
 use Rattle.script_parse.specs.Productions.{IsStatement}
 use Rattle.script_parse.specs.StatementReader.{statement, follow_statement}
-use Rattle.script_parse.specs.StatementCrossings.{statement_crossings}
+use Rattle.script_parse.specs.StatementOverflows.{statement_overflows}
 use Rattle.script_parse.specs.Reading.{Reading, Blank, Refused, Whole, place, place_before}
 use Rattle.script_parse.specs.Reading.{answered, read_as, reading, IsTooMuch, IsWrongAt}
 use Rattle.script_parse.specs.Reading.{IsUnfinished, EndsWrong, IsReading, ReadingsAreOne}
@@ -82,7 +82,7 @@ module _ (tokens : List Placed) (end : ℕ) (none : (w : What) → IsTooMuch w t
   not_over : (w : What) (c : ℕ) (suffix : List Lexeme) → statement 0 all ≡ LimitExceeded w c suffix
       → ⊥
   not_over w c suffix e = none w (over_at statement IsStatement follow_statement statement_correct
-      statement_crossings (back_reads statement IsStatement statement_crossings statement_reads)
+      statement_overflows (back_reads statement IsStatement statement_overflows statement_reads)
       statement_sized all w c suffix e)
 
   same_place : (at left : ℕ) → IsWrongAt tokens at → IsFirst IsStatement all (length all - left)

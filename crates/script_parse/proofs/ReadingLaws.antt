@@ -6,12 +6,12 @@ use Rattle.lexer_spec.specs.Lexemes.{Lexeme}
 use Rattle.lexer_combinators.specs.Parsing.{Out, Parsed, Unexpected, LimitExceeded, Fine}
 use Rattle.lexer_combinators.specs.Grammar.{Size}
 use Rattle.lexer_combinators.specs.Found.{IsFirst}
-use Rattle.lexer_combinators.proofs.Crossing.{back_reads, over_at, crossing_is_over}
+use Rattle.lexer_combinators.proofs.OverflowSteps.{back_reads, over_at, overflow_is_over}
 use Rattle.script_parse.specs.Statements.{PlainStatement}
 use Rattle.script_parse.specs.Lexing.{Placed, Lexed, Tokens, Faulty, lexed, saying}
 use Rattle.script_parse.specs.Productions.{IsStatement}
 use Rattle.script_parse.specs.StatementReader.{statement, follow_statement}
-use Rattle.script_parse.specs.StatementCrossings.{statement_crossings}
+use Rattle.script_parse.specs.StatementOverflows.{statement_overflows}
 use Rattle.script_parse.specs.Reading.{Whole, place, place_before, answered, read_as, reading}
 use Rattle.script_parse.specs.Reading.{IsTooMuch, IsWrongAt, IsReading, IsReadAs}
 use Rattle.script_parse.specs.Reading.{ReadingsAreOfTheGrammar, StatementsAreRead, LimitsAreKept}
@@ -68,8 +68,8 @@ too_much tokens w h =
     let P : List Lexeme → Type 0 = λ l. IsStatement can.1 can.2 l in
     let g : IsStatement can.1 can.2 (prefix ++ x ∷ can.0) =
     subst P (append_assoc prefix (x ∷ []) can.0) can.3 in
-    let over = crossing_is_over statement IsStatement follow_statement statement_correct
-    statement_crossings (back_reads statement IsStatement statement_crossings statement_reads)
+    let over = overflow_is_over statement IsStatement follow_statement statement_correct
+    statement_overflows (back_reads statement IsStatement statement_overflows statement_reads)
     statement_sized all w prefix x h.2 h.3 can.0 can.1 can.2 g (h.4.1 can.0 can.1 can.2 g) in
     (x ∷ h.2, over.0, over.1)
 
@@ -125,8 +125,8 @@ module _ (text : List ℕ) (t : Placed) (others : List Placed)
     refl,
     tokens,
     l,
-    over_at statement IsStatement follow_statement statement_correct statement_crossings
-        (back_reads statement IsStatement statement_crossings statement_reads) statement_sized
+    over_at statement IsStatement follow_statement statement_correct statement_overflows
+        (back_reads statement IsStatement statement_overflows statement_reads) statement_sized
         (saying tokens) w c suffix e,
   )
 
@@ -181,8 +181,8 @@ pub are_kept : LimitsAreKept
 unfolding reading
 are_kept text w [] prefix suffix more x s size h l e f = absurd (no_prefix prefix x suffix e)
 are_kept text w (t ∷ others) prefix suffix more x s size h l e f =
-    let over = crossing_is_over statement IsStatement follow_statement statement_correct
-    statement_crossings (back_reads statement IsStatement statement_crossings statement_reads)
+    let over = overflow_is_over statement IsStatement follow_statement statement_correct
+    statement_overflows (back_reads statement IsStatement statement_overflows statement_reads)
     statement_sized (saying (t ∷ others)) w prefix x suffix e more s size h f in
     let P : Lexed → Type 0 = λ u. IsOver w (read_as (length text) u) in
     let Q : Out PlainStatement → Type 0 = λ o. IsOver w (answered (t ∷ others) (length text) o) in

@@ -17,9 +17,9 @@ use Rattle.lexer_trees_spec.specs.Constants.{as_name, as_moment, as_small, as_co
 use Rattle.lexer_trees_spec.specs.Constants.{name_grammar, names_grammar, moment, moment_grammar}
 use Rattle.lexer_trees_spec.specs.Constants.{small_grammar, constant_grammar}
 use Rattle.lexer_trees_spec.specs.TreeCounts.{expr_counts, cond_counts}
-use Rattle.lexer_combinators.specs.ListCrossings.{Crossing, none_crossing, fresh_crossing}
-use Rattle.lexer_combinators.specs.ListCrossings.{lead_crossing, map_crossing, bind_crossing}
-use Rattle.lexer_combinators.specs.ListCrossings.{list_crossing, counted_crossing}
+use Rattle.lexer_combinators.specs.ListOverflows.{Overflow, none_overflow, fresh_overflow}
+use Rattle.lexer_combinators.specs.ListOverflows.{lead_overflow, map_overflow, bind_overflow}
+use Rattle.lexer_combinators.specs.ListOverflows.{list_overflow, counted_overflow}
 use Rattle.lexer_spec.proofs.Cases.{by_test}
 use Rattle.lexer_combinators.proofs.Parsing.{side}
 use Rattle.lexer_spec.proofs.LexemeTests.{word_is, word_exact, sign_is, sign_exact}
@@ -29,9 +29,9 @@ use Rattle.lexer_combinators.proofs.Alternatives.{stops_never, or_left, or_right
 use Rattle.lexer_combinators.proofs.Alternatives.{list_not_first}
 use Rattle.lexer_trees_spec.proofs.CountSizes.{expr_length, cond_length}
 use Rattle.lexer_trees_spec.proofs.CountsJoined.{expr_counted, cond_counted}
-use Rattle.lexer_trees_spec.specs.Where.{IsFreshWhere, fresh_where, follow_where, where_crossings}
+use Rattle.lexer_trees_spec.specs.Where.{IsFreshWhere, fresh_where, follow_where, where_overflows}
 use Rattle.lexer_trees_spec.proofs.Where.{fresh_where_along}
-use Rattle.lexer_combinators.proofs.Crossing.{by_crossings}
+use Rattle.lexer_combinators.proofs.OverflowSteps.{by_overflows}
 use Rattle.lexer_combinators.proofs.AlongParts.{GoesAlong, Light, stops_along, lead_follow}
 use Rattle.lexer_combinators.proofs.AlongParts.{after_follow, map_follow, bind_follow}
 use Rattle.lexer_combinators.proofs.AlongParts.{option_follow, none_light, pure_light}
@@ -45,7 +45,7 @@ use Rattle.smo_parse.proofs.OperatorCorrectness.{operator_correct}
 use Rattle.smo_parse.proofs.OperatorCounted.{operator_counted, operator_length}
 use Rattle.temporal_lang_grammar_spec.specs.QueryGrammar.{IsAsk}
 use Rattle.temporal_lang_grammar_spec.specs.QueryReader as query
-use Rattle.temporal_lang_grammar_spec.specs.QueryCrossings.{ask_crossings}
+use Rattle.temporal_lang_grammar_spec.specs.QueryOverflows.{ask_overflows}
 use Rattle.temporal_lang_grammar_spec.proofs.QueryAlong.{ask_along}
 use Rattle.script_parse.specs.Statements.{PlainStatement, write, ask, explain}
 use Rattle.script_parse.specs.Productions.{AreSoMany, IsRow, IsInsert, IsSetting, IsChange, IsOp}
@@ -57,10 +57,10 @@ use Rattle.script_parse.specs.StatementReader.{write_rest, ask_rest, explain_res
 use Rattle.script_parse.specs.StatementReader.{follow_settings, follow_change, follow_changes}
 use Rattle.script_parse.specs.StatementReader.{follow_ops, follow_evolve, follow_body}
 use Rattle.script_parse.specs.StatementReader.{follow_statement}
-use Rattle.script_parse.specs.StatementCrossings.{setting_crossings, change_crossings}
-use Rattle.script_parse.specs.StatementCrossings.{changes_crossings, op_crossings, ops_crossings}
-use Rattle.script_parse.specs.StatementCrossings.{inverse_crossings, body_crossings}
-use Rattle.script_parse.specs.StatementCrossings.{statement_crossings}
+use Rattle.script_parse.specs.StatementOverflows.{setting_overflows, change_overflows}
+use Rattle.script_parse.specs.StatementOverflows.{changes_overflows, op_overflows, ops_overflows}
+use Rattle.script_parse.specs.StatementOverflows.{inverse_overflows, body_overflows}
+use Rattle.script_parse.specs.StatementOverflows.{statement_overflows}
 use Rattle.script_parse.proofs.BodySteps.{body_evolves, body_changes}
 use Rattle.script_parse.proofs.ChangeCorrectness.{ends, setting_correct, change_correct}
 use Rattle.script_parse.proofs.ChangeCorrectness.{change_not_none, change_not_first, where_change}
@@ -72,47 +72,47 @@ use Rattle.script_parse.proofs.StatementCorrectness.{inverse_side, statement_cor
 -- ---- changes
 
 expr_along : GoesAlong (fresh (outermost false).expr) (grammar.fresh (IsExpr false))
-    (follow_expr false) (fresh_crossing (IsExpr false) (expr_counts false))
+    (follow_expr false) (fresh_overflow (IsExpr false) (expr_counts false))
 expr_along = fresh_follow (outermost false).expr (IsExpr false) (follow_expr false)
     (outermost_correct false).expr (expr_counts false) (expr_length false) (expr_counted false)
 
 where_then : GoesAlong (fresh_where false) (IsFreshWhere false) follow_change
-    (where_crossings false)
+    (where_overflows false)
 where_then = stops_along (fresh_where false) (IsFreshWhere false) (follow_where false) follow_change
-    (where_crossings false) where_change (fresh_where_along false)
+    (where_overflows false) where_change (fresh_where_along false)
 
-name_along : GoesAlong name name_grammar ends (none_crossing name_grammar)
+name_along : GoesAlong name name_grammar ends (none_overflow name_grammar)
 name_along = light_follow name name_grammar ends (name_correct 0 32 ends) (single_light as_name)
 
-setting_along : GoesAlong setting IsSetting (follow_expr false) setting_crossings
+setting_along : GoesAlong setting IsSetting (follow_expr false) setting_overflows
 unfolding setting
 setting_along = bind_follow name _ name_grammar _ ends (follow_expr false)
-    (none_crossing name_grammar) _ name_along
+    (none_overflow name_grammar) _ name_along
     (λ column. lead_follow (is_sign (codes "=")) (sign (codes "=")) (sign_is (codes "=")) _ _
     (follow_expr false) _ (map_follow (λ e. (column, e)) (fresh (outermost false).expr)
     (grammar.fresh (IsExpr false)) (follow_expr false) _ expr_along))
     (λ a b s ts rest h stops. stops_never (ts ++ rest))
 
 settings_along : GoesAlong settings (grammar.list (sign (codes ",")) IsSetting) follow_settings
-    (list_crossing (sign (codes ",")) IsSetting setting_crossings)
+    (list_overflow (sign (codes ",")) IsSetting setting_overflows)
 unfolding settings
 settings_along = list_follow (is_sign (codes ",")) (sign (codes ",")) (sign_is (codes ","))
     (sign_exact (codes ",")) setting IsSetting (follow_expr false) setting_correct refl
-    setting_crossings setting_along
+    setting_overflows setting_along
 
 -- after DELETE and UPDATE
 delete_along : GoesAlong delete_rest (grammar.lead (word (codes "FROM"))
     (grammar.seq name_grammar (λ t. grammar.map (λ c. deletion t c) (IsFreshWhere false))))
     follow_change
-    (lead_crossing (word (codes "FROM")) _ (bind_crossing name_grammar
-    (λ t. grammar.map (λ c. deletion t c) (IsFreshWhere false)) (none_crossing name_grammar)
-    (λ t. map_crossing (λ c. deletion t c) (IsFreshWhere false) (where_crossings false))))
+    (lead_overflow (word (codes "FROM")) _ (bind_overflow name_grammar
+    (λ t. grammar.map (λ c. deletion t c) (IsFreshWhere false)) (none_overflow name_grammar)
+    (λ t. map_overflow (λ c. deletion t c) (IsFreshWhere false) (where_overflows false))))
 unfolding delete_rest
 delete_along = lead_follow (is_word (codes "FROM")) (word (codes "FROM")) (word_is (codes "FROM")) _
     _ follow_change _ (bind_follow name _ name_grammar _ ends follow_change
-    (none_crossing name_grammar) _ name_along
+    (none_overflow name_grammar) _ name_along
     (λ t. map_follow (λ c. deletion t c) (fresh_where false) (IsFreshWhere false) follow_change
-    (where_crossings false) where_then) (λ a b s ts rest h stops. stops_never (ts ++ rest)))
+    (where_overflows false) where_then) (λ a b s ts rest h stops. stops_never (ts ++ rest)))
 
 abbrev SetsRest : List ℕ → Grammar PlainChange
 SetsRest t = grammar.seq (grammar.list (sign (codes ",")) IsSetting)
@@ -120,24 +120,24 @@ SetsRest t = grammar.seq (grammar.list (sign (codes ",")) IsSetting)
 
 update_along : GoesAlong update_rest (grammar.seq name_grammar
     (λ t. grammar.lead (word (codes "SET")) (SetsRest t))) follow_change
-    (bind_crossing name_grammar (λ t. grammar.lead (word (codes "SET")) (SetsRest t))
-    (none_crossing name_grammar)
-    (λ t. lead_crossing (word (codes "SET")) (SetsRest t)
-    (bind_crossing (grammar.list (sign (codes ",")) IsSetting)
+    (bind_overflow name_grammar (λ t. grammar.lead (word (codes "SET")) (SetsRest t))
+    (none_overflow name_grammar)
+    (λ t. lead_overflow (word (codes "SET")) (SetsRest t)
+    (bind_overflow (grammar.list (sign (codes ",")) IsSetting)
     (λ l. grammar.map (λ c. update t l c) (IsFreshWhere false))
-    (list_crossing (sign (codes ",")) IsSetting setting_crossings)
-    (λ l. map_crossing (λ c. update t l c) (IsFreshWhere false) (where_crossings false)))))
+    (list_overflow (sign (codes ",")) IsSetting setting_overflows)
+    (λ l. map_overflow (λ c. update t l c) (IsFreshWhere false) (where_overflows false)))))
 unfolding update_rest
-update_along = bind_follow name _ name_grammar _ ends follow_change (none_crossing name_grammar) _
+update_along = bind_follow name _ name_grammar _ ends follow_change (none_overflow name_grammar) _
     name_along
     (λ t. lead_follow (is_word (codes "SET")) (word (codes "SET")) (word_is (codes "SET")) _
     (SetsRest t) follow_change _
     (bind_follow settings (λ l. map_to (λ c. update t l c) (fresh_where false))
     (grammar.list (sign (codes ",")) IsSetting)
     (λ l. grammar.map (λ c. update t l c) (IsFreshWhere false)) follow_settings follow_change
-    (list_crossing (sign (codes ",")) IsSetting setting_crossings) _ settings_along
+    (list_overflow (sign (codes ",")) IsSetting setting_overflows) _ settings_along
     (λ l. map_follow (λ c. update t l c) (fresh_where false) (IsFreshWhere false) follow_change
-    (where_crossings false) where_then)
+    (where_overflows false) where_then)
     (λ l c s ts rest h stops. where_side h.0 s ts rest h.2 stops)))
     (λ a b s ts rest h stops. stops_never (ts ++ rest))
 
@@ -159,7 +159,7 @@ insert_light = lead_light _ _ (lead_light _ _
     (λ t. lead_light _ _ (bind_light names_grammar _ names_light
     (λ ns. lead_light _ _ (lead_light _ _ (map_light _ (IsRow ns) (row_light ns))))))))
 
-change_along : GoesAlong change IsChange follow_change change_crossings
+change_along : GoesAlong change IsChange follow_change change_overflows
 unfolding change
 change_along a s f (inl h) us stops = light_along change IsChange follow_change change_correct a s f
     (inl h) (insert_light a s f h) us stops
@@ -169,69 +169,69 @@ change_along a s f (inr (inr h)) us stops = after_follow change update_rest (wor
     (λ ts. refl) _ follow_change _ update_along a s f h us stops
 
 changes_along : GoesAlong changes (grammar.list (word (codes "THEN")) IsChange) follow_changes
-    (list_crossing (word (codes "THEN")) IsChange change_crossings)
+    (list_overflow (word (codes "THEN")) IsChange change_overflows)
 unfolding changes
 changes_along = list_follow (is_word (codes "THEN")) (word (codes "THEN")) (word_is (codes "THEN"))
-    (word_exact (codes "THEN")) change IsChange follow_change change_correct refl change_crossings
+    (word_exact (codes "THEN")) change IsChange follow_change change_correct refl change_overflows
     change_along
 
 -- ---- operators
 
-op_along : GoesAlong op IsOp follow_operator op_crossings
+op_along : GoesAlong op IsOp follow_operator op_overflows
 unfolding op
 op_along = fresh_follow operator IsOperator follow_operator operator_correct operator_counts
     operator_length operator_counted
 
-ops_along : GoesAlong ops AreOps follow_ops ops_crossings
+ops_along : GoesAlong ops AreOps follow_ops ops_overflows
 unfolding ops
 ops_along = bind_follow op (λ o. map_to (λ l. o ∷ l) (more (is_word (codes "THEN")) Inverse op 7))
     IsOp (λ o. grammar.map (λ l. o ∷ l) (AreMore (word (codes "THEN")) (so_wide Inverse) IsOp 1))
-    follow_operator follow_ops op_crossings _ op_along
+    follow_operator follow_ops op_overflows _ op_along
     (λ o. map_follow (λ l. o ∷ l) (more (is_word (codes "THEN")) Inverse op 7)
     (AreMore (word (codes "THEN")) (so_wide Inverse) IsOp 1) follow_ops
-    (counted_crossing Inverse (word (codes "THEN")) IsOp op_crossings 1)
+    (counted_overflow Inverse (word (codes "THEN")) IsOp op_overflows 1)
     (counted_follow (is_word (codes "THEN")) (word (codes "THEN")) (word_is (codes "THEN"))
-    (word_exact (codes "THEN")) op IsOp follow_operator op_correct refl op_crossings op_along
+    (word_exact (codes "THEN")) op IsOp follow_operator op_correct refl op_overflows op_along
     Inverse 7 1 refl))
     (λ a b s ts rest h stops. side (is_word (codes "THEN")) (word (codes "THEN"))
     (word_is (codes "THEN")) (word_exact (codes "THEN")) 32 op IsOp follow_operator op_correct
     refl (so_wide Inverse) 1 h.0 s ts rest h.2 stops)
 
-inverse_along : GoesAlong inverse IsInverse follow_evolve inverse_crossings
+inverse_along : GoesAlong inverse IsInverse follow_evolve inverse_overflows
 unfolding inverse
 inverse_along = option_follow (is_word (codes "INVERSE")) (word (codes "INVERSE"))
     (word_is (codes "INVERSE")) ops [] AreOps follow_evolve
-    (λ x h. or_left (is_word (codes "INVERSE") x) (follow_ops x) h) ops_crossings
-    (stops_along ops AreOps follow_ops follow_evolve ops_crossings fewer_ops ops_along)
+    (λ x h. or_left (is_word (codes "INVERSE") x) (follow_ops x) h) ops_overflows
+    (stops_along ops AreOps follow_ops follow_evolve ops_overflows fewer_ops ops_along)
 
 abbrev EvolveRest : Grammar PlainBody
 EvolveRest = grammar.seq IsOp (λ o. grammar.map (λ l. evolving o l) IsInverse)
 
-abbrev evolve_rest_crossings : Crossing EvolveRest
-evolve_rest_crossings = bind_crossing IsOp (λ o. grammar.map (λ l. evolving o l) IsInverse)
-    op_crossings (λ o. map_crossing (λ l. evolving o l) IsInverse inverse_crossings)
+abbrev evolve_rest_overflows : Overflow EvolveRest
+evolve_rest_overflows = bind_overflow IsOp (λ o. grammar.map (λ l. evolving o l) IsInverse)
+    op_overflows (λ o. map_overflow (λ l. evolving o l) IsInverse inverse_overflows)
 
-evolve_along : GoesAlong evolve_rest EvolveRest follow_evolve evolve_rest_crossings
+evolve_along : GoesAlong evolve_rest EvolveRest follow_evolve evolve_rest_overflows
 unfolding evolve_rest
 evolve_along = bind_follow op (λ o. map_to (λ l. evolving o l) inverse) IsOp
-    (λ o. grammar.map (λ l. evolving o l) IsInverse) follow_operator follow_evolve op_crossings _
+    (λ o. grammar.map (λ l. evolving o l) IsInverse) follow_operator follow_evolve op_overflows _
     op_along
-    (λ o. map_follow (λ l. evolving o l) inverse IsInverse follow_evolve inverse_crossings
+    (λ o. map_follow (λ l. evolving o l) inverse IsInverse follow_evolve inverse_overflows
     inverse_along)
     (λ o b s ts rest h stops. inverse_side h.0 s ts rest h.2 stops)
 
-evolve_then : GoesAlong evolve_rest EvolveRest follow_body evolve_rest_crossings
-evolve_then = stops_along evolve_rest EvolveRest follow_evolve follow_body evolve_rest_crossings
+evolve_then : GoesAlong evolve_rest EvolveRest follow_body evolve_rest_overflows
+evolve_then = stops_along evolve_rest EvolveRest follow_evolve follow_body evolve_rest_overflows
     fewer_evolve evolve_along
 
 -- ---- what a command does
 
 changing_along : GoesAlong (map_to (λ l. changing l) changes) AreChanges follow_body
-    changes_crossings
+    changes_overflows
 changing_along = map_follow (λ l. changing l) changes (grammar.list (word (codes "THEN")) IsChange)
-    follow_body (list_crossing (word (codes "THEN")) IsChange change_crossings)
+    follow_body (list_overflow (word (codes "THEN")) IsChange change_overflows)
     (stops_along changes (grammar.list (word (codes "THEN")) IsChange) follow_changes follow_body
-    (list_crossing (word (codes "THEN")) IsChange change_crossings) fewer_changes changes_along)
+    (list_overflow (word (codes "THEN")) IsChange change_overflows) fewer_changes changes_along)
 
 -- no changes begin with EVOLVE
 no_evolve : (a : PlainBody) (s : Size) (f us : List Lexeme) → AreChanges a s f
@@ -245,10 +245,10 @@ no_evolve a s (x ∷ f) us h = by_test (is_word (codes "EVOLVE") x)
     (change_not_first (codes "EVOLVE") refl refl refl) k.0 s f k.2))
     (λ e. e)
 
-body_along : GoesAlong body IsBody follow_body body_crossings
+body_along : GoesAlong body IsBody follow_body body_overflows
 body_along a s f (inl h) us stops = after_follow body evolve_rest (word (codes "EVOLVE"))
     (λ ts. body_evolves 0 (word (codes "EVOLVE") ∷ ts) (word_is (codes "EVOLVE"))) EvolveRest
-    follow_body evolve_rest_crossings evolve_then a s f h us stops
+    follow_body evolve_rest_overflows evolve_then a s f h us stops
 body_along a s f (inr h) us stops = let r = changing_along a s f h us stops in
     record { reads = body_changes 0 (f ++ us) (no_evolve a s f us h) ∙ r.reads; sized = r.sized }
 
@@ -258,46 +258,46 @@ abbrev WriteRest : Grammar PlainStatement
 WriteRest = grammar.seq moment_grammar (λ m. grammar.map
     (λ b. write (record { stamp = m; body = b })) IsBody)
 
-abbrev write_rest_crossings : Crossing WriteRest
-write_rest_crossings = bind_crossing moment_grammar
+abbrev write_rest_overflows : Overflow WriteRest
+write_rest_overflows = bind_overflow moment_grammar
     (λ m. grammar.map (λ b. write (record { stamp = m; body = b })) IsBody)
-    (none_crossing moment_grammar) (λ m. map_crossing (λ b. write (record { stamp = m; body = b }))
-    IsBody body_crossings)
+    (none_overflow moment_grammar) (λ m. map_overflow (λ b. write (record { stamp = m; body = b }))
+    IsBody body_overflows)
 
-write_along : GoesAlong write_rest WriteRest follow_statement write_rest_crossings
+write_along : GoesAlong write_rest WriteRest follow_statement write_rest_overflows
 unfolding write_rest
 write_along = bind_follow moment (λ m. map_to (λ b. write (record { stamp = m; body = b })) body)
     moment_grammar (λ m. grammar.map (λ b. write (record { stamp = m; body = b })) IsBody) ends
-    follow_statement (none_crossing moment_grammar) _
+    follow_statement (none_overflow moment_grammar) _
     (light_follow moment moment_grammar ends (moment_correct 0 32 ends) (single_light as_moment))
     (λ m. map_follow (λ b. write (record { stamp = m; body = b })) body IsBody follow_statement
-    body_crossings (stops_along body IsBody follow_body follow_statement body_crossings
+    body_overflows (stops_along body IsBody follow_body follow_statement body_overflows
     fewer_body body_along))
     (λ a b s ts rest h stops. stops_never (ts ++ rest))
 
-abbrev query_rest_crossings : Crossing (grammar.map (λ q. ask q) IsAsk)
-query_rest_crossings = map_crossing (λ q. ask q) IsAsk ask_crossings
+abbrev query_rest_overflows : Overflow (grammar.map (λ q. ask q) IsAsk)
+query_rest_overflows = map_overflow (λ q. ask q) IsAsk ask_overflows
 
 query_along : GoesAlong ask_rest (grammar.map (λ q. ask q) IsAsk) follow_statement
-    query_rest_crossings
+    query_rest_overflows
 unfolding ask_rest
-query_along = map_follow (λ q. ask q) query.ask IsAsk follow_statement ask_crossings
-    (stops_along query.ask IsAsk query.follow_ask follow_statement ask_crossings fewer_ask
+query_along = map_follow (λ q. ask q) query.ask IsAsk follow_statement ask_overflows
+    (stops_along query.ask IsAsk query.follow_ask follow_statement ask_overflows fewer_ask
     ask_along)
 
 abbrev ExplainRest : Grammar PlainStatement
 ExplainRest = grammar.lead (word (codes "QUERY")) (grammar.map (λ q. explain q) IsAsk)
 
-abbrev explain_rest_crossings : Crossing ExplainRest
-explain_rest_crossings = lead_crossing (word (codes "QUERY")) (grammar.map (λ q. explain q) IsAsk)
-    (map_crossing (λ q. explain q) IsAsk ask_crossings)
+abbrev explain_rest_overflows : Overflow ExplainRest
+explain_rest_overflows = lead_overflow (word (codes "QUERY")) (grammar.map (λ q. explain q) IsAsk)
+    (map_overflow (λ q. explain q) IsAsk ask_overflows)
 
-explain_along : GoesAlong explain_rest ExplainRest follow_statement explain_rest_crossings
+explain_along : GoesAlong explain_rest ExplainRest follow_statement explain_rest_overflows
 unfolding explain_rest
 explain_along = lead_follow (is_word (codes "QUERY")) (word (codes "QUERY"))
     (word_is (codes "QUERY")) _ (grammar.map (λ q. explain q) IsAsk) follow_statement _
-    (map_follow (λ q. explain q) query.ask IsAsk follow_statement ask_crossings
-    (stops_along query.ask IsAsk query.follow_ask follow_statement ask_crossings fewer_ask
+    (map_follow (λ q. explain q) query.ask IsAsk follow_statement ask_overflows
+    (stops_along query.ask IsAsk query.follow_ask follow_statement ask_overflows fewer_ask
     ask_along))
 
 versions_light : Light IsShowVersions
@@ -312,17 +312,17 @@ sizes_light = lead_light _ _ (lead_light _ _ (pure_light _))
 checkpoint_light : Light IsCheckpoint
 checkpoint_light = lead_light _ _ (pure_light _)
 
-pub statement_along : GoesAlong statement IsStatement follow_statement statement_crossings
+pub statement_along : GoesAlong statement IsStatement follow_statement statement_overflows
 unfolding statement
 statement_along a s f (inl h) us stops = after_follow statement write_rest (word (codes "AT"))
-    (λ ts. refl) WriteRest follow_statement write_rest_crossings write_along a s f h us stops
+    (λ ts. refl) WriteRest follow_statement write_rest_overflows write_along a s f h us stops
 statement_along a s f (inr (inl h)) us stops =
     after_follow statement ask_rest (word (codes "QUERY")) (λ ts. refl)
-    (grammar.map (λ q. ask q) IsAsk) follow_statement query_rest_crossings query_along a s f h us
+    (grammar.map (λ q. ask q) IsAsk) follow_statement query_rest_overflows query_along a s f h us
     stops
 statement_along a s f (inr (inr (inl h))) us stops =
     after_follow statement explain_rest (word (codes "EXPLAIN")) (λ ts. refl) ExplainRest
-    follow_statement explain_rest_crossings explain_along a s f h us stops
+    follow_statement explain_rest_overflows explain_along a s f h us stops
 statement_along a s f (inr (inr (inr (inl (inl h))))) us stops =
     light_along statement IsStatement follow_statement statement_correct a s f
     (inr (inr (inr (inl (inl h))))) (versions_light a s f h) us stops
@@ -338,11 +338,11 @@ statement_along a s f (inr (inr (inr (inr h)))) us stops =
 
 -- a whole text
 pub statement_reads : (a : PlainStatement) (s : Size) (f : List Lexeme) (h : IsStatement a s f)
-    → statement 0 f ≡ by_crossings 0 (statement_crossings a s f h) f (Parsed a 0 [])
+    → statement 0 f ≡ by_overflows 0 (statement_overflows a s f h) f (Parsed a 0 [])
 statement_reads a s f h = let r = statement_along a s f h [] tt in
     ap (statement 0) (sym (append-nil f)) ∙ r.reads
-    ∙ ap (λ l. by_crossings 0 (statement_crossings a s f h) l (Parsed a 0 [])) (append-nil f)
+    ∙ ap (λ l. by_overflows 0 (statement_overflows a s f h) l (Parsed a 0 [])) (append-nil f)
 
 pub statement_sized : (a : PlainStatement) (s : Size) (f : List Lexeme) (h : IsStatement a s f)
-    → length (statement_crossings a s f h) ≡ length f
+    → length (statement_overflows a s f h) ≡ length f
 statement_sized a s f h = (statement_along a s f h [] tt).sized

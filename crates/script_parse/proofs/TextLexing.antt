@@ -6,11 +6,11 @@ use Rattle.lexer_spec.specs.declared.fault.LexFault.{LexFault}
 use Rattle.lexer_spec.specs.declared.fault.LexFault.TheVariants.{NoMemory, BadByte, OpenQuote}
 use Rattle.lexer_spec.specs.declared.fault.LexFault.TheVariants.{BigNumber, LongText}
 use Rattle.lexer_spec.specs.declared.kind.TokenKind.{TokenKind}
-use Rattle.lexer_spec.specs.declared.scanned.Scanned.{Scanned}
-use Rattle.lexer_spec.specs.declared.scanned.Scanned.TheVariants.{End, Of, Bad, Open, Long}
-use Rattle.lexer_spec.specs.declared.scanned.Scanned.TheVariants.{Big}
+use Rattle.lexer_spec.specs.declared.scan_of.Scanned.{Scanned}
+use Rattle.lexer_spec.specs.declared.scan_of.Scanned.TheVariants.{End, Of, Bad, Open, Long}
+use Rattle.lexer_spec.specs.declared.scan_of.Scanned.TheVariants.{Big}
 use Rattle.lexer_spec.specs.declared.token.Token.{Token}
-use Rattle.lexer_spec.specs.Bytes.{gap_len, scanned}
+use Rattle.lexer_spec.specs.Bytes.{gap_len, scan_of}
 use Rattle.lexer_spec.specs.Lexed.{Lexes, EndsBy, after_gap}
 use Rattle.script_parse.specs.Lexing.{Placed, Lexed, Tokens, Faulty, a_token, after_token}
 use Rattle.script_parse.specs.Lexing.{by_scanned}
@@ -46,9 +46,9 @@ drop_nothing (suc n) = refl
 gap_of_nothing : after_gap [] ≡ []
 gap_of_nothing = drop_nothing (gap_len false 0 [])
 
-nothing_left : (bytes : List ℕ) → length bytes ≤ 0 → scanned (after_gap bytes) ≡ End
-nothing_left bytes h = ap (λ l. scanned (after_gap l)) (no_bytes bytes h)
-    ∙ ap scanned gap_of_nothing
+nothing_left : (bytes : List ℕ) → length bytes ≤ 0 → scan_of (after_gap bytes) ≡ End
+nothing_left bytes h = ap (λ l. scan_of (after_gap l)) (no_bytes bytes h)
+    ∙ ap scan_of gap_of_nothing
 
 end_of_nothing : (at : ℕ) (p : Scanned) (e : Option LexFault) → p ≡ End → EndsBy at p e
     → Tokens [] ≡ ended e
@@ -68,7 +68,7 @@ ends_so at bytes others Long e h = ap ended (sym h)
 ends_so at bytes others Big e h = ap ended (sym h)
 
 -- a token has a byte at least
-some_bytes : (kind : TokenKind) (bytes : List ℕ) → scanned bytes ≡ Of kind (length bytes)
+some_bytes : (kind : TokenKind) (bytes : List ℕ) → scan_of bytes ≡ Of kind (length bytes)
     → 0 < length bytes
 some_bytes kind [] e = let z : End ≡ Of kind 0 = e in cc
 some_bytes kind (b ∷ bytes) e = omega arith
@@ -82,9 +82,9 @@ lexed_so : (ts : List Token) (n at : ℕ) (bytes : List ℕ) (e : Option LexFaul
     → Lexes at bytes ts e → lexed_from n at bytes ≡ with_all (map placed ts) (ended e)
 unfolding lexed_from
 lexed_so [] zero at bytes e h k = end_of_nothing (at + gap_len false 0 bytes)
-    (scanned (after_gap bytes)) e (nothing_left bytes h) k
+    (scan_of (after_gap bytes)) e (nothing_left bytes h) k
 lexed_so [] (suc n) at bytes e h k = ends_so (at + gap_len false 0 bytes) (after_gap bytes)
-    (lexed_from n) (scanned (after_gap bytes)) e k
+    (lexed_from n) (scan_of (after_gap bytes)) e k
 lexed_so (t ∷ ts) zero at bytes e h k = let z : End ≡ Of t.kind (length t.text.now) =
     sym (nothing_left bytes h) ∙ k.0 in cc
 lexed_so (t ∷ ts) (suc n) at bytes e h k =
@@ -120,7 +120,7 @@ placed_end at p (LongText n) h = refl
 
 placed_fault : (ts : List Token) (at : ℕ) (bytes : List ℕ) (e : LexFault)
     → Lexes at bytes ts (Some e) → fault_place e ≡ Some (unwrap_or (fault_place e) 0)
-placed_fault [] at bytes e h = placed_end (at + gap_len false 0 bytes) (scanned (after_gap bytes)) e
+placed_fault [] at bytes e h = placed_end (at + gap_len false 0 bytes) (scan_of (after_gap bytes)) e
     h
 placed_fault (t ∷ ts) at bytes e h = placed_fault ts (t.at + length t.text.now)
     (drop (length t.text.now) (after_gap bytes)) e h.3

@@ -5,10 +5,10 @@ use Rattle.lexer_spec.specs.declared.fault.LexFault.{LexFault}
 use Rattle.lexer_spec.specs.declared.fault.LexFault.TheVariants.{NoMemory, BadByte, OpenQuote}
 use Rattle.lexer_spec.specs.declared.fault.LexFault.TheVariants.{BigNumber, LongText}
 use Rattle.lexer_spec.specs.declared.kind.TokenKind.{TokenKind}
-use Rattle.lexer_spec.specs.declared.scanned.Scanned.{Scanned}
-use Rattle.lexer_spec.specs.declared.scanned.Scanned.TheVariants.{End, Of, Bad, Open, Long}
-use Rattle.lexer_spec.specs.declared.scanned.Scanned.TheVariants.{Big}
-use Rattle.lexer_spec.specs.Bytes.{gap_len, scanned}
+use Rattle.lexer_spec.specs.declared.scan_of.Scanned.{Scanned}
+use Rattle.lexer_spec.specs.declared.scan_of.Scanned.TheVariants.{End, Of, Bad, Open, Long}
+use Rattle.lexer_spec.specs.declared.scan_of.Scanned.TheVariants.{Big}
+use Rattle.lexer_spec.specs.Bytes.{gap_len, scan_of}
 use Rattle.lexer_spec.specs.declared.token.Token.{Token}
 use Rattle.lexer_spec.specs.Lexed.{Lexes, after_gap}
 use Rattle.lexer_spec.specs.Lexemes.{Lexeme, says, lexeme}
@@ -46,7 +46,7 @@ unfoldable pub lexed_from : ℕ → ℕ → List ℕ → Lexed
 lexed_from zero at bytes = Tokens []
 lexed_from (suc n) at bytes = by_scanned (at + gap_len false 0 bytes) (after_gap bytes)
     (lexed_from n)
-    (scanned (after_gap bytes))
+    (scan_of (after_gap bytes))
 
 -- each token takes a byte at least, so there are no more than bytes
 abbrev pub lexed : List ℕ → Lexed

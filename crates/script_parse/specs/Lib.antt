@@ -6,5 +6,5 @@ pub mod Statements
 pub mod Lexing
 pub mod Productions
 pub mod StatementReader
-pub mod StatementCrossings
+pub mod StatementOverflows
 pub mod Reading

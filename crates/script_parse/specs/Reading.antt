@@ -10,7 +10,7 @@ use Rattle.lexer_combinators.specs.Parsing.{Out, Parsed, Unexpected, LimitExceed
 use Rattle.lexer_combinators.specs.Parsing.{Exceeds, limit}
 use Rattle.lexer_combinators.specs.Grammar.{Size}
 use Rattle.lexer_combinators.specs.Found.{IsFirst}
-use Rattle.lexer_combinators.specs.Crossings.{IsFirstCrossing, CrossingsFirst}
+use Rattle.lexer_combinators.specs.Overflows.{IsFirstOverflow, OverflowsFirst}
 use Rattle.script_parse.specs.declared.statement.ReadFault.{ReadFault}
 use Rattle.script_parse.specs.declared.statement.ReadFault.TheVariants as fault
 use Rattle.script_parse.specs.declared.statement.Statement.{Statement}
@@ -19,7 +19,7 @@ use Rattle.script_parse.specs.Pads.{ArePads}
 use Rattle.script_parse.specs.Lexing.{Placed, Lexed, Tokens, Faulty, lexed, saying}
 use Rattle.script_parse.specs.Productions.{IsStatement}
 use Rattle.script_parse.specs.StatementReader.{statement}
-use Rattle.script_parse.specs.StatementCrossings.{statement_crossings}
+use Rattle.script_parse.specs.StatementOverflows.{statement_overflows}
 
 pub data Reading : Type 0 where
   -- blanks and comments alone
@@ -85,7 +85,7 @@ IsWithin s = (s.nodes ≤ max_nodes) × Valid max_depth s
 -- passes its limit, and this count
 abbrev pub IsTooMuch : What → List Placed → Type 0
 IsTooMuch w tokens = (prefix : List Lexeme) × (x : Lexeme) × (suffix : List Lexeme)
-    × (saying tokens ≡ prefix ++ x ∷ suffix) × CrossingsFirst IsStatement statement_crossings w
+    × (saying tokens ≡ prefix ++ x ∷ suffix) × OverflowsFirst IsStatement statement_overflows w
     prefix x
 
 -- the token at this place is the first with which no statement goes on
@@ -152,5 +152,5 @@ abbrev pub LimitsAreKept : Type 0
 LimitsAreKept = (text : List ℕ) (w : What) (tokens : List Placed) (prefix suffix more : List Lexeme)
     (x : Lexeme) (s : PlainStatement) (size : Size) (h : IsStatement s size (prefix ++ x ∷ more)) →
     lexed text ≡ Tokens tokens → saying tokens ≡ prefix ++ x ∷ suffix
-    → IsFirstCrossing w (statement_crossings s size (prefix ++ x ∷ more) h) (length prefix)
+    → IsFirstOverflow w (statement_overflows s size (prefix ++ x ∷ more) h) (length prefix)
     → IsOver w (reading text)

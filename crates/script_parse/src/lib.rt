@@ -7,7 +7,7 @@
 //!
 //! The grammar of statements stands in `specs/Productions.antt`, over those of expressions,
 //! conditions, operators and queries, and at which tokens a count passes its limit in
-//! `specs/StatementCrossings.antt`. What a text is read as is defined twice: as a function
+//! `specs/StatementOverflows.antt`. What a text is read as is defined twice: as a function
 //! (`reading`), and in the words of the grammar (`IsReading`, in `specs/Reading.antt`). Laws say
 //! that the two are one.
 #![tactic(auto)]

@@ -5,13 +5,13 @@ ghost use Rattle.smo_ops_types.specs.Commands.{body_of};
 ghost use Rattle.prima_base.specs.declared.refusal.What.{What as Counted};
 ghost use Rattle.lexer_spec.specs.Lexemes.{Lexeme};
 ghost use Rattle.lexer_combinators.specs.Grammar.{Size};
-ghost use Rattle.lexer_combinators.specs.Crossings.{IsFirstCrossing};
+ghost use Rattle.lexer_combinators.specs.Overflows.{IsFirstOverflow};
 ghost use Rattle.lexer_combinators.specs.Reads.{Reads, ahead};
 ghost use Rattle.script_parse.specs.declared.statement.ReadFault.TheVariants as fault;
 ghost use Rattle.script_parse.specs.Lexing.{Placed, Tokens, lexed, placed, saying, fault_place};
 ghost use Rattle.script_parse.specs.Statements.{PlainStatement, statement_of};
 ghost use Rattle.script_parse.specs.Productions.{IsStatement};
-ghost use Rattle.script_parse.specs.StatementCrossings.{statement_crossings};
+ghost use Rattle.script_parse.specs.StatementOverflows.{statement_overflows};
 ghost use Rattle.script_parse.specs.Reading.{Answers, Gives, IsOfPlace, IsOver, IsReadAs};
 ghost use Rattle.script_parse.specs.Reading.{IsReading, Reading, place_before, read_as, reading};
 ghost use Rattle.script_parse.specs.StatementReader as spec;
@@ -204,7 +204,7 @@ pub fn next_statement(alloc: Global, text: &[u8]) -> Result<Option<Statement>, R
         (x : Lexeme) (s : PlainStatement) (size : Size)
         (h : IsStatement s size (prefix ++ x ∷ more)) → lexed text.now ≡ Tokens tokens
         → saying tokens ≡ prefix ++ x ∷ rest →
-        IsFirstCrossing w (statement_crossings s size (prefix ++ x ∷ more) h) (length prefix)
+        IsFirstOverflow w (statement_overflows s size (prefix ++ x ∷ more) h) (length prefix)
         → Answers (IsOver w) result }
     ensures exact { Gives (reading text.now) result }
 {

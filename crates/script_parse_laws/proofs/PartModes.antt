@@ -25,8 +25,8 @@ Fits Quoted rest = ⊥
 Fits Comment rest = rest ≡ []
 
 -- no end in these bytes, and where they leave the script before the rest
-abbrev pub Crossings : Mode → List ℕ → List ℕ → Type 0
-Crossings m bytes rest = (has_end m bytes ≡ false) × Fits (mode_after m bytes) rest
+abbrev pub Overflows : Mode → List ℕ → List ℕ → Type 0
+Overflows m bytes rest = (has_end m bytes ≡ false) × Fits (mode_after m bytes) rest
 
 no_bytes : {X : Type 0} (b : ℕ) (bytes : List ℕ) → b ∷ bytes ≡ [] → X
 no_bytes b bytes e = absurd (cc)
@@ -46,9 +46,9 @@ end_both m (x ∷ xs) ys = ap (λ t. is_end m x || t) (end_both (next m x) xs ys
     ∙ or_assoc (is_end m x) (has_end (next m x) xs) (has_end (mode_after (next m x) xs) ys)
 
 -- one after the other
-both_crossing : (m : Mode) (xs ys rest : List ℕ) → has_end m xs ≡ false
-    → Crossings (mode_after m xs) ys rest → Crossings m (xs ++ ys) rest
-both_crossing m xs ys rest h k =
+both_overflow : (m : Mode) (xs ys rest : List ℕ) → has_end m xs ≡ false
+    → Overflows (mode_after m xs) ys rest → Overflows m (xs ++ ys) rest
+both_overflow m xs ys rest h k =
     let P : Mode → Type 0 = λ n. Fits n rest in (
       end_both m xs ys ∙ ap (λ t. t || has_end (mode_after m xs) ys) h ∙ k.0,
       subst P (sym (mode_both m xs ys)) k.1,
@@ -66,19 +66,19 @@ dash_byte : (b : ℕ) → is_quote b ≡ false → is_dash b ≡ false → next 
 dash_byte b q d = ap (λ t. cond t Quoted (cond (b == 45) Comment Plain)) q
     ∙ ap (λ t. cond t Comment Plain) d
 
-step_crossings : (m n : Mode) (b : ℕ) (rest : List ℕ) → is_end m b ≡ false → next m b ≡ n
-    → Fits n rest → Crossings m (b ∷ []) rest
-step_crossings m n b rest e k h = let P : Mode
+step_overflows : (m n : Mode) (b : ℕ) (rest : List ℕ) → is_end m b ≡ false → next m b ≡ n
+    → Fits n rest → Overflows m (b ∷ []) rest
+step_overflows m n b rest e k h = let P : Mode
     → Type 0 = λ x. Fits x rest in (ap (λ t. t || false) e, subst P (sym k) h)
 
-blank_crossings : (m : Mode) (b : ℕ) (rest : List ℕ) → is_blank b ≡ true → Fits m (b ∷ rest)
-    → Crossings m (b ∷ []) rest
-blank_crossings Plain b rest e h = step_crossings Plain Plain b rest (not_byte is_blank 59 b e refl)
+blank_overflows : (m : Mode) (b : ℕ) (rest : List ℕ) → is_blank b ≡ true → Fits m (b ∷ rest)
+    → Overflows m (b ∷ []) rest
+blank_overflows Plain b rest e h = step_overflows Plain Plain b rest (not_byte is_blank 59 b e refl)
     (plain_byte b (not_byte is_blank 39 b e refl) (not_byte is_blank 45 b e refl)) tt
-blank_crossings Dash b rest e h = step_crossings Dash Plain b rest (not_byte is_blank 59 b e refl)
+blank_overflows Dash b rest e h = step_overflows Dash Plain b rest (not_byte is_blank 59 b e refl)
     (dash_byte b (not_byte is_blank 39 b e refl) (not_byte is_blank 45 b e refl)) tt
-blank_crossings Quoted b rest e h = absurd h
-blank_crossings Comment b rest e h = no_bytes b rest h
+blank_overflows Quoted b rest e h = absurd h
+blank_overflows Comment b rest e h = no_bytes b rest h
 
 to_plain : (m : Mode) (b : ℕ) (rest : List ℕ) → is_blank b ≡ true → Fits m (b ∷ rest)
     → mode_after m (b ∷ []) ≡ Plain
@@ -109,32 +109,32 @@ through_line (b ∷ line) more h =
 
 -- ---- gaps
 
-gap_crossings : (bytes rest : List ℕ) → IsGap bytes rest → (m : Mode) → Fits m (bytes ++ rest)
-    → Crossings m bytes rest
-gap_crossings bytes rest (no_gap others) m h = (refl, h)
-gap_crossings bytes rest (a_blank b more others e g) m h =
-    let k = blank_crossings m b (more ++ rest) e h in
+gap_overflows : (bytes rest : List ℕ) → IsGap bytes rest → (m : Mode) → Fits m (bytes ++ rest)
+    → Overflows m bytes rest
+gap_overflows bytes rest (no_gap others) m h = (refl, h)
+gap_overflows bytes rest (a_blank b more others e g) m h =
+    let k = blank_overflows m b (more ++ rest) e h in
     let there : mode_after m (b ∷ []) ≡ Plain = to_plain m b (more ++ rest) e h in
-    let P : Mode → Type 0 = λ n. Crossings n more rest in
-    both_crossing m (b ∷ []) more rest k.0 (subst P (sym there)
-    (gap_crossings more rest g Plain tt))
-gap_crossings bytes rest (a_comment line more others e g) Plain h =
+    let P : Mode → Type 0 = λ n. Overflows n more rest in
+    both_overflow m (b ∷ []) more rest k.0 (subst P (sym there)
+    (gap_overflows more rest g Plain tt))
+gap_overflows bytes rest (a_comment line more others e g) Plain h =
     let k = through_line line (10 ∷ more) e in
-    let r = gap_crossings more rest g Plain tt in
+    let r = gap_overflows more rest g Plain tt in
     let P : Mode → Type 0 = λ n. Fits n rest in
     (k.0 ∙ r.0, subst P (sym k.1) r.1)
-gap_crossings bytes rest (a_comment line more others e g) Dash h = true_false h
-gap_crossings bytes rest (a_comment line more others e g) Quoted h = absurd h
-gap_crossings bytes rest (a_comment line more others e g) Comment h =
+gap_overflows bytes rest (a_comment line more others e g) Dash h = true_false h
+gap_overflows bytes rest (a_comment line more others e g) Quoted h = absurd h
+gap_overflows bytes rest (a_comment line more others e g) Comment h =
     no_bytes 45 (45 ∷ ((line ++ 10 ∷ more) ++ rest)) h
-gap_crossings bytes rest (last_comment line e) Plain h =
+gap_overflows bytes rest (last_comment line e) Plain h =
     let k = through_line line [] e in
     let P : List ℕ → Type 0 = λ l. (has_end Comment l ≡ false) × Fits (mode_after Comment l) [] in
     let Q : Mode → Type 0 = λ n. Fits n [] in
     subst P (append-nil line) (k.0, subst Q (sym k.1) refl)
-gap_crossings bytes rest (last_comment line e) Dash h = true_false h
-gap_crossings bytes rest (last_comment line e) Quoted h = absurd h
-gap_crossings bytes rest (last_comment line e) Comment h = no_bytes 45 (45 ∷ (line ++ [])) h
+gap_overflows bytes rest (last_comment line e) Dash h = true_false h
+gap_overflows bytes rest (last_comment line e) Quoted h = absurd h
+gap_overflows bytes rest (last_comment line e) Comment h = no_bytes 45 (45 ∷ (line ++ [])) h
 
 -- ---- texts
 
@@ -152,13 +152,13 @@ through_inside inside more (a_byte b bytes q h) =
 through_inside inside more (a_quote bytes h) = through_inside bytes more h
 
 -- after the opening quote
-quote_crossings : (m : Mode) (bytes : List ℕ) → Fits m (39 ∷ bytes)
+quote_overflows : (m : Mode) (bytes : List ℕ) → Fits m (39 ∷ bytes)
     → (has_end m (39 ∷ bytes) ≡ has_end Quoted bytes)
     × (mode_after m (39 ∷ bytes) ≡ mode_after Quoted bytes)
-quote_crossings Plain bytes h = (refl, refl)
-quote_crossings Dash bytes h = (refl, refl)
-quote_crossings Quoted bytes h = absurd h
-quote_crossings Comment bytes h = no_bytes 39 bytes h
+quote_overflows Plain bytes h = (refl, refl)
+quote_overflows Dash bytes h = (refl, refl)
+quote_overflows Quoted bytes h = absurd h
+quote_overflows Comment bytes h = no_bytes 39 bytes h
 
 first_quote : (m : Mode) (bytes others : List ℕ) → Fits m (39 ∷ bytes) → Fits m (39 ∷ others)
 first_quote Plain bytes others h = tt
@@ -166,10 +166,10 @@ first_quote Dash bytes others h = refl
 first_quote Quoted bytes others h = h
 first_quote Comment bytes others h = no_bytes 39 bytes h
 
-text_crossings : (inside rest : List ℕ) → IsInside inside → (m : Mode)
-    → Fits m (39 ∷ ((inside ++ 39 ∷ []) ++ rest)) → Crossings m (39 ∷ (inside ++ 39 ∷ [])) rest
-text_crossings inside rest i m h =
-    let o = quote_crossings m (inside ++ 39 ∷ [])
+text_overflows : (inside rest : List ℕ) → IsInside inside → (m : Mode)
+    → Fits m (39 ∷ ((inside ++ 39 ∷ []) ++ rest)) → Overflows m (39 ∷ (inside ++ 39 ∷ [])) rest
+text_overflows inside rest i m h =
+    let o = quote_overflows m (inside ++ 39 ∷ [])
     (first_quote m ((inside ++ 39 ∷ []) ++ rest) (inside ++ 39 ∷ []) h) in
     let k = through_inside inside (39 ∷ []) i in
     let P : Mode → Type 0 = λ n. Fits n rest in
@@ -181,31 +181,31 @@ dash_next : (b : ℕ) (rest : List ℕ) → is_dash b ≡ true → GapEnds (b �
 dash_next b [] d g = tt
 dash_next b (c ∷ rest) d g = sym (ap (λ t. t && (c == 45)) d) ∙ g.1
 
-other_crossings : (b : ℕ) (rest : List ℕ) → GapEnds (b ∷ rest) → is_quote b ≡ false
-    → is_semicolon b ≡ false → (m : Mode) → Fits m (b ∷ rest) → Crossings m (b ∷ []) rest
-other_crossings b rest g q s Plain h = by_test (is_dash b)
-    (λ d. step_crossings Plain Dash b rest s (ap (λ t. cond t Quoted (cond (b == 45) Dash Plain)) q
+other_overflows : (b : ℕ) (rest : List ℕ) → GapEnds (b ∷ rest) → is_quote b ≡ false
+    → is_semicolon b ≡ false → (m : Mode) → Fits m (b ∷ rest) → Overflows m (b ∷ []) rest
+other_overflows b rest g q s Plain h = by_test (is_dash b)
+    (λ d. step_overflows Plain Dash b rest s (ap (λ t. cond t Quoted (cond (b == 45) Dash Plain)) q
     ∙ ap (λ t. cond t Dash Plain) d) (dash_next b rest d g))
-    (λ d. step_crossings Plain Plain b rest s (plain_byte b q d) tt)
-other_crossings b rest g q s Dash h = step_crossings Dash Plain b rest s (dash_byte b q h) tt
-other_crossings b rest g q s Quoted h = absurd h
-other_crossings b rest g q s Comment h = no_bytes b rest h
+    (λ d. step_overflows Plain Plain b rest s (plain_byte b q d) tt)
+other_overflows b rest g q s Dash h = step_overflows Dash Plain b rest s (dash_byte b q h) tt
+other_overflows b rest g q s Quoted h = absurd h
+other_overflows b rest g q s Comment h = no_bytes b rest h
 
 -- ---- parts
 
-part_crossings : (part rest : List ℕ) → IsPart part rest → (m : Mode) → Fits m (part ++ rest)
-    → Crossings m part rest
-part_crossings part rest (gap bytes others g) m h = gap_crossings bytes rest g m h
-part_crossings part rest (text inside others i q) m h = text_crossings inside rest i m h
-part_crossings part rest (other b others k) m h = other_crossings b rest k.0 k.1 k.2 m h
+part_overflows : (part rest : List ℕ) → IsPart part rest → (m : Mode) → Fits m (part ++ rest)
+    → Overflows m part rest
+part_overflows part rest (gap bytes others g) m h = gap_overflows bytes rest g m h
+part_overflows part rest (text inside others i q) m h = text_overflows inside rest i m h
+part_overflows part rest (other b others k) m h = other_overflows b rest k.0 k.1 k.2 m h
 
-pub parts_crossing : (bytes rest : List ℕ) → AreParts bytes rest → (m : Mode)
-    → Fits m (bytes ++ rest) → Crossings m bytes rest
-parts_crossing bytes rest (no_part others) m h = (refl, h)
-parts_crossing bytes rest (a_part part more others p ps) m h =
+pub parts_overflow : (bytes rest : List ℕ) → AreParts bytes rest → (m : Mode)
+    → Fits m (bytes ++ rest) → Overflows m bytes rest
+parts_overflow bytes rest (no_part others) m h = (refl, h)
+parts_overflow bytes rest (a_part part more others p ps) m h =
     let P : List ℕ → Type 0 = λ l. Fits m l in
-    let k = part_crossings part (more ++ rest) p m (subst P (append_assoc part more rest) h) in
-    both_crossing m part more rest k.0 (parts_crossing more rest ps (mode_after m part) k.1)
+    let k = part_overflows part (more ++ rest) p m (subst P (append_assoc part more rest) h) in
+    both_overflow m part more rest k.0 (parts_overflow more rest ps (mode_after m part) k.1)
 
 -- ---- statements and tails
 
@@ -217,7 +217,7 @@ ends_there Comment rest h = no_bytes 59 rest h
 
 pub parts_are_statement : (s rest : List ℕ) → AreParts s (59 ∷ rest) → IsStatement s
 parts_are_statement s rest h =
-    let k = parts_crossing s (59 ∷ rest) h Plain tt in
+    let k = parts_overflow s (59 ∷ rest) h Plain tt in
     record { whole = k.0; closed = ends_there (mode_after Plain s) rest k.1 }
 
 -- a text that does not end goes to the end
@@ -226,8 +226,8 @@ pub open_text_stays : (bytes : List ℕ) → HasOpenText bytes → (has_end Plai
 open_text_stays bytes h =
     let prefix : List ℕ = h.0 in
     let inside : List ℕ = h.1 in
-    let k = parts_crossing prefix (39 ∷ inside) h.3 Plain tt in
-    let o = quote_crossings (mode_after Plain prefix) inside k.1 in
+    let k = parts_overflow prefix (39 ∷ inside) h.3 Plain tt in
+    let o = quote_overflows (mode_after Plain prefix) inside k.1 in
     let i = through_inside inside [] h.4 in
     let P : List ℕ → Type 0 = λ l. (has_end Plain l ≡ false) × (mode_after Plain l ≡ Quoted) in
     let Q : List ℕ → Type 0 = λ l. (has_end Quoted l ≡ false) × (mode_after Quoted l ≡ Quoted) in
@@ -239,7 +239,7 @@ open_text_stays bytes h =
     )
 
 pub parts_are_tail : (tail : List ℕ) → AreParts tail [] ⊎ HasOpenText tail → IsTail tail
-parts_are_tail tail (inl h) = (parts_crossing tail [] h Plain tt).0
+parts_are_tail tail (inl h) = (parts_overflow tail [] h Plain tt).0
 parts_are_tail tail (inr h) = (open_text_stays tail h).0
 
 pub no_open_text : (s rest : List ℕ) → AreParts s (59 ∷ rest) → HasOpenText s → ⊥

@@ -19,7 +19,7 @@ use Rattle.smo_ops_spec.specs.OneRow.{Relation, same, meets}
 use Rattle.smo_ops_spec.specs.Effects.{columns_of}
 use Rattle.smo_ops_spec.specs.Preconditions.{among, differ, is_new}
 use Rattle.smo_ops_spec.specs.Making.{named, without, renamed, with_column, type_of_value, image}
-use Rattle.smo_ops_spec.specs.Making.{union, added, moved, join_rows, from_one, from_two}
+use Rattle.smo_ops_spec.specs.Making.{union, added_value, moved, join_rows, from_one, from_two}
 use Rattle.smo_ops_spec.specs.OperatorTable.{Made, line, made_names}
 use Rattle.smo_ops_spec.specs.Touching.{made_of}
 use Rattle.smo_ops_spec.specs.After.{op_fault, make_all, lose_all}
@@ -45,7 +45,7 @@ Gives tables (join_table r s t c) first second a b =
     (a ≡ join_rows (columns_of tables r) (columns_of tables s) c first second) × (b ≡ [])
 Gives tables (add_column c e r) first second a b =
     (a ≡ image (with_column c (type_of_value (columns_of tables r) e) (columns_of tables r))
-    (added (columns_of tables r) c e) first) × (b ≡ [])
+    (added_value (columns_of tables r) c e) first) × (b ≡ [])
 Gives tables (drop_column c r) first second a b =
     (a ≡ image (without c (columns_of tables r)) (cell (columns_of tables r)) first) × (b ≡ [])
 Gives tables (rename_column o r c) first second a b =
@@ -93,7 +93,7 @@ gives_made tables (join_table r s t c) first second a b g db h = (
 )
 gives_made tables (add_column c e r) first second a b g db h = (
   of_one (image (with_column c (type_of_value (columns_of tables r) e) (columns_of tables r))
-      (added (columns_of tables r) c e)) (get db r) first a h g.0,
+      (added_value (columns_of tables r) c e)) (get db r) first a h g.0,
   g.1,
 )
 gives_made tables (drop_column c r) first second a b g db h = (

@@ -8,7 +8,7 @@ use Rattle.smo_ops_types.specs.Operators.{Operator}
 use Rattle.smo_ops_spec.specs.OneRow.{Relation}
 use Rattle.smo_ops_spec.specs.Touching.{made_of}
 use Rattle.smo_ops_spec.specs.OperatorTable.{Made, line, made_names}
-use Rattle.smo_ops_spec.specs.After.{carried}
+use Rattle.smo_ops_spec.specs.After.{migrate}
 
 -- the database has these relations under at most two names; where one is named, or none, what else
 -- is given counts for nothing
@@ -40,4 +40,4 @@ pub record IsCarried (tables : Tables) (op : Operator) (first second one other :
   pub made : (db : Database) → AreIn (made_of op) db first second
       → AreMade (line tables op).made db one other
   pub whole : (db : Database) → AreIn (made_of op) db first second
-      → Has (made_names (line tables op).made) (carried tables op db) one other
+      → Has (made_names (line tables op).made) (migrate tables op db) one other

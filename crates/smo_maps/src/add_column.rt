@@ -10,7 +10,7 @@ ghost use Rattle.cond_expr.specs.Seen.{tree};
 ghost use Rattle.cond_expr.specs.Values.{value};
 ghost use Rattle.smo_ops_spec.specs.OneRow.{own_cells, Row as OneRow};
 ghost use Rattle.smo_ops_spec.specs.Preconditions.{among};
-ghost use Rattle.smo_ops_spec.specs.Making.{with_column, image, added};
+ghost use Rattle.smo_ops_spec.specs.Making.{with_column, image, added_value};
 ghost use Rattle.smo_maps.specs.Picking.{picked_row};
 
 use crate::name::{names_of, put_in_order};
@@ -65,12 +65,12 @@ fn added_rows(
         rows.now)) }
 {
     let own = OwnColumns::new(alloc, columns)?;
-    let mut added = Vec::with_capacity(alloc, rows.len())?;
+    let mut added_value = Vec::with_capacity(alloc, rows.len())?;
     for row in rows {
-        added.push(added_row(alloc, &own, sources, expr, row)?)?;
+        added_value.push(added_row(alloc, &own, sources, expr, row)?)?;
     }
-    make_set(&mut added);
-    Ok(added)
+    make_set(&mut added_value);
+    Ok(added_value)
 }
 
 /// The rows with the expression's value in one column more.
@@ -85,7 +85,7 @@ pub(crate) fn with_value(
     requires new { among column.now (names_of columns.now) ≡ false }
     ensures { (kind : OneType) → IfOk result (λ v. v.items
         ≡ image (with_column column.now kind columns.now)
-        (added columns.now column.now (tree expr.now)) rows.now) }
+        (added_value columns.now column.now (tree expr.now)) rows.now) }
 {
     let names = names_with(alloc, columns, column)?;
     // Of the new column too only the name counts.

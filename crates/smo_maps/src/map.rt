@@ -51,7 +51,7 @@ fn one(alloc: Global, rows: Vec<Row>) -> Carried
 /// of none as DROP TABLE, what else is given is not looked at. The operator is one that is not
 /// refused over the schema `before`. Where the lists are relations of those tables' columns, the
 /// answers are relations of the made tables' columns (by the law
-/// `carried_database_is_of_the_next_schema`). The one error is `NoMemory`, where memory runs out.
+/// `migrated_database_is_of_the_next_schema`). The one error is `NoMemory`, where memory runs out.
 /// (PRISM 2008.)
 pub fn carry(
     alloc: Global,

@@ -148,7 +148,7 @@ fn put_for<'a>(pair: (Val<'a>, Option<Val<'a>>)) -> Val<'a>
 }
 
 // Each value, or what is set in its place.
-fn replaced<'a>(
+fn new_values<'a>(
     alloc: Global,
     values: Vec<Val<'a>>,
     set: Vec<Option<Val<'a>>>,
@@ -178,6 +178,6 @@ pub fn row_with_sets<'a>(
     ensures valid { IfOk result (λ v. All (λ v. IsValid (shown v)) v.items) }
 {
     let set = set_values(alloc, own.columns(), own.atoms(), sets, &values)?;
-    let row = replaced(alloc, values, set)?;
+    let row = new_values(alloc, values, set)?;
     Ok(row)
 }

@@ -72,7 +72,7 @@ pub fn check_way_back(
     inverse: &[Op],
 ) -> Result<(), InverseFault>
     requires { HaveFewNodes (operators_of inverse.now) }
-    ensures judged { (op : Operator) → next.now ≡ schema_after before.now op
+    ensures checked { (op : Operator) → next.now ≡ schema_after before.now op
         → IsInverse (inverse_fault before.now op (operators_of inverse.now)) result }
     ensures number { IsNumbered (length inverse.now) result }
 {
@@ -94,7 +94,7 @@ pub fn check_inverse(
     requires accepted { op_fault before.now (operator_of op.now) ≡ None }
     requires operator { HasFewNodes (operator_of op.now) }
     requires inverse { HaveFewNodes (operators_of inverse.now) }
-    ensures judged { IsInverse (inverse_fault before.now (operator_of op.now)
+    ensures checked { IsInverse (inverse_fault before.now (operator_of op.now)
         (operators_of inverse.now)) result }
     ensures number { IsNumbered (length inverse.now) result }
 {

@@ -24,7 +24,7 @@ use Rattle.smo_ops_spec.specs.OneRow.{same, own_kinds, meets}
 use Rattle.smo_ops_spec.specs.Effects.{columns_of}
 use Rattle.smo_ops_spec.specs.Preconditions.{among, type_in, is_new, again_after, first_again}
 use Rattle.smo_ops_spec.specs.Making.{in_order, named, without, renamed, with_column, type_of_value}
-use Rattle.smo_ops_spec.specs.Making.{joined_columns, image, union, added, moved, join_rows}
+use Rattle.smo_ops_spec.specs.Making.{joined_columns, image, union, added_value, moved, join_rows}
 use Rattle.smo_ops_spec.specs.Making.{from_one, from_two}
 use Rattle.smo_ops_spec.specs.OperatorTable.{a_table}
 use Rattle.smo_ops_spec.specs.After.{op_fault, schema_after}
@@ -183,7 +183,7 @@ module _ (tables : Tables) (schema : IsSchema tables) where
           let k : ColType = type_of_value cs t in
           ap (λ (x : List Column). type_in x n)
           (made_columns tables (add_column c t r) r (with_column c k cs)
-          (λ x. from_one (image (with_column c k cs) (added cs c t)) (get x r)) e (inl refl))
+          (λ x. from_one (image (with_column c k cs) (added_value cs c t)) (get x r)) e (inl refl))
           ∙ with_types k n (new_name c m.name_new)
           ∙ ap (λ (o : Option ColType). if same n c then o else type_in cs n)
           (sym (value_has_type cs t (none_mapped WrongType

@@ -10,7 +10,7 @@ use Rattle.schema_catalog.specs.Tables.{Tables}
 use Rattle.schema_catalog.specs.Databases.{Rows, Database, IsEntry, IsDatabase}
 use Rattle.smo_ops_types.specs.Operators.{create_table}
 use Rattle.smo_ops_spec.specs.Making.{in_order}
-use Rattle.smo_ops_spec.specs.After.{schema_after, carried}
+use Rattle.smo_ops_spec.specs.After.{schema_after, migrate}
 
 no_rows : (columns : List Column) → IsRelation columns []
 no_rows columns = record { ascending = tt; fitting = λ row m. absurd m }
@@ -18,7 +18,7 @@ no_rows columns = record { ascending = tt; fitting = λ row m. absurd m }
 pub created_database : (tables : Tables) (database : Database) (r : List ℕ) (cs : List Column)
     → IsDatabase tables database
     → IsDatabase (schema_after tables (create_table r cs))
-    (carried tables (create_table r cs) database)
+    (migrate tables (create_table r cs) database)
 created_database tables database r cs h = λ q.
     rw (
       get-insert nat_list_cmp_total tables r (in_order cs) q,

@@ -24,7 +24,7 @@ use Rattle.smo_ops_spec.specs.Effects.{columns_of}
 use Rattle.smo_ops_spec.specs.Preconditions.{among}
 use Rattle.smo_ops_spec.specs.Making.{column_cmp, in_order, named, joined_columns, image, join_rows}
 use Rattle.smo_ops_spec.specs.Making.{from_one}
-use Rattle.smo_ops_spec.specs.After.{op_fault, schema_after, carried}
+use Rattle.smo_ops_spec.specs.After.{op_fault, schema_after, migrate}
 use Rattle.smo_ops_spec.specs.Losses.{IsEntryOrLost, IsDatabaseWithLosses}
 use Rattle.smo_ops_spec.specs.RowMeaning.{RowsFollow, SameIn}
 use Rattle.smo_ops_spec.proofs.Firsts.{met}
@@ -165,30 +165,30 @@ module _ (tables : Tables) (r s : List ℕ) (xs : List (List ℕ)) (t : List ℕ
       ∙ again cs xs ys (ordered h) covered
 
   module _ (db : Database) (rows : Relation) (is : get db r ≡ Some (Rows rows)) where
-    first_rows : (left : Relation) → get (carried tables (decompose_table r s xs t ys) db) s
+    first_rows : (left : Relation) → get (migrate tables (decompose_table r s xs t ys) db) s
         ≡ Some (Rows left) → image (named xs cs) (cell cs) rows ≡ left
     first_rows left now = made_of_one tables (decompose_table r s xs t ys) db r s (named xs cs)
         (image (named xs cs) (cell cs)) rows left e (inl refl) is now
 
-    second_rows : (right : Relation) → get (carried tables (decompose_table r s xs t ys) db) t
+    second_rows : (right : Relation) → get (migrate tables (decompose_table r s xs t ys) db) t
         ≡ Some (Rows right) → image (named ys cs) (cell cs) rows ≡ right
     second_rows right now = made_of_one tables (decompose_table r s xs t ys) db r t (named ys cs)
         (image (named ys cs) (cell cs)) rows right e (inr (inl refl)) is now
 
-    pub first_projection : (left : Relation) → get (carried tables (decompose_table r s xs t ys) db)
+    pub first_projection : (left : Relation) → get (migrate tables (decompose_table r s xs t ys) db)
         s ≡ Some (Rows left) → RowsFollow (SameIn xs cs (columns_of next s)) rows left
     first_projection left now = follows (SameIn xs cs) (named xs cs) (columns_of next s) (cell cs)
         rows left first_columns (first_rows left now) (projected cs xs)
 
     pub second_projection : (right : Relation)
-        → get (carried tables (decompose_table r s xs t ys) db) t ≡ Some (Rows right)
+        → get (migrate tables (decompose_table r s xs t ys) db) t ≡ Some (Rows right)
         → RowsFollow (SameIn ys cs (columns_of next t)) rows right
     second_projection right now = follows (SameIn ys cs) (named ys cs) (columns_of next t) (cell cs)
         rows right second_columns (second_rows right now) (projected cs ys)
 
     pub rows_again : (left right : Relation) → IsSchema tables → IsDatabaseWithLosses tables db
-        → get (carried tables (decompose_table r s xs t ys) db) s ≡ Some (Rows left)
-        → get (carried tables (decompose_table r s xs t ys) db) t ≡ Some (Rows right)
+        → get (migrate tables (decompose_table r s xs t ys) db) s ≡ Some (Rows left)
+        → get (migrate tables (decompose_table r s xs t ys) db) t ≡ Some (Rows right)
         → (row : Row) → In row rows → In row (join_rows (columns_of next s) (columns_of next t)
         always left right)
     rows_again left right h d now also row m =

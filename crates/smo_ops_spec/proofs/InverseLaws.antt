@@ -201,7 +201,7 @@ module _ (a b : Tables) where
       step None e = e
       step (Some m) e = absurd ((differs_first m e).differs (ap (λ (t : Tables). get t m) i))
 
--- the operators are judged one after the other
+-- the operators are checked one after the other
 pub turn_refused : (goal now : Tables) (i : ℕ) (earlier : List Operator) (op : Operator)
     (later : List Operator) (refusal : OpRefusal)
     → AllOperatorsAccepted now earlier → op_fault (schema_after_each now earlier) op ≡ Some refusal

@@ -27,11 +27,11 @@ use Rattle.smo_ops_spec.specs.Preconditions.{among}
 use Rattle.smo_ops_spec.specs.Making.{joined_columns, agree, joined_value, joined_row, join_rows}
 use Rattle.smo_ops_spec.specs.Making.{from_two}
 use Rattle.smo_ops_spec.specs.OperatorTable.{a_table}
-use Rattle.smo_ops_spec.specs.After.{op_fault, schema_after, carried}
+use Rattle.smo_ops_spec.specs.After.{op_fault, schema_after, migrate}
 use Rattle.smo_ops_spec.specs.RowMeaning.{SameIn, IsOfJoin}
 use Rattle.smo_ops_spec.proofs.NameLaws.{in_among, among_in, in_names}
 use Rattle.smo_ops_spec.proofs.ColumnLaws.{in_order_are_columns}
-use Rattle.smo_ops_spec.proofs.TouchedTables.{made_is_carried}
+use Rattle.smo_ops_spec.proofs.TouchedTables.{made_is_migrated}
 use Rattle.smo_ops_spec.proofs.MadeRows.{from_in_order, each_is, column_named}
 use Rattle.smo_ops_spec.proofs.MadeCells.{made_cell, among_in_order}
 use Rattle.smo_ops_spec.proofs.WholeTables.{one_relation}
@@ -192,7 +192,7 @@ module _ (cs ds : List Column) where
 pub joined_rows : (tables : Tables) (r s t : List ℕ) (c : Test) (db : Database)
     (first second made : Relation) (row : Row) → op_fault tables (join_table r s t c) ≡ None
     → get db r ≡ Some (Rows first) → get db s ≡ Some (Rows second)
-    → get (carried tables (join_table r s t c) db) t ≡ Some (Rows made)
+    → get (migrate tables (join_table r s t c) db) t ≡ Some (Rows made)
     → IsRow (columns_of (schema_after tables (join_table r s t c)) t) row
     → In row made ↔ IsOfJoin (columns_of tables r) (columns_of tables s)
     (columns_of (schema_after tables (join_table r s t c)) t) c first second row
@@ -207,7 +207,7 @@ joined_rows tables r s t c db first second made row e is also now i =
     one_relation (f first second) made
     (ap (λ (x : Option DatabaseEntry). Some (from_two f x (Some (Rows second)))) (sym is)
     ∙ ap (λ (x : Option DatabaseEntry). Some (from_two f (get db r) x)) (sym also)
-    ∙ sym (made_is_carried tables (join_table r s t c) db
+    ∙ sym (made_is_migrated tables (join_table r s t c) db
     (a_table t (joined_columns cs ds) (λ x. from_two f (get x r) (get x s))) e (inl refl))
     ∙ now) in
     subst (λ (es : List Column). In row made ↔ IsOfJoin cs ds es c first second row) (sym columns) (

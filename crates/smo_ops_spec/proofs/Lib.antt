@@ -22,7 +22,7 @@ pub mod NextSchemas
 pub mod CreatedTables
 pub mod TouchedTables
 pub mod MadeRows
-pub mod CarriedDatabases
+pub mod MigratedDatabases
 pub mod WholeTables
 pub mod MadeCells
 pub mod OneColumns
@@ -36,7 +36,7 @@ pub mod PastMoments
 pub mod DistinctStates
 pub mod VersionsInTurn
 pub mod VersionsInForce
-pub mod Judging
+pub mod Checking
 pub mod PastSteps
 pub mod HistoryLaws
 pub mod ValueLaws

@@ -12,8 +12,8 @@ use Rattle.smo_ops_spec.specs.OneRow.{Relation}
 use Rattle.smo_ops_spec.specs.Making.{from_one, from_two}
 use Rattle.smo_ops_spec.specs.OperatorTable.{Made, line}
 use Rattle.smo_ops_spec.specs.Touching.{made_of}
-use Rattle.smo_ops_spec.specs.After.{op_fault, carried}
-use Rattle.smo_ops_spec.proofs.TouchedTables.{made_is_carried}
+use Rattle.smo_ops_spec.specs.After.{op_fault, migrate}
+use Rattle.smo_ops_spec.proofs.TouchedTables.{made_is_migrated}
 use Rattle.smo_ops_spec.specs.Agreeing.{AgreeOn}
 
 one_alike : (f : Relation → Relation) (x y : Option DatabaseEntry) → x ≡ y
@@ -56,8 +56,8 @@ module _ (tables : Tables) (a b : Database) where
   made_alike (rename_column x r y) h m i = only m _ (one_alike _ _ _ (h r (inl refl))) i
 
   -- so two databases that agree on the inputs agree on what is made
-  pub carried_alike : (op : Operator) → op_fault tables op ≡ None → AgreeOn (made_of op) a b
+  pub migrated_alike : (op : Operator) → op_fault tables op ≡ None → AgreeOn (made_of op) a b
       → (m : Made) → In m (line tables op).made
-      → get (carried tables op a) m.name ≡ get (carried tables op b) m.name
-  carried_alike op e h m i = made_is_carried tables op a m e i ∙ ap Some (made_alike op h m i)
-      ∙ sym (made_is_carried tables op b m e i)
+      → get (migrate tables op a) m.name ≡ get (migrate tables op b) m.name
+  migrated_alike op e h m i = made_is_migrated tables op a m e i ∙ ap Some (made_alike op h m i)
+      ∙ sym (made_is_migrated tables op b m e i)

@@ -15,8 +15,8 @@ use Rattle.smo_ops_spec.specs.Making.{from_one, from_two}
 use Rattle.smo_ops_spec.specs.OperatorTable.{Made, line}
 use Rattle.smo_ops_spec.specs.Touching.{made_of}
 use Rattle.smo_ops_spec.specs.Losses.{Loss, loss_of, loss_in, first_loss}
-use Rattle.smo_ops_spec.specs.After.{op_fault, carried}
-use Rattle.smo_ops_spec.proofs.TouchedTables.{made_is_carried}
+use Rattle.smo_ops_spec.specs.After.{op_fault, migrate}
+use Rattle.smo_ops_spec.proofs.TouchedTables.{made_is_migrated}
 
 one_loss : (f : Relation → Relation) (x : Option DatabaseEntry)
     → loss_of (Some (from_one f x)) ≡ option_or (loss_of x) None
@@ -79,11 +79,11 @@ each_hands_on tables db op = all_lose (first_loss (loss_in db) (made_of op)) db
 
 pub losses_handed_on : (tables : Tables) (op : Operator) (db : Database) (m : Made)
     → op_fault tables op ≡ None → In m (line tables op).made
-    → loss_of (get (carried tables op db) m.name) ≡ first_loss (loss_in db) (made_of op)
-losses_handed_on tables op db m e i = ap loss_of (made_is_carried tables op db m e i)
+    → loss_of (get (migrate tables op db) m.name) ≡ first_loss (loss_in db) (made_of op)
+losses_handed_on tables op db m e i = ap loss_of (made_is_migrated tables op db m e i)
     ∙ hands_on tables db op m i
 
 pub created_empty : (tables : Tables) (r : List ℕ) (cs : List Column) (db : Database)
     → op_fault tables (create_table r cs) ≡ None
-    → get (carried tables (create_table r cs) db) r ≡ Some (Rows [])
-created_empty tables r cs db e = made_is_carried tables (create_table r cs) db _ e (inl refl)
+    → get (migrate tables (create_table r cs) db) r ≡ Some (Rows [])
+created_empty tables r cs db e = made_is_migrated tables (create_table r cs) db _ e (inl refl)

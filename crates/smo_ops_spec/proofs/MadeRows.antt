@@ -25,7 +25,7 @@ use Rattle.cond_expr.specs.Values.{value}
 use Rattle.smo_ops_spec.specs.OneRow.{Row, Relation, same, own_kinds, own_cells, meets}
 use Rattle.smo_ops_spec.specs.Preconditions.{among, type_in, same_columns}
 use Rattle.smo_ops_spec.specs.Making.{column_cmp, in_order, renamed, with_column, type_of_value}
-use Rattle.smo_ops_spec.specs.Making.{joined_columns, image, union, added, moved, agree}
+use Rattle.smo_ops_spec.specs.Making.{joined_columns, image, union, added_value, moved, agree}
 use Rattle.smo_ops_spec.specs.Making.{joined_value, joined_row, join_rows}
 use Rattle.smo_ops_spec.proofs.NameLaws.{same_types, same_itself, in_among, among_in}
 use Rattle.smo_ops_spec.proofs.NameLaws.{in_names, own_type, of_type, cell_typed, row_from}
@@ -156,14 +156,15 @@ pub one_column_more : (columns : List Column) (c : List ℕ) (e : Tree) (k : Col
     (rows : Relation) → AreColumns columns → IsRelation columns rows
     → kind_of (own_kinds columns) e ≡ Some k → among c (names_of columns) ≡ false
     → IsRelation (with_column c k columns)
-    (image (with_column c k columns) (added columns c e) rows)
+    (image (with_column c k columns) (added_value columns c e) rows)
 one_column_more columns c e k rows a r typed new =
-    imaged columns (with_column c k columns) (added columns c e) rows r
+    imaged columns (with_column c k columns) (added_value columns c e) rows r
     (λ row i d m. step row i d (from_with c k columns d m))
   where
     step : (row : Row) → IsRow columns row → (d : Column) → In d ((c, k) ∷ columns)
-        → has_type d.1 (added columns c e row d.0) ≡ true
-    step row i d (inl q) = subst (λ (x : Column). has_type x.1 (added columns c e row x.0) ≡ true) q
+        → has_type d.1 (added_value columns c e row d.0) ≡ true
+    step row i d (inl q) = subst (λ (x : Column).
+        has_type x.1 (added_value columns c e row x.0) ≡ true) q
         (subst (λ b. has_type k (cond b (value (own_cells columns row) e) (cell columns row c))
         ≡ true) (sym (same_itself c))
         (of_type (value (own_cells columns row) e) k (own_value_typed columns row e k i typed)))

@@ -18,15 +18,16 @@ use Rattle.smo_ops_types.specs.Operators.{Operator, add_column, drop_column, ren
 use Rattle.smo_ops_spec.specs.OneRow.{Row, Relation, same, own_cells}
 use Rattle.smo_ops_spec.specs.Effects.{columns_of}
 use Rattle.smo_ops_spec.specs.Preconditions.{among, first_not_among, each_known}
-use Rattle.smo_ops_spec.specs.Making.{without, renamed, with_column, type_of_value, image, added}
+use Rattle.smo_ops_spec.specs.Making.{without, renamed, with_column, type_of_value, image}
+use Rattle.smo_ops_spec.specs.Making.{added_value}
 use Rattle.smo_ops_spec.specs.Making.{moved, from_one}
 use Rattle.smo_ops_spec.specs.OperatorTable.{line, a_table}
-use Rattle.smo_ops_spec.specs.After.{op_fault, schema_after, carried}
+use Rattle.smo_ops_spec.specs.After.{op_fault, schema_after, migrate}
 use Rattle.smo_ops_spec.specs.RowMeaning.{RowsFollow, SameBut}
 use Rattle.smo_ops_spec.proofs.Firsts.{none_mapped}
 use Rattle.smo_ops_spec.proofs.NameLaws.{same_itself, same_turned, among_in, in_names, none_missing}
 use Rattle.smo_ops_spec.proofs.NextSchemas.{all_preconditions}
-use Rattle.smo_ops_spec.proofs.TouchedTables.{made_is_there, made_is_carried, neither}
+use Rattle.smo_ops_spec.proofs.TouchedTables.{made_is_there, made_is_migrated, neither}
 use Rattle.smo_ops_spec.proofs.MadeRows.{column_named}
 use Rattle.smo_ops_spec.proofs.MadeCells.{made_cell, same_cell, image_follows, among_with}
 use Rattle.smo_ops_spec.proofs.MadeCells.{among_in_order, among_kept}
@@ -37,12 +38,12 @@ pub made_of_one : (tables : Tables) (op : Operator) (db : Database) (r t : List 
     (columns : List Column) (f : Relation → Relation) (rows made : Relation)
     → op_fault tables op ≡ None
     → In (a_table t columns (λ x. from_one f (get x r))) (line tables op).made
-    → get db r ≡ Some (Rows rows) → get (carried tables op db) t ≡ Some (Rows made)
+    → get db r ≡ Some (Rows rows) → get (migrate tables op db) t ≡ Some (Rows made)
     → f rows ≡ made
 made_of_one tables op db r t columns f rows made e m is new =
     one_relation (f rows) made
     (ap (λ (x : Option DatabaseEntry). Some (from_one f x)) (sym is)
-    ∙ sym (made_is_carried tables op db (a_table t columns (λ x. from_one f (get x r))) e m)
+    ∙ sym (made_is_migrated tables op db (a_table t columns (λ x. from_one f (get x r))) e m)
     ∙ new)
 
 pub made_columns : (tables : Tables) (op : Operator) (t : List ℕ) (columns : List Column)
@@ -69,7 +70,7 @@ module _ (tables : Tables) (c r : List ℕ) (db : Database) (rows made : Relatio
   columns = columns_of tables r
 
   pub dropped_rows : op_fault tables (drop_column c r) ≡ None → get db r ≡ Some (Rows rows)
-      → get (carried tables (drop_column c r) db) r ≡ Some (Rows made)
+      → get (migrate tables (drop_column c r) db) r ≡ Some (Rows made)
       → RowsFollow (SameBut (c ∷ []) columns (columns_of (schema_after tables (drop_column c r)) r))
       rows made
   dropped_rows e is now =
@@ -89,21 +90,21 @@ module _ (tables : Tables) (c r : List ℕ) (db : Database) (rows made : Relatio
     kind = type_of_value columns t
 
     one_more : (row : Row) → SameBut (c ∷ []) columns (with_column c kind columns) row
-        (map (λ (d : Column). added columns c t row d.0) (with_column c kind columns))
-        × (cell (with_column c kind columns) (map (λ (d : Column). added columns c t row d.0)
+        (map (λ (d : Column). added_value columns c t row d.0) (with_column c kind columns))
+        × (cell (with_column c kind columns) (map (λ (d : Column). added_value columns c t row d.0)
         (with_column c kind columns)) c ≡ value (own_cells columns row) t)
     one_more row = (
-      λ n q. same_cell columns (with_column c kind columns) (added columns c t row) row n
+      λ n q. same_cell columns (with_column c kind columns) (added_value columns c t row) row n
           (ap (λ b. cond b (value (own_cells columns row) t) (cell columns row n)) (not_one n c q))
           (λ i. among_with c kind columns n (inr (among_in n (names_of columns) i))),
-      made_cell (with_column c kind columns) (added columns c t row) c
+      made_cell (with_column c kind columns) (added_value columns c t row) c
           (among_in c (names_of (with_column c kind columns))
           (among_with c kind columns c (inl refl)))
           ∙ ap (λ b. cond b (value (own_cells columns row) t) (cell columns row c)) (same_itself c),
     )
 
     pub added_rows : op_fault tables (add_column c t r) ≡ None → get db r ≡ Some (Rows rows)
-        → get (carried tables (add_column c t r) db) r ≡ Some (Rows made)
+        → get (migrate tables (add_column c t r) db) r ≡ Some (Rows made)
         → RowsFollow (λ row new. SameBut (c ∷ []) columns
         (columns_of (schema_after tables (add_column c t r)) r) row new
         × (cell (columns_of (schema_after tables (add_column c t r)) r) new c
@@ -112,12 +113,13 @@ module _ (tables : Tables) (c r : List ℕ) (db : Database) (rows made : Relatio
         follows (λ cs row new. SameBut (c ∷ []) columns cs row new
         × (cell cs new c ≡ value (own_cells columns row) t))
         (with_column c kind columns) (columns_of (schema_after tables (add_column c t r)) r)
-        (added columns c t) rows made
+        (added_value columns c t) rows made
         (made_columns tables (add_column c t r) r (with_column c kind columns)
-        (λ x. from_one (image (with_column c kind columns) (added columns c t)) (get x r)) e
+        (λ x. from_one (image (with_column c kind columns) (added_value columns c t)) (get x r)) e
         (inl refl))
         (made_of_one tables (add_column c t r) db r r (with_column c kind columns)
-        (image (with_column c kind columns) (added columns c t)) rows made e (inl refl) is now)
+        (image (with_column c kind columns) (added_value columns c t)) rows made e (inl refl) is
+        now)
         one_more
 
   module _ (b : List ℕ) where
@@ -170,7 +172,7 @@ module _ (tables : Tables) (c r : List ℕ) (db : Database) (rows made : Relatio
     )
 
     pub renamed_column_rows : op_fault tables (rename_column b r c) ≡ None
-        → get db r ≡ Some (Rows rows) → get (carried tables (rename_column b r c) db) r
+        → get db r ≡ Some (Rows rows) → get (migrate tables (rename_column b r c) db) r
         ≡ Some (Rows made)
         → RowsFollow (λ row new. SameBut (b ∷ c ∷ []) columns
         (columns_of (schema_after tables (rename_column b r c)) r) row new

@@ -17,7 +17,7 @@ use Rattle.smo_ops_types.specs.Changes.{PlainChange}
 use Rattle.smo_ops_types.specs.Commands.{PlainBody, changing, evolving, PlainCommand, PlainVersion}
 use Rattle.smo_ops_spec.specs.First.{unless, first_refusal}
 use Rattle.smo_ops_spec.specs.Effects.{after_each, gained, lost}
-use Rattle.smo_ops_spec.specs.After.{op_fault, schema_after, carried, IsValid}
+use Rattle.smo_ops_spec.specs.After.{op_fault, schema_after, migrate, IsValid}
 use Rattle.smo_ops_spec.specs.Past.{State, Past, no_tables, no_database, beginning, tables_of}
 use Rattle.smo_ops_spec.specs.Past.{version_at, newest_from, newest_tables, database_from}
 use Rattle.smo_ops_spec.specs.Past.{database_at, latest_from, newest_database, from_stamp}
@@ -32,7 +32,7 @@ use Rattle.smo_ops_spec.specs.Accepts.{body_tests, command_fault}
 use Rattle.smo_ops_spec.proofs.Firsts.{none_of_first, none_mapped, met}
 use Rattle.smo_ops_spec.proofs.DatabaseLaws.{changes_keep}
 use Rattle.smo_ops_spec.proofs.NextSchemas.{next_is_valid}
-use Rattle.smo_ops_spec.proofs.CarriedDatabases.{carried_database}
+use Rattle.smo_ops_spec.proofs.MigratedDatabases.{migrated_database}
 use Rattle.smo_ops_spec.proofs.CountingLaws.{self_gains_nothing}
 use Rattle.smo_ops_spec.proofs.SameDatabases.{same_database}
 use Rattle.smo_ops_spec.proofs.PastLaws.{earlier_states, later_states, newest_holds, latest_is}
@@ -191,7 +191,7 @@ before_command past stamp (changing changes) m l =
       | false ↦ earlier_states stamp new no_database past.states m l
     ]
 before_command past stamp (evolving op inverse) m l =
-    earlier_states stamp (carried (newest_tables past) op (newest_database past)) no_database
+    earlier_states stamp (migrate (newest_tables past) op (newest_database past)) no_database
     past.states m l
 
 -- moments from the stamp on
@@ -221,7 +221,7 @@ from_command past stamp (changing changes) h l e m w =
         h.database e) zero.0 zero.1
     step false q = later_states stamp new no_database past.states m w
 from_command past stamp (evolving op inverse) h l e m w =
-    later_states stamp (carried (newest_tables past) op (newest_database past)) no_database
+    later_states stamp (migrate (newest_tables past) op (newest_database past)) no_database
     past.states m w
 
 -- at each moment the database is one of the version then in force
@@ -273,7 +273,7 @@ each_evolved past stamp op inverse h l e m = elim (before_or_not m stamp) [
       subst (λ (t : Tables). IsDatabase t (database_at next m)) (sym tables)
       (subst (IsDatabase (schema_after (newest_tables past) op))
       (sym (from_command past stamp (evolving op inverse) h l e m b))
-      (carried_database (newest_tables past) op (newest_database past) h.tables.schema
+      (migrated_database (newest_tables past) op (newest_database past) h.tables.schema
       (operator_accepted past op inverse e) h.database)))
 ]
   where
@@ -314,7 +314,7 @@ stays_valid past stamp (changing changes) h f c e =
 stays_valid past stamp (evolving op inverse) h f c e =
     let l : last_or_nought past.last ≤ stamp = stamp_is_later past.last stamp f in
     let accepted : op_fault (newest_tables past) op ≡ None = operator_accepted past op inverse e in
-    let new : Database = carried (newest_tables past) op (newest_database past) in
+    let new : Database = migrate (newest_tables past) op (newest_database past) in
     let version : PlainVersion = next_version stamp op inverse past in
     let tables : newest_from no_tables (past.versions ++ next_version stamp op inverse past ∷ [])
     ≡ schema_after (newest_tables past) op =
@@ -325,7 +325,7 @@ stays_valid past stamp (evolving op inverse) h f c e =
           (latest_from no_database (from_stamp stamp new past.states))) (sym tables)
           (subst (IsDatabase (schema_after (newest_tables past) op))
           (sym (latest_is stamp new no_database past.states))
-          (carried_database (newest_tables past) op (newest_database past) h.tables.schema
+          (migrated_database (newest_tables past) op (newest_database past) h.tables.schema
           accepted h.database));
       each = each_evolved past stamp op inverse h l e;
       versions = in_force_added stamp past.versions (next_version stamp op inverse past)

@@ -19,7 +19,7 @@ use Rattle.smo_ops_spec.specs.OneRow.{same}
 use Rattle.smo_ops_spec.specs.Preconditions.{among, is_free, differ}
 use Rattle.smo_ops_spec.specs.OperatorTable.{Made, line, made_names, without_all, with_all}
 use Rattle.smo_ops_spec.specs.Touching.{makes, consumes}
-use Rattle.smo_ops_spec.specs.After.{op_fault, schema_after, lose_all, make_all, carried}
+use Rattle.smo_ops_spec.specs.After.{op_fault, schema_after, lose_all, make_all, migrate}
 use Rattle.smo_ops_spec.proofs.Firsts.{met}
 use Rattle.smo_ops_spec.proofs.NameLaws.{same_itself, among_in, in_among}
 use Rattle.smo_ops_spec.proofs.StepLaws.{AllMet}
@@ -91,24 +91,24 @@ module _ (tables : Tables) (op : Operator) (n : List ℕ) (unmade : makes tables
   not_made = with_others (line tables op).made (without_all (line tables op).consumed tables) n
       unmade ∙ without_others (line tables op).consumed tables n
 
-  not_carried : (db : Database) → get (carried tables op db) n
+  not_migrated : (db : Database) → get (migrate tables op db) n
       ≡ cond (consumes tables op n) None (get db n)
-  not_carried db = made_others (line tables op).made db (lose_all (line tables op).consumed db) n
+  not_migrated db = made_others (line tables op).made db (lose_all (line tables op).consumed db) n
       unmade ∙ lost_others (line tables op).consumed db n
 
   pub table_stays : consumes tables op n ≡ false → get (schema_after tables op) n ≡ get tables n
   table_stays e = not_made ∙ ap (λ b. cond b None (get tables n)) e
 
   pub entry_stays : (db : Database) → consumes tables op n ≡ false
-      → get (carried tables op db) n ≡ get db n
-  entry_stays db e = not_carried db ∙ ap (λ b. cond b None (get db n)) e
+      → get (migrate tables op db) n ≡ get db n
+  entry_stays db e = not_migrated db ∙ ap (λ b. cond b None (get db n)) e
 
   pub table_gone : consumes tables op n ≡ true → get (schema_after tables op) n ≡ None
   table_gone e = not_made ∙ ap (λ b. cond b None (get tables n)) e
 
   pub entry_gone : (db : Database) → consumes tables op n ≡ true
-      → get (carried tables op db) n ≡ None
-  entry_gone db e = not_carried db ∙ ap (λ b. cond b None (get db n)) e
+      → get (migrate tables op db) n ≡ None
+  entry_gone db e = not_migrated db ∙ ap (λ b. cond b None (get db n)) e
 
 -- no two made tables have one name
 abbrev AreApart : List Made → Type 0
@@ -168,10 +168,10 @@ made_is_there tables op m e i =
     with_it (line tables op).made (without_all (line tables op).consumed tables) m
     (made_apart tables op (all_preconditions tables op e)) i
 
-pub made_is_carried : (tables : Tables) (op : Operator) (db : Database) (m : Made)
+pub made_is_migrated : (tables : Tables) (op : Operator) (db : Database) (m : Made)
     → op_fault tables op ≡ None → In m (line tables op).made
-    → get (carried tables op db) m.name ≡ Some (m.entry db)
-made_is_carried tables op db m e i =
+    → get (migrate tables op db) m.name ≡ Some (m.entry db)
+made_is_migrated tables op db m e i =
     made_it (line tables op).made db (lose_all (line tables op).consumed db) m
     (made_apart tables op (all_preconditions tables op e)) i
 

@@ -30,10 +30,11 @@ use Rattle.smo_ops_spec.specs.OneRow.{set_value, with_sets, updated}
 use Rattle.smo_ops_spec.specs.Effects.{columns_of, relation_after, with_changed, database_after}
 use Rattle.smo_ops_spec.specs.Effects.{after_each}
 use Rattle.smo_ops_spec.specs.Preconditions.{among}
-use Rattle.smo_ops_spec.specs.Making.{image, union, added, moved, joined_columns, joined_value}
+use Rattle.smo_ops_spec.specs.Making.{image, union, added_value, moved, joined_columns}
+use Rattle.smo_ops_spec.specs.Making.{joined_value}
 use Rattle.smo_ops_spec.specs.Making.{joined_row, agree, join_rows, from_one, from_two}
 use Rattle.smo_ops_spec.specs.OperatorTable.{Made, line}
-use Rattle.smo_ops_spec.specs.After.{lose_all, make_all, carried}
+use Rattle.smo_ops_spec.specs.After.{lose_all, make_all, migrate}
 use Rattle.smo_ops_types.specs.Commands.{PlainBody, changing, evolving, PlainCommand, PlainVersion}
 use Rattle.smo_ops_spec.specs.Past.{Past, no_database, newest_tables, newest_database, next_version}
 use Rattle.smo_ops_spec.specs.Past.{database_at, next_database, next_past, past_with, beginning}
@@ -126,7 +127,7 @@ AllHold db (m ∷ made) = EntryHolds (Some (m.entry db)) × AllHold db made
 
 module _ (tables : Tables) (db : Database) (is : HoldsValues db) where
   added_valid : (cs : List Column) (c : List ℕ) (e : Tree) → HasValid e → (row : Row)
-      → AreValues row → (n : List ℕ) → IsValid (added cs c e row n)
+      → AreValues row → (n : List ℕ) → IsValid (added_value cs c e row n)
   added_valid cs c e h row k n =
       elim (same c n) as (λ (b : Bool). IsValid
       (if b then value (own_cells cs row) e else cell cs row n)) [
@@ -178,7 +179,7 @@ module _ (tables : Tables) (db : Database) (is : HoldsValues db) where
   )
   made_valid (add_column c e r) g = (
     one_valid _ (get db r) (is r) (λ rows h.
-        image_valid _ (added (columns_of tables r) c e) rows h
+        image_valid _ (added_value (columns_of tables r) c e) rows h
         (added_valid (columns_of tables r) c e g)),
     tt,
   )
@@ -220,9 +221,9 @@ more_valid [] before db h a = h
 more_valid (m ∷ made) before db h a = more_valid made before (insert db m.name (m.entry before))
     (put_valid db m.name (m.entry before) h a.0) a.1
 
-pub carried_values : (tables : Tables) (op : Operator) (db : Database) → OperatorHolds op
-    → HoldsValues db → HoldsValues (carried tables op db)
-carried_values tables op db g h =
+pub migrated_values : (tables : Tables) (op : Operator) (db : Database) → OperatorHolds op
+    → HoldsValues db → HoldsValues (migrate tables op db)
+migrated_values tables op db g h =
     more_valid (line tables op).made db (lose_all (line tables op).consumed db)
     (less_valid (line tables op).consumed db h) (made_valid tables db h op g)
 
@@ -299,7 +300,7 @@ module _ (past : Past) (command : PlainCommand) (is : IsPast past)
   after_values : (body : PlainBody) → BodyHolds body → HoldsValues (next_database body past)
   after_values (changing changes) g = changes_values (newest_tables past) changes
       (newest_database past) g newest_values
-  after_values (evolving op inverse) g = carried_values (newest_tables past) op
+  after_values (evolving op inverse) g = migrated_values (newest_tables past) op
       (newest_database past) g.0 newest_values
 
   values_stay : BodyHolds command.body → EachHolds (past_with past command)

@@ -27,7 +27,7 @@ use Rattle.smo_ops_spec.specs.Effects.{columns_of}
 use Rattle.smo_ops_spec.specs.Preconditions.{among, same_columns, is_free, differ, alike}
 use Rattle.smo_ops_spec.specs.Making.{union, from_one, from_two}
 use Rattle.smo_ops_spec.specs.OperatorTable.{line, a_table}
-use Rattle.smo_ops_spec.specs.After.{op_fault, schema_after, carried}
+use Rattle.smo_ops_spec.specs.After.{op_fault, schema_after, migrate}
 use Rattle.smo_ops_spec.specs.Losses.{IsEntryOrLost, IsDatabaseWithLosses}
 use Rattle.smo_ops_spec.specs.RowMeaning.{AreParts}
 use Rattle.smo_ops_spec.proofs.Firsts.{met}
@@ -36,7 +36,8 @@ use Rattle.smo_ops_spec.proofs.StepLaws.{all_met}
 use Rattle.smo_ops_spec.proofs.NextSchemas.{all_preconditions, is_table}
 use Rattle.smo_ops_spec.proofs.MetPreconditions.{RenameMet, rename_met, CopyMet, copy_met}
 use Rattle.smo_ops_spec.proofs.MetPreconditions.{MergeMet, merge_met}
-use Rattle.smo_ops_spec.proofs.TouchedTables.{opposite, made_is_there, made_is_carried, table_stays}
+use Rattle.smo_ops_spec.proofs.TouchedTables.{opposite, made_is_there, made_is_migrated}
+use Rattle.smo_ops_spec.proofs.TouchedTables.{table_stays}
 use Rattle.smo_ops_spec.proofs.TouchedTables.{entry_stays, one_of, free_name}
 use Rattle.smo_ops_spec.proofs.MadeRows.{columns_same}
 
@@ -65,9 +66,9 @@ module _ (tables : Tables) (r t : List ℕ) where
         ∙ found (get tables r) (is_table tables r met_rename.there)
 
     pub renamed_rows : (db : Database) → IsDatabaseWithLosses tables db
-        → get (carried tables (rename_table r t) db) t ≡ get db r
+        → get (migrate tables (rename_table r t) db) t ≡ get db r
     renamed_rows db h =
-        made_is_carried tables (rename_table r t) db
+        made_is_migrated tables (rename_table r t) db
         (a_table t (columns_of tables r) (λ db. from_one (λ rows. rows) (get db r))) e
         (inl refl)
         ∙ kept (get tables r) (get db r) (is_table tables r met_rename.there)
@@ -85,9 +86,9 @@ module _ (tables : Tables) (r t : List ℕ) where
         ∙ found (get tables r) (is_table tables r met_copy.there)
 
     pub copied_rows : (db : Database) → IsDatabaseWithLosses tables db
-        → get (carried tables (copy_table r t) db) t ≡ get db r
+        → get (migrate tables (copy_table r t) db) t ≡ get db r
     copied_rows db h =
-        made_is_carried tables (copy_table r t) db
+        made_is_migrated tables (copy_table r t) db
         (a_table t (columns_of tables r) (λ db. from_one (λ rows. rows) (get db r))) e
         (inl refl)
         ∙ kept (get tables r) (get db r) (is_table tables r met_copy.there)
@@ -108,7 +109,7 @@ module _ (tables : Tables) (r t : List ℕ) where
     pub original_columns : get (schema_after tables (copy_table r t)) r ≡ get tables r
     original_columns = table_stays tables (copy_table r t) r other_name refl
 
-    pub original_rows : (db : Database) → get (carried tables (copy_table r t) db) r ≡ get db r
+    pub original_rows : (db : Database) → get (migrate tables (copy_table r t) db) r ≡ get db r
     original_rows db = entry_stays tables (copy_table r t) r other_name db refl
 
 -- one relation stands there
@@ -156,9 +157,9 @@ in_parts p columns rows r = record {
 module _ (tables : Tables) (r s t : List ℕ) (c : Test) (db : Database) where
   pub partition_parts : (rows meeting others : Relation)
       → op_fault tables (partition_table r s c t) ≡ None → IsDatabaseWithLosses tables db
-      → get db r ≡ Some (Rows rows) → get (carried tables (partition_table r s c t) db) s
+      → get db r ≡ Some (Rows rows) → get (migrate tables (partition_table r s c t) db) s
       ≡ Some (Rows meeting)
-      → get (carried tables (partition_table r s c t) db) t ≡ Some (Rows others)
+      → get (migrate tables (partition_table r s c t) db) t ≡ Some (Rows others)
       → AreParts (meets (columns_of tables r) c) rows meeting others
   partition_parts rows meeting others e h is first second =
       let columns : List Column = columns_of tables r in
@@ -166,13 +167,13 @@ module _ (tables : Tables) (r s t : List ℕ) (c : Test) (db : Database) where
       let b : List Row = filter (λ row. not (meets columns c row)) rows in
       let y : a ≡ meeting = one_relation a meeting
       (ap (λ (x : Option DatabaseEntry). Some (from_one (filter (meets columns c)) x)) (sym is)
-      ∙ sym (made_is_carried tables (partition_table r s c t) db
+      ∙ sym (made_is_migrated tables (partition_table r s c t) db
       (a_table s columns (λ db. from_one (filter (meets columns c)) (get db r))) e (inl refl))
       ∙ first) in
       let n : b ≡ others = one_relation b others
       (ap (λ (x : Option DatabaseEntry). Some
       (from_one (filter (λ row. not (meets columns c row))) x)) (sym is)
-      ∙ sym (made_is_carried tables (partition_table r s c t) db
+      ∙ sym (made_is_migrated tables (partition_table r s c t) db
       (a_table t columns (λ db. from_one (filter (λ row. not (meets columns c row)))
       (get db r))) e (inr (inl refl))) ∙ second) in
       let one = ascending (get tables r) rows
@@ -261,7 +262,7 @@ module _ (tables : Tables) (r s t : List ℕ) (e : op_fault tables (merge_table 
       ∙ ap (λ (cs : List Column). insert (remove (remove tables s) r) t cs) alike_columns
 
   pub merged_rows_turned : (db : Database) → IsDatabase tables db
-      → carried tables (merge_table r s t) db ≡ carried tables (merge_table s r t) db
+      → migrate tables (merge_table r s t) db ≡ migrate tables (merge_table s r t) db
   merged_rows_turned db h =
       ap (λ (x : Database). insert x t (from_two union (get db r) (get db s)))
       (entries_removed_turned db r s)
@@ -272,14 +273,14 @@ module _ (tables : Tables) (r s t : List ℕ) (e : op_fault tables (merge_table 
 
   pub merged_members : (db : Database) (first second made : Relation) (row : Row)
       → get db r ≡ Some (Rows first) → get db s ≡ Some (Rows second)
-      → get (carried tables (merge_table r s t) db) t ≡ Some (Rows made)
+      → get (migrate tables (merge_table r s t) db) t ≡ Some (Rows made)
       → In row made ↔ (In row first ⊎ In row second)
   merged_members db first second made row is also now =
       subst (λ (x : Relation). In row x ↔ (In row first ⊎ In row second))
       (one_relation (union first second) made
       (ap (λ (x : Option DatabaseEntry). Some (from_two union x (Some (Rows second)))) (sym is)
       ∙ ap (λ (x : Option DatabaseEntry). Some (from_two union (get db r) x)) (sym also)
-      ∙ sym (made_is_carried tables (merge_table r s t) db
+      ∙ sym (made_is_migrated tables (merge_table r s t) db
       (a_table t (columns_of tables r) (λ x. from_two union (get x r) (get x s))) e (inl refl))
       ∙ now))
       (union_members first second row)

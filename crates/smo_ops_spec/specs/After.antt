@@ -34,8 +34,8 @@ make_all [] before db = db
 make_all (m ∷ made) before db = make_all made before (insert db m.name (m.entry before))
 
 -- the database over the next schema
-abbrev pub carried : Tables → Operator → Database → Database
-carried tables op db = make_all (line tables op).made db (lose_all (line tables op).consumed db)
+abbrev pub migrate : Tables → Operator → Database → Database
+migrate tables op db = make_all (line tables op).made db (lose_all (line tables op).consumed db)
 
 -- what `after` answers
 abbrev pub IsAfter : Tables → Operator → Result Tables (CallFault OpRefusal) → Type 0

@@ -51,8 +51,8 @@ abbrev pub union : Relation → Relation → Relation
 union a b = set_of row_cmp (a ++ b)
 
 -- each row with the expression's value in one column more
-abbrev pub added : List Column → List ℕ → Tree → Row → List ℕ → Value
-added columns c e row name = if same c name then value (own_cells columns row) e
+abbrev pub added_value : List Column → List ℕ → Tree → Row → List ℕ → Value
+added_value columns c e row name = if same c name then value (own_cells columns row) e
     else cell columns row name
 
 -- each row with the old column's value under the new name

@@ -17,7 +17,7 @@ use Rattle.smo_ops_spec.specs.Preconditions.{each_once, each_known, is_new, few_
 use Rattle.smo_ops_spec.specs.Preconditions.{alike, joinable, cover, another_column, known_in}
 use Rattle.smo_ops_spec.specs.Preconditions.{typed_in, test_known_in, test_typed_in}
 use Rattle.smo_ops_spec.specs.Making.{in_order, named, without, renamed, with_column, type_of_value}
-use Rattle.smo_ops_spec.specs.Making.{joined_columns, image, union, added, moved, join_rows}
+use Rattle.smo_ops_spec.specs.Making.{joined_columns, image, union, added_value, moved, join_rows}
 use Rattle.smo_ops_spec.specs.Making.{from_one, from_two}
 
 -- a made table: its name, its columns, and what it has, by the database before
@@ -127,7 +127,7 @@ line tables (add_column c e r) =
     record {
       preconditions = is_there tables r ∷ is_new r columns c ∷ known_in r columns e
           ∷ typed_in columns e ∷ few_columns new ∷ [];
-      made = a_table r new (λ db. from_one (image new (added columns c e)) (get db r)) ∷ [];
+      made = a_table r new (λ db. from_one (image new (added_value columns c e)) (get db r)) ∷ [];
       consumed = r ∷ [];
     }
 line tables (drop_column c r) =

@@ -9,7 +9,7 @@ use Rattle.schema_catalog.specs.Databases.{Database}
 use Rattle.smo_ops_types.specs.Operators.{Operator}
 use Rattle.smo_ops_types.specs.Commands.{PlainBody, changing, evolving, PlainCommand, PlainVersion}
 use Rattle.smo_ops_spec.specs.Effects.{after_each, gained, lost}
-use Rattle.smo_ops_spec.specs.After.{schema_after, carried}
+use Rattle.smo_ops_spec.specs.After.{schema_after, migrate}
 use Rattle.smo_ops_spec.specs.Sizes.{Size, sizes_changed, sizes_evolved}
 
 -- from a moment on the database is this one
@@ -136,7 +136,7 @@ next_version stamp op inverse past = record {
 abbrev pub next_database : PlainBody → Past → Database
 next_database (changing changes) past = after_each (newest_tables past) changes
     (newest_database past)
-next_database (evolving op inverse) past = carried (newest_tables past) op (newest_database past)
+next_database (evolving op inverse) past = migrate (newest_tables past) op (newest_database past)
 
 abbrev pub next_past : ℕ → PlainBody → Past → Past
 next_past stamp (changing changes) past = changed_to stamp (next_database (changing changes) past)

@@ -16,7 +16,7 @@ ghost use Rattle.smo_ops_spec.specs.First.{first_refusal};
 ghost use Rattle.smo_ops_spec.specs.OneRow.{Row, Relation};
 ghost use Rattle.smo_ops_spec.specs.Effects.{relation_after, after_each, gained_rows, gained, lost};
 ghost use Rattle.smo_ops_spec.specs.Inserting.{relation_after_each, insertions};
-ghost use Rattle.smo_ops_spec.specs.After.{op_fault, schema_after, carried, IsValid, HasFewNodes};
+ghost use Rattle.smo_ops_spec.specs.After.{op_fault, schema_after, migrate, IsValid, HasFewNodes};
 ghost use Rattle.smo_ops_spec.specs.After.{HaveFewNodes};
 ghost use Rattle.smo_ops_spec.specs.Inverses.{inverse_fault, schema_after_each};
 ghost use Rattle.smo_ops_spec.specs.Inverses.{AllOperatorsAccepted, IsFirstRefused, IsMissed};
@@ -73,7 +73,7 @@ pub fn create_table_is_valid()
     ensures database { (tables : Tables) → (database : Database) → (r : List ℕ)
         → (columns : List Column) → IsDatabase tables database
         → IsDatabase (schema_after tables (create_table r columns))
-        (carried tables (create_table r columns) database) }
+        (migrate tables (create_table r columns) database) }
 {}
 
 /// Where a command's counts are within their limits, its operator and those of its inverse have few
@@ -169,7 +169,7 @@ pub fn commands_make_valid_pasts()
 
 /// Whether a command is accepted depends on the newest schema, on how many versions there are, and
 /// on the last stamp alone.
-pub fn a_command_is_judged_by_the_newest_schema()
+pub fn a_command_is_checked_by_the_newest_schema()
     ensures { (p : Past) → (q : Past) → newest_tables p ≡ newest_tables q
         → length p.versions ≡ length q.versions → p.last ≡ q.last
         → (command : PlainCommand) → command_fault p command ≡ command_fault q command }
@@ -218,9 +218,9 @@ pub fn pasts_that_agree_have_the_same_states()
 /// commands have valid constants holds valid values in its database at each moment, and in the
 /// operators and the inverses of its versions.
 pub fn valid_values_stay()
-    ensures carried { (tables : Tables) → (op : Operator) → (database : Database) → OperatorHolds op
+    ensures migrate { (tables : Tables) → (op : Operator) → (database : Database) → OperatorHolds op
         → HoldsValues database
-        → HoldsValues (carried tables op database) }
+        → HoldsValues (migrate tables op database) }
     ensures changed { (tables : Tables) → (changes : List PlainChange) → (database : Database)
         → ChangesHold changes → HoldsValues database
         → HoldsValues (after_each tables changes database) }

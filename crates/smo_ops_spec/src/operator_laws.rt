@@ -21,7 +21,7 @@ ghost use Rattle.smo_ops_spec.specs.Losses.{IsDatabaseWithLosses, loss_in, first
 ghost use Rattle.smo_ops_spec.specs.Agreeing.{AgreeOn};
 ghost use Rattle.smo_ops_spec.specs.Touching.{makes, consumes, made_of};
 ghost use Rattle.smo_ops_spec.specs.RowMeaning.{AreParts, RowsFollow, SameBut, SameIn, IsOfJoin};
-ghost use Rattle.smo_ops_spec.specs.After.{op_fault, schema_after, carried, IsValid};
+ghost use Rattle.smo_ops_spec.specs.After.{op_fault, schema_after, migrate, IsValid};
 
 /// After an operator whose preconditions hold, a valid schema is followed by a valid one: each
 /// table's columns stand in the order of their names, each once, at most 32 of them, and there are
@@ -39,7 +39,7 @@ pub fn other_tables_stay()
         → get (schema_after tables op) n ≡ get tables n }
     ensures database { (tables : Tables) → (op : Operator) → (database : Database) → (n : List ℕ)
         → makes tables op n ≡ false → consumes tables op n ≡ false
-        → get (carried tables op database) n ≡ get database n }
+        → get (migrate tables op database) n ≡ get database n }
 {}
 
 /// A consumed table that is not made again is gone. Each consumed table was there.
@@ -49,7 +49,7 @@ pub fn consumed_tables_are_gone()
         → get (schema_after tables op) n ≡ None }
     ensures database { (tables : Tables) → (op : Operator) → (database : Database) → (n : List ℕ)
         → makes tables op n ≡ false → consumes tables op n ≡ true
-        → get (carried tables op database) n ≡ None }
+        → get (migrate tables op database) n ≡ None }
     ensures before { (tables : Tables) → (op : Operator) → (n : List ℕ) → op_fault tables op ≡ None
         → consumes tables op n ≡ true
         → contains_key tables n ≡ true }
@@ -63,7 +63,7 @@ pub fn made_tables_are_there()
         → get (schema_after tables op) m.name ≡ Some m.columns }
     ensures database { (tables : Tables) → (op : Operator) → (database : Database) → (m : Made)
         → op_fault tables op ≡ None → In m (line tables op).made
-        → get (carried tables op database) m.name ≡ Some (m.entry database) }
+        → get (migrate tables op database) m.name ≡ Some (m.entry database) }
     ensures free { (tables : Tables) → (op : Operator) → (n : List ℕ) → op_fault tables op ≡ None
         → makes tables op n ≡ true
         → contains_key tables n ≡ true → consumes tables op n ≡ true }
@@ -116,19 +116,19 @@ pub fn made_columns_by_name()
 pub fn nop_changes_nothing()
     ensures schema { (tables : Tables) → schema_after tables nop ≡ tables }
     ensures database { (tables : Tables) → (database : Database)
-        → carried tables nop database ≡ database }
+        → migrate tables nop database ≡ database }
 {}
 
 /// The carried database is one of the next schema: it has just its tables, each a relation of its
 /// columns; and where tables of the database before are lost, each that is not lost.
-pub fn carried_database_is_of_the_next_schema()
+pub fn migrated_database_is_of_the_next_schema()
     ensures whole { (tables : Tables) → (op : Operator) → (database : Database) → IsSchema tables
         → op_fault tables op ≡ None → IsDatabase tables database
-        → IsDatabase (schema_after tables op) (carried tables op database) }
+        → IsDatabase (schema_after tables op) (migrate tables op database) }
     ensures losses { (tables : Tables) → (op : Operator) → (database : Database) → IsSchema tables
         → op_fault tables op ≡ None
         → IsDatabaseWithLosses tables database
-        → IsDatabaseWithLosses (schema_after tables op) (carried tables op database) }
+        → IsDatabaseWithLosses (schema_after tables op) (migrate tables op database) }
 {}
 
 /// A made table is lost just where a table that it is made of is lost, by the loss of the first of
@@ -136,7 +136,7 @@ pub fn carried_database_is_of_the_next_schema()
 pub fn losses_are_handed_on()
     ensures { (tables : Tables) → (op : Operator) → (database : Database) → (m : Made)
         → op_fault tables op ≡ None
-        → In m (line tables op).made → loss_in (carried tables op database) m.name
+        → In m (line tables op).made → loss_in (migrate tables op database) m.name
         ≡ first_loss (loss_in database) (made_of op) }
 {}
 
@@ -146,17 +146,17 @@ pub fn made_tables_depend_on_their_inputs()
     ensures entry { (tables : Tables) → (op : Operator) → (a : Database) → (b : Database)
         → AgreeOn (made_of op) a b
         → (m : Made) → In m (line tables op).made → m.entry a ≡ m.entry b }
-    ensures carried { (tables : Tables) → (op : Operator) → (a : Database) → (b : Database)
+    ensures migrate { (tables : Tables) → (op : Operator) → (a : Database) → (b : Database)
         → op_fault tables op ≡ None → AgreeOn (made_of op) a b
         → (m : Made) → In m (line tables op).made
-        → get (carried tables op a) m.name ≡ get (carried tables op b) m.name }
+        → get (migrate tables op a) m.name ≡ get (migrate tables op b) m.name }
 {}
 
 /// The table of a CREATE TABLE has no row.
 pub fn created_table_is_empty()
     ensures { (tables : Tables) → (r : List ℕ) → (cs : List Column) → (database : Database)
         → op_fault tables (create_table r cs) ≡ None
-        → get (carried tables (create_table r cs) database) r ≡ Some (Rows []) }
+        → get (migrate tables (create_table r cs) database) r ≡ Some (Rows []) }
 {}
 
 /// RENAME TABLE keeps the table's columns and rows under the new name.
@@ -167,7 +167,7 @@ pub fn rename_keeps_the_rows()
     ensures database { (tables : Tables) → (r : List ℕ) → (t : List ℕ) → (database : Database)
         → op_fault tables (rename_table r t) ≡ None
         → IsDatabaseWithLosses tables database
-        → get (carried tables (rename_table r t) database) t ≡ get database r }
+        → get (migrate tables (rename_table r t) database) t ≡ get database r }
 {}
 
 /// COPY TABLE makes a table of the same columns and rows, and the old one stays.
@@ -179,8 +179,8 @@ pub fn copy_keeps_the_rows()
     ensures database { (tables : Tables) → (r : List ℕ) → (t : List ℕ) → (database : Database)
         → op_fault tables (copy_table r t) ≡ None
         → IsDatabaseWithLosses tables database
-        → (get (carried tables (copy_table r t) database) t ≡ get database r)
-        × (get (carried tables (copy_table r t) database) r ≡ get database r) }
+        → (get (migrate tables (copy_table r t) database) t ≡ get database r)
+        × (get (migrate tables (copy_table r t) database) r ≡ get database r) }
 {}
 
 /// The two tables of a PARTITION have no common row, the first has those that meet the condition
@@ -192,8 +192,8 @@ pub fn partition_is_in_two_parts()
         → op_fault tables (partition_table r s c t) ≡ None
         → IsDatabaseWithLosses tables database
         → get database r ≡ Some (Rows rows) → get
-        (carried tables (partition_table r s c t) database) s ≡ Some (Rows meeting)
-        → get (carried tables (partition_table r s c t) database) t ≡ Some (Rows others)
+        (migrate tables (partition_table r s c t) database) s ≡ Some (Rows meeting)
+        → get (migrate tables (partition_table r s c t) database) t ≡ Some (Rows others)
         → AreParts (meets (columns_of tables r) c) rows meeting others }
 {}
 
@@ -204,7 +204,7 @@ pub fn merge_is_the_union()
         → (first : Relation) → (second : Relation) → (made : Relation) → (row : Row)
         → op_fault tables (merge_table r s t) ≡ None
         → get database r ≡ Some (Rows first) → get database s ≡ Some (Rows second)
-        → get (carried tables (merge_table r s t) database) t ≡ Some (Rows made)
+        → get (migrate tables (merge_table r s t) database) t ≡ Some (Rows made)
         → In row made ↔ (In row first ⊎ In row second) }
     ensures turned { (first : Relation) → (second : Relation)
         → union first second ≡ union second first }
@@ -216,8 +216,8 @@ pub fn merge_is_the_union()
         → schema_after tables (merge_table r s t) ≡ schema_after tables (merge_table s r t) }
     ensures database { (tables : Tables) → (r : List ℕ) → (s : List ℕ) → (t : List ℕ)
         → (database : Database) → op_fault tables (merge_table r s t) ≡ None
-        → IsDatabase tables database → carried tables (merge_table r s t) database
-        ≡ carried tables (merge_table s r t) database }
+        → IsDatabase tables database → migrate tables (merge_table r s t) database
+        ≡ migrate tables (merge_table s r t) database }
 {}
 
 /// ADD COLUMN gives each row the expression's value in the new column, computed over the old row,
@@ -226,7 +226,7 @@ pub fn add_column_keeps_the_cells()
     ensures { (tables : Tables) → (c : List ℕ) → (r : List ℕ) → (e : Tree) → (database : Database)
         → (rows : Relation) → (made : Relation)
         → op_fault tables (add_column c e r) ≡ None → get database r ≡ Some (Rows rows)
-        → get (carried tables (add_column c e r) database) r ≡ Some (Rows made)
+        → get (migrate tables (add_column c e r) database) r ≡ Some (Rows made)
         → RowsFollow (λ row new. SameBut (c ∷ []) (columns_of tables r)
         (columns_of (schema_after tables (add_column c e r)) r) row new
         × (cell (columns_of (schema_after tables (add_column c e r)) r) new c
@@ -238,7 +238,7 @@ pub fn drop_column_keeps_the_other_cells()
     ensures { (tables : Tables) → (c : List ℕ) → (r : List ℕ) → (database : Database)
         → (rows : Relation) → (made : Relation)
         → op_fault tables (drop_column c r) ≡ None → get database r ≡ Some (Rows rows)
-        → get (carried tables (drop_column c r) database) r ≡ Some (Rows made)
+        → get (migrate tables (drop_column c r) database) r ≡ Some (Rows made)
         → RowsFollow (SameBut (c ∷ []) (columns_of tables r)
         (columns_of (schema_after tables (drop_column c r)) r)) rows made }
 {}
@@ -248,7 +248,7 @@ pub fn rename_column_keeps_the_cells()
     ensures { (tables : Tables) → (b : List ℕ) → (r : List ℕ) → (c : List ℕ) → (database : Database)
         → (rows : Relation) → (made : Relation)
         → op_fault tables (rename_column b r c) ≡ None → get database r ≡ Some (Rows rows)
-        → get (carried tables (rename_column b r c) database) r ≡ Some (Rows made)
+        → get (migrate tables (rename_column b r c) database) r ≡ Some (Rows made)
         → RowsFollow (λ row new. SameBut (b ∷ c ∷ []) (columns_of tables r)
         (columns_of (schema_after tables (rename_column b r c)) r) row new
         × (cell (columns_of (schema_after tables (rename_column b r c)) r) new c
@@ -263,7 +263,7 @@ pub fn join_has_the_cells_of_both()
         → (first : Relation) → (second : Relation) → (made : Relation) → (row : Row)
         → op_fault tables (join_table r s t c) ≡ None
         → get database r ≡ Some (Rows first) → get database s ≡ Some (Rows second)
-        → get (carried tables (join_table r s t c) database) t ≡ Some (Rows made)
+        → get (migrate tables (join_table r s t c) database) t ≡ Some (Rows made)
         → IsRow (columns_of (schema_after tables (join_table r s t c)) t) row
         → In row made ↔ IsOfJoin (columns_of tables r) (columns_of tables s)
         (columns_of (schema_after tables (join_table r s t c)) t) c first second row }
@@ -276,7 +276,7 @@ pub fn decompose_makes_the_projections()
         → (rows : Relation) → (made : Relation)
         → op_fault tables (decompose_table r s xs t ys) ≡ None
         → get database r ≡ Some (Rows rows)
-        → get (carried tables (decompose_table r s xs t ys) database) s ≡ Some (Rows made)
+        → get (migrate tables (decompose_table r s xs t ys) database) s ≡ Some (Rows made)
         → RowsFollow (SameIn xs (columns_of tables r)
         (columns_of (schema_after tables (decompose_table r s xs t ys)) s)) rows made }
     ensures second { (tables : Tables) → (r : List ℕ) → (s : List ℕ) → (xs : List (List ℕ))
@@ -284,7 +284,7 @@ pub fn decompose_makes_the_projections()
         → (rows : Relation) → (made : Relation)
         → op_fault tables (decompose_table r s xs t ys) ≡ None
         → get database r ≡ Some (Rows rows)
-        → get (carried tables (decompose_table r s xs t ys) database) t ≡ Some (Rows made)
+        → get (migrate tables (decompose_table r s xs t ys) database) t ≡ Some (Rows made)
         → RowsFollow (SameIn ys (columns_of tables r)
         (columns_of (schema_after tables (decompose_table r s xs t ys)) t)) rows made }
 {}
@@ -303,8 +303,8 @@ pub fn decomposed_and_joined_again()
         → (rows : Relation) → (left : Relation) → (right : Relation) → IsSchema tables
         → IsDatabaseWithLosses tables database
         → op_fault tables (decompose_table r s xs t ys) ≡ None → get database r ≡ Some (Rows rows)
-        → get (carried tables (decompose_table r s xs t ys) database) s ≡ Some (Rows left)
-        → get (carried tables (decompose_table r s xs t ys) database) t ≡ Some (Rows right)
+        → get (migrate tables (decompose_table r s xs t ys) database) s ≡ Some (Rows left)
+        → get (migrate tables (decompose_table r s xs t ys) database) t ≡ Some (Rows right)
         → (row : Row) → In row rows
         → In row (join_rows (columns_of (schema_after tables (decompose_table r s xs t ys)) s)
         (columns_of (schema_after tables (decompose_table r s xs t ys)) t) always left right) }

@@ -14,7 +14,7 @@ use Rattle.smo_ops_types.specs.Operators.{Operator}
 use Rattle.smo_ops_spec.specs.OperatorTable.{Made, line, made_names}
 use Rattle.smo_ops_spec.specs.Touching.{made_of}
 use Rattle.smo_ops_spec.specs.Losses.{Loss, loss_of, loss_in, first_loss}
-use Rattle.smo_ops_spec.specs.After.{carried, lose_all, make_all}
+use Rattle.smo_ops_spec.specs.After.{migrate, lose_all, make_all}
 use Rattle.smo_ops_spec.proofs.LossLaws.{AllLose, each_hands_on}
 use Rattle.smo_ops_versions_spec.specs.Steps.{Step, carrying, undoing, taken}
 use Rattle.smo_ops_versions_spec.specs.Migration.{lost_by, undone, stepped}
@@ -103,7 +103,7 @@ first_is losses db h (n ∷ names) = ap (λ o. option_or o (first_loss (loss_in 
     ∙ ap (option_or (get losses n)) (first_is losses db h names)
 
 one_operator : (tables : Tables) (op : Operator) (losses : Losses) (db : Database)
-    → AreLosses losses db → AreLosses (losses_over tables op losses) (carried tables op db)
+    → AreLosses losses db → AreLosses (losses_over tables op losses) (migrate tables op db)
 one_operator tables op losses db h =
     made_by (first_loss (get losses) (made_of op)) db (line tables op).made _ _
     (subst (λ (o : Option Loss). AllLose o db (line tables op).made)

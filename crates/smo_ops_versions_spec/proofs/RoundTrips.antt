@@ -24,7 +24,7 @@ use Rattle.smo_ops_spec.specs.Preconditions.{among, is_there, is_free, differ, a
 use Rattle.smo_ops_spec.specs.Making.{union, from_one, from_two}
 use Rattle.smo_ops_spec.specs.OperatorTable.{line}
 use Rattle.smo_ops_spec.specs.Losses.{IsEntryOrLost, IsDatabaseWithLosses}
-use Rattle.smo_ops_spec.specs.After.{op_fault, schema_after, carried}
+use Rattle.smo_ops_spec.specs.After.{op_fault, schema_after, migrate}
 use Rattle.smo_ops_spec.specs.Inverses.{inverse_fault}
 use Rattle.smo_ops_spec.proofs.Firsts.{met}
 use Rattle.smo_ops_spec.proofs.NameLaws.{same_itself, same_turned}
@@ -206,13 +206,13 @@ module _ (tables : Tables) (r t : List ℕ) (e : op_fault tables (rename_table r
       back_schema
 
   pub rename_back : (db : Database) → IsDatabaseWithLosses tables db
-      → carried (schema_after tables (rename_table r t)) (rename_table t r)
-      (carried tables (rename_table r t) db) ≡ db
+      → migrate (schema_after tables (rename_table r t)) (rename_table t r)
+      (migrate tables (rename_table r t) db) ≡ db
   rename_back db h =
       let x = some_entry (get tables r) (get db r) (h r) rename_is in
       let is : from_one (λ rows. rows) (get db r) ≡ x.0 = ap (from_one (λ rows. rows)) x.1
       ∙ itself x.0 in
-      ap (λ (o : Option DatabaseEntry). insert (remove (carried tables (rename_table r t) db) t) r
+      ap (λ (o : Option DatabaseEntry). insert (remove (migrate tables (rename_table r t) db) t) r
       (from_one (λ rows. rows) o)) (there (remove db r) t (from_one (λ rows. rows) (get db r)))
       ∙ ap (λ (y : DatabaseEntry). insert (remove (insert (remove db r) t y) t) r
       (from_one (λ rows. rows) (Some y))) is
@@ -237,8 +237,8 @@ module _ (tables : Tables) (r t : List ℕ) (e : op_fault tables (copy_table r t
       (dropped_again tables t (columns_of tables r) copy_free)
 
   pub copy_back : (db : Database) → IsDatabaseWithLosses tables db
-      → carried (schema_after tables (copy_table r t)) (drop_table t)
-      (carried tables (copy_table r t) db) ≡ db
+      → migrate (schema_after tables (copy_table r t)) (drop_table t)
+      (migrate tables (copy_table r t) db) ≡ db
   copy_back db h = dropped_again db t (from_one (λ rows. rows) (get db r))
       (no_entry (get tables t) (get db t) (h t) copy_free)
 
@@ -339,13 +339,13 @@ module _ (tables : Tables) (r s t : List ℕ) (c : Test)
       (merge_accepted, tt) merge_schema
 
   pub partition_back : (db : Database) → IsDatabaseWithLosses tables db
-      → carried (schema_after tables (partition_table r s c t)) (merge_table s t r)
-      (carried tables (partition_table r s c t) db) ≡ db
+      → migrate (schema_after tables (partition_table r s c t)) (merge_table s t r)
+      (migrate tables (partition_table r s c t) db) ≡ db
   partition_back db h =
       let x = some_entry (get tables r) (get db r) (h r) part_is in
       let p : Row → Bool = meets its c in
       let q : Row → Bool = λ row. not (meets its c row) in
-      let D : Database = carried tables (partition_table r s c t) db in
+      let D : Database = migrate tables (partition_table r s c t) db in
       ap (λ (o : Option DatabaseEntry). insert (remove (remove D s) t) r
       (from_two union o (get D t))) (first_part db (from_one (filter p) (get db r))
       (from_one (filter q) (get db r)))

@@ -21,9 +21,9 @@ use Rattle.smo_ops_versions_spec.specs.Steps.{Step, carrying, undoing, tables_be
 use Rattle.smo_ops_versions_spec.specs.Steps.{taken}
 use Rattle.smo_ops_versions_spec.specs.Steps.{IsLawful, Lead}
 use Rattle.smo_ops_versions_spec.specs.Ways.{to_next, from_next, way}
-use Rattle.smo_ops_versions_spec.specs.Migration.{lost_by, undone, stepped, carried_along, back}
+use Rattle.smo_ops_versions_spec.specs.Migration.{lost_by, undone, stepped, migrate_along, back}
 use Rattle.smo_ops_versions_spec.specs.Migration.{migrated_from}
-use Rattle.smo_ops_spec.proofs.CarriedDatabases.{carried_with_losses}
+use Rattle.smo_ops_spec.proofs.MigratedDatabases.{migrated_with_losses}
 use Rattle.smo_ops_spec.proofs.TouchedTables.{lost_others, table_stays, consumed_is_there}
 use Rattle.smo_ops_spec.proofs.TouchedTables.{made_is_free}
 use Rattle.smo_ops_versions_spec.proofs.StepLaws.{led}
@@ -105,7 +105,7 @@ module _ (loss : Loss) (before : Tables) (op : Operator)
 pub step_database : (s : Step) (db : Database) → IsLawful s
     → IsDatabaseWithLosses (tables_before s) db
     → IsDatabaseWithLosses (tables_behind s) (stepped s db)
-step_database (carrying tables op) db l h = carried_with_losses tables op db l.valid.schema
+step_database (carrying tables op) db l h = migrated_with_losses tables op db l.valid.schema
     l.accepted h
 step_database (undoing loss tables op) db l h = unnamed_database loss tables op l.accepted db h
 
@@ -116,10 +116,10 @@ steps_database before after steps db l h = led IsDatabaseWithLosses stepped
     (λ s x g k. step_database s x g k) before after steps db l h
 
 module _ (versions : List PlainVersion) (are : AreVersions None no_tables versions) where
-  pub carry_database : (k : ℕ) (db : Database)
+  pub migrate_database : (k : ℕ) (db : Database)
       → IsDatabaseWithLosses (tables_from no_tables versions k) db
-      → IsDatabaseWithLosses (tables_from no_tables versions (k + 1)) (carried_along versions k db)
-  carry_database k db h = steps_database (tables_from no_tables versions k)
+      → IsDatabaseWithLosses (tables_from no_tables versions (k + 1)) (migrate_along versions k db)
+  migrate_database k db h = steps_database (tables_from no_tables versions k)
       (tables_from no_tables versions (k + 1)) (to_next versions k) db (next_leads versions are k) h
 
   pub back_over_database : (k : ℕ) (db : Database)

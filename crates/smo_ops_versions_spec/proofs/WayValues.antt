@@ -18,9 +18,9 @@ use Rattle.smo_ops_versions_spec.specs.Steps.{StepHolds}
 use Rattle.smo_ops_versions_spec.specs.Ways.{back_over, over_version, back_over_version, to_next}
 use Rattle.smo_ops_versions_spec.specs.Ways.{from_next}
 use Rattle.smo_ops_versions_spec.specs.Ways.{way}
-use Rattle.smo_ops_versions_spec.specs.Migration.{lost_by, stepped, carried_along, back}
+use Rattle.smo_ops_versions_spec.specs.Migration.{lost_by, stepped, migrate_along, back}
 use Rattle.smo_ops_versions_spec.specs.Migration.{migrated_from}
-use Rattle.smo_ops_spec.proofs.ValueLaws.{less_valid, carried_values}
+use Rattle.smo_ops_spec.proofs.ValueLaws.{less_valid, migrated_values}
 use Rattle.smo_ops_versions_spec.proofs.StepLaws.{taken_kept}
 use Rattle.smo_ops_versions_spec.proofs.WaySteps.{way_all}
 use Rattle.smo_ops_versions_spec.proofs.WayDatabases.{lost_by_at}
@@ -36,7 +36,7 @@ lost_values loss names db h n =
 
 pub step_values : (s : Step) (db : Database) → StepHolds s → HoldsValues db
     → HoldsValues (stepped s db)
-step_values (carrying tables op) db g h = carried_values tables op db g h
+step_values (carrying tables op) db g h = migrated_values tables op db g h
 step_values (undoing loss before op) db g h =
     lost_values loss (line before op).consumed (lose_all (made_names (line before op).made) db)
     (less_valid (made_names (line before op).made) db h)
@@ -86,9 +86,9 @@ module _ (versions : List PlainVersion) (hold : VersionsHold versions) where
   pub way_holds : (v q : ℕ) → AllSteps StepHolds (way versions v q)
   way_holds v q = way_all versions StepHolds v q next_hold (λ k low high. from_next_hold k)
 
-  pub carry_values : (k : ℕ) (db : Database) → HoldsValues db
-      → HoldsValues (carried_along versions k db)
-  carry_values k db h = taken_kept HoldsValues StepHolds stepped (λ s x g l. step_values s x g l)
+  pub migrate_values : (k : ℕ) (db : Database) → HoldsValues db
+      → HoldsValues (migrate_along versions k db)
+  migrate_values k db h = taken_kept HoldsValues StepHolds stepped (λ s x g l. step_values s x g l)
       (to_next versions k) db (next_hold k) h
 
   pub step_back_values : (k : ℕ) (db : Database) → HoldsValues db → HoldsValues (back versions k db)

@@ -3,5 +3,5 @@ pub mod Steps
 pub mod Ways
 pub mod Migration
 pub mod LostNames
-pub mod Whole
+pub mod LostAsEmpty
 pub mod Lifelines

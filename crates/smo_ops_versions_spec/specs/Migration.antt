@@ -6,7 +6,7 @@ use Rattle.schema_catalog.specs.Databases.{Lost, Database}
 use Rattle.smo_ops_types.specs.Operators.{Operator}
 use Rattle.smo_ops_types.specs.Commands.{PlainVersion}
 use Rattle.smo_ops_spec.specs.OperatorTable.{line, made_names}
-use Rattle.smo_ops_spec.specs.After.{carried, lose_all}
+use Rattle.smo_ops_spec.specs.After.{migrate, lose_all}
 use Rattle.smo_ops_spec.specs.Losses.{Loss}
 use Rattle.smo_ops_spec.specs.Past.{Past, version_at, database_at}
 use Rattle.smo_ops_versions_spec.specs.Steps.{Step, carrying, undoing, carrying_each, taken}
@@ -25,16 +25,16 @@ undone loss before op db =
 
 -- a database over one step
 abbrev pub stepped : Step → Database → Database
-stepped (carrying tables op) db = carried tables op db
+stepped (carrying tables op) db = migrate tables op db
 stepped (undoing loss before op) db = undone loss before op db
 
 -- a database carried over operators, first to last
-abbrev pub carried_over : Tables → List Operator → Database → Database
-carried_over tables ops db = taken stepped (carrying_each tables ops) db
+abbrev pub migrate_over : Tables → List Operator → Database → Database
+migrate_over tables ops db = taken stepped (carrying_each tables ops) db
 
 -- from version k to the next, and from the next back to version k
-abbrev pub carried_along : List PlainVersion → ℕ → Database → Database
-carried_along versions k db = taken stepped (to_next versions k) db
+abbrev pub migrate_along : List PlainVersion → ℕ → Database → Database
+migrate_along versions k db = taken stepped (to_next versions k) db
 
 abbrev pub back : List PlainVersion → ℕ → Database → Database
 back versions k db = taken stepped (from_next versions k) db

@@ -6,7 +6,7 @@ ghost use Rattle.smo_ops_types.specs.Operators.{rename_table, copy_table, drop_t
 ghost use Rattle.smo_ops_types.specs.Operators.{partition_table};
 ghost use Rattle.smo_ops_types.specs.Operators.{merge_table};
 ghost use Rattle.smo_ops_spec.specs.Losses.{IsDatabaseWithLosses};
-ghost use Rattle.smo_ops_spec.specs.After.{op_fault, schema_after, carried};
+ghost use Rattle.smo_ops_spec.specs.After.{op_fault, schema_after, migrate};
 ghost use Rattle.smo_ops_spec.specs.Inverses.{inverse_fault};
 
 /// A RENAME TABLE has the one back as an inverse, and the two together give each database back,
@@ -18,8 +18,8 @@ pub fn renamed_back_is_as_before()
     ensures database { (tables : Tables) → (r : List ℕ) → (t : List ℕ) → (database : Database)
         → op_fault tables (rename_table r t) ≡ None
         → IsDatabaseWithLosses tables database
-        → carried (schema_after tables (rename_table r t)) (rename_table t r)
-        (carried tables (rename_table r t) database) ≡ database }
+        → migrate (schema_after tables (rename_table r t)) (rename_table t r)
+        (migrate tables (rename_table r t) database) ≡ database }
 {}
 
 /// A COPY TABLE has the DROP TABLE of the copy as an inverse, and the two together give each
@@ -31,8 +31,8 @@ pub fn copied_and_dropped_is_as_before()
     ensures database { (tables : Tables) → (r : List ℕ) → (t : List ℕ) → (database : Database)
         → op_fault tables (copy_table r t) ≡ None
         → IsDatabaseWithLosses tables database
-        → carried (schema_after tables (copy_table r t)) (drop_table t)
-        (carried tables (copy_table r t) database) ≡ database }
+        → migrate (schema_after tables (copy_table r t)) (drop_table t)
+        (migrate tables (copy_table r t) database) ≡ database }
 {}
 
 /// A PARTITION TABLE has the MERGE TABLE of its two parts as an inverse, and the two together give
@@ -44,6 +44,6 @@ pub fn partitioned_and_merged_is_as_before()
     ensures database { (tables : Tables) → (r : List ℕ) → (s : List ℕ) → (c : Test)
         → (t : List ℕ) → (database : Database)
         → op_fault tables (partition_table r s c t) ≡ None → IsDatabaseWithLosses tables database
-        → carried (schema_after tables (partition_table r s c t)) (merge_table s t r)
-        (carried tables (partition_table r s c t) database) ≡ database }
+        → migrate (schema_after tables (partition_table r s c t)) (merge_table s t r)
+        (migrate tables (partition_table r s c t) database) ≡ database }
 {}

@@ -7,19 +7,19 @@ ghost use Rattle.smo_ops_types.specs.Operators.{Operator};
 ghost use Rattle.smo_ops_types.specs.Commands.{PlainVersion};
 ghost use Rattle.smo_ops_spec.specs.Losses.{IsDatabaseWithLosses, Loss, loss_in};
 ghost use Rattle.smo_ops_spec.specs.Touching.{makes, consumes};
-ghost use Rattle.smo_ops_spec.specs.After.{op_fault, schema_after, carried, IsValid};
+ghost use Rattle.smo_ops_spec.specs.After.{op_fault, schema_after, migrate, IsValid};
 ghost use Rattle.smo_ops_spec.specs.Past.{no_tables, tables_from};
 ghost use Rattle.smo_ops_spec.specs.ValidPast.{AreVersions};
 ghost use Rattle.smo_ops_spec.specs.ValidValues.{HoldsValues, VersionsHold};
 ghost use Rattle.smo_ops_versions_spec.specs.TableColumns.{HaveColumns};
 ghost use Rattle.smo_ops_versions_spec.specs.Steps.{carrying_each, taken};
 ghost use Rattle.smo_ops_versions_spec.specs.Ways.{to_next, from_next};
-ghost use Rattle.smo_ops_versions_spec.specs.Migration.{carried_over, carried_along, back};
+ghost use Rattle.smo_ops_versions_spec.specs.Migration.{migrate_over, migrate_along, back};
 ghost use Rattle.smo_ops_versions_spec.specs.Migration.{migrated_from};
 ghost use Rattle.smo_ops_versions_spec.specs.LostNames.{Losses, AreLosses, losses_stepped};
 ghost use Rattle.smo_ops_versions_spec.specs.LostNames.{losses_over};
 ghost use Rattle.smo_ops_versions_spec.specs.LostNames.{losses_undone, lost_names, IsUnnamed};
-ghost use Rattle.smo_ops_versions_spec.specs.Whole.{whole};
+ghost use Rattle.smo_ops_versions_spec.specs.LostAsEmpty.{whole};
 
 /// The way from version to version, one step at a time and by way of a version between: to where
 /// one stands it changes nothing; to the next version it is carrying over that version's operator
@@ -32,7 +32,7 @@ pub fn the_way_is_step_by_step()
     ensures forward { (versions : List PlainVersion) → (v : ℕ) → (q : ℕ)
         → (database : Database) → v ≤ q
         → migrated_from versions v (q + 1) database
-        ≡ carried_along versions q (migrated_from versions v q database) }
+        ≡ migrate_along versions q (migrated_from versions v q database) }
     ensures back { (versions : List PlainVersion) → (v : ℕ) → (q : ℕ) → (database : Database)
         → q < v
         → migrated_from versions v q database
@@ -64,17 +64,17 @@ pub fn the_way_is_step_by_step()
 pub fn a_step_is_over_its_version()
     ensures forward { (versions : List PlainVersion) → (k : ℕ) → (v : PlainVersion)
         → (database : Database) → slice_get versions k ≡ Some v
-        → carried_along versions k database
-        ≡ carried (tables_from no_tables versions k) v.op database }
+        → migrate_along versions k database
+        ≡ migrate (tables_from no_tables versions k) v.op database }
     ensures named { (versions : List PlainVersion) → (k : ℕ) → (v : PlainVersion)
         → (database : Database) → (op : Operator) → (rest : List Operator)
         → slice_get versions k ≡ Some v → v.inverse ≡ op ∷ rest
-        → back versions k database ≡ carried_over v.tables v.inverse database }
+        → back versions k database ≡ migrate_over v.tables v.inverse database }
     ensures over_none { (tables : Tables) → (database : Database)
-        → carried_over tables [] database ≡ database }
+        → migrate_over tables [] database ≡ database }
     ensures over_each { (tables : Tables) → (op : Operator) → (ops : List Operator)
-        → (database : Database) → carried_over tables (op ∷ ops) database
-        ≡ carried_over (schema_after tables op) ops (carried tables op database) }
+        → (database : Database) → migrate_over tables (op ∷ ops) database
+        ≡ migrate_over (schema_after tables op) ops (migrate tables op database) }
     ensures lost { (versions : List PlainVersion) → (k : ℕ) → (v : PlainVersion)
         → (database : Database) → (n : List ℕ)
         → slice_get versions k ≡ Some v → v.inverse ≡ []
@@ -119,7 +119,7 @@ pub fn the_way_keeps_a_database()
         → AreVersions None no_tables versions
         → IsDatabaseWithLosses (tables_from no_tables versions k) database
         → IsDatabaseWithLosses (tables_from no_tables versions (k + 1))
-        (carried_along versions k database) }
+        (migrate_along versions k database) }
     ensures back { (versions : List PlainVersion) → (k : ℕ) → (database : Database)
         → AreVersions None no_tables versions
         → IsDatabaseWithLosses (tables_from no_tables versions (k + 1)) database
@@ -134,7 +134,7 @@ pub fn the_way_keeps_valid_values()
         → HoldsValues (migrated_from versions v q database) }
     ensures forward { (versions : List PlainVersion) → (k : ℕ) → (database : Database)
         → VersionsHold versions → HoldsValues database
-        → HoldsValues (carried_along versions k database) }
+        → HoldsValues (migrate_along versions k database) }
     ensures back { (versions : List PlainVersion) → (k : ℕ) → (database : Database)
         → VersionsHold versions → HoldsValues database → HoldsValues (back versions k database) }
 {}
@@ -155,8 +155,8 @@ pub fn what_is_lost_has_no_named_inverse()
         → get (lost_names versions v q) n ≡ Some loss → IsUnnamed versions v q loss }
 {}
 
-/// Each table of an accepted schema has a column: none of no tables lacks one, each operator that is
-/// accepted keeps that, and so it is at every version of a past.
+/// Each table of an accepted schema has a column: none of no tables lacks one, each operator that
+/// is accepted keeps that, and so it is at every version of a past.
 pub fn each_table_has_a_column()
     ensures beginning { HaveColumns no_tables }
     ensures kept { (tables : Tables) → (op : Operator) → IsValid tables → HaveColumns tables
@@ -176,8 +176,8 @@ pub fn a_lost_table_may_be_taken_for_an_empty_one()
         → loss_in database n ≡ Some loss → get (whole database) n ≡ Some (Rows []) }
     ensures database { (tables : Tables) → (database : Database)
         → IsDatabaseWithLosses tables database → IsDatabase tables (whole database) }
-    ensures carried { (tables : Tables) → (op : Operator) → (database : Database)
+    ensures migrate { (tables : Tables) → (op : Operator) → (database : Database)
         → op_fault tables op ≡ None → (n : List ℕ)
-        → loss_in (carried tables op database) n ≡ None
-        → get (carried tables op (whole database)) n ≡ get (whole (carried tables op database)) n }
+        → loss_in (migrate tables op database) n ≡ None
+        → get (migrate tables op (whole database)) n ≡ get (whole (migrate tables op database)) n }
 {}

@@ -10,10 +10,10 @@ use Rattle.smo_ops_types.specs.Operators.{Operator, operator_of}
 use Rattle.lexer_spec.specs.declared.token.Token.{Token}
 use Rattle.lexer_spec.specs.declared.kind.TokenKind.{TokenKind}
 use Rattle.lexer_spec.specs.declared.kind.TokenKind.TheVariants.{Word, Number, Text, Sign}
-use Rattle.lexer_spec.specs.declared.scanned.Scanned.TheVariants.{Of}
+use Rattle.lexer_spec.specs.declared.scan_of.Scanned.TheVariants.{Of}
 use Rattle.lexer_combinators.specs.declared.fault.ParseFault.{ParseFault}
 use Rattle.lexer_combinators.specs.declared.fault.ParseFault.TheVariants as fault
-use Rattle.lexer_spec.specs.Bytes.{scanned}
+use Rattle.lexer_spec.specs.Bytes.{scan_of}
 use Rattle.lexer_spec.specs.Lexemes.{Lexeme, says, lexeme}
 use Rattle.lexer_combinators.specs.Parsing.{Out, Parsed, Unexpected, LimitExceeded, Fine, Exceeds}
 use Rattle.lexer_combinators.specs.Parsing.{Valid as WithinLimits, limit}
@@ -31,7 +31,7 @@ use Rattle.smo_parse.proofs.PrintedOperators.{operator_prints}
 
 -- ---- tokens say what is valid
 
-token_valid : (kind : TokenKind) (bytes : List ℕ) → scanned bytes ≡ Of kind (length bytes)
+token_valid : (kind : TokenKind) (bytes : List ℕ) → scan_of bytes ≡ Of kind (length bytes)
     → Valid (says kind bytes)
 token_valid Word bytes e = λ ok. named Word bytes e refl ok
 token_valid Number bytes e = tt

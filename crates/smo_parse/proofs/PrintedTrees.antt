@@ -16,7 +16,8 @@ use Rattle.lexer_spec.specs.Lexemes.{Lexeme, word, number, text, sign, is_name}
 use Rattle.lexer_combinators.specs.Grammar.{Size, nothing_counted, both, one_node, one_open}
 use Rattle.lexer_combinators.specs.Grammar.{so_wide}
 use Rattle.lexer_trees_spec.specs.Grammar as g
-use Rattle.lexer_trees_spec.specs.Grammar.{spelled, leaf, IsExpr, AreParts, IsFact, AreFacts}
+use Rattle.lexer_trees_spec.specs.Grammar.{comparison_lexeme, leaf, IsExpr, AreParts, IsFact}
+use Rattle.lexer_trees_spec.specs.Grammar.{AreFacts}
 use Rattle.lexer_trees_spec.specs.Grammar.{IsConj}
 use Rattle.lexer_trees_spec.specs.Grammar.{AreConjs, IsCond}
 use Rattle.smo_parse.specs.TreeTexts.{sign_text, tree_text, more_trees_text, test_text}
@@ -99,18 +100,18 @@ in_brackets f bytes s = an_open (f ++ CLOSE ∷ []) (bytes ++ 41 ∷ [])
 
 -- between spaces
 compares : (o : CmpOp) (f : List Lexeme) (suffix : List ℕ) → Spells f suffix
-    → Spells (spelled o ∷ f) (32 ∷ (sign_text o ++ 32 ∷ suffix))
-compares Eq f suffix s = a_space _ _ (a_token (spelled Eq) f (32 ∷ suffix) refl refl
+    → Spells (comparison_lexeme o ∷ f) (32 ∷ (sign_text o ++ 32 ∷ suffix))
+compares Eq f suffix s = a_space _ _ (a_token (comparison_lexeme Eq) f (32 ∷ suffix) refl refl
     (a_space f suffix s))
-compares Ne f suffix s = a_space _ _ (a_token (spelled Ne) f (32 ∷ suffix) refl refl
+compares Ne f suffix s = a_space _ _ (a_token (comparison_lexeme Ne) f (32 ∷ suffix) refl refl
     (a_space f suffix s))
-compares Lt f suffix s = a_space _ _ (a_token (spelled Lt) f (32 ∷ suffix) refl refl
+compares Lt f suffix s = a_space _ _ (a_token (comparison_lexeme Lt) f (32 ∷ suffix) refl refl
     (a_space f suffix s))
-compares Le f suffix s = a_space _ _ (a_token (spelled Le) f (32 ∷ suffix) refl refl
+compares Le f suffix s = a_space _ _ (a_token (comparison_lexeme Le) f (32 ∷ suffix) refl refl
     (a_space f suffix s))
-compares Gt f suffix s = a_space _ _ (a_token (spelled Gt) f (32 ∷ suffix) refl refl
+compares Gt f suffix s = a_space _ _ (a_token (comparison_lexeme Gt) f (32 ∷ suffix) refl refl
     (a_space f suffix s))
-compares Ge f suffix s = a_space _ _ (a_token (spelled Ge) f (32 ∷ suffix) refl refl
+compares Ge f suffix s = a_space _ _ (a_token (comparison_lexeme Ge) f (32 ∷ suffix) refl refl
     (a_space f suffix s))
 
 -- a word between spaces, and what follows
@@ -443,12 +444,12 @@ mutual
             single (word (codes "FALSE")) FALSE;
       })
   fact_printed q c s f (g.comparison p o a b u v k m ha hb) r =
-      let i = expr_printed p a u k ha (valid_left k (spelled o ∷ m) r) in
-      let j = expr_printed p b v m hb (valid_right k (spelled o ∷ m) r).1 in
+      let i = expr_printed p a u k ha (valid_left k (comparison_lexeme o ∷ m) r) in
+      let j = expr_printed p b v m hb (valid_right k (comparison_lexeme o ∷ m) r).1 in
       same_ways p (compared o a b) (both u (one_node v)).nodes (both u (one_node v)).wide refl
       (record {
         size = both i.size (one_node j.size);
-        prefix = i.prefix ++ spelled o ∷ j.prefix;
+        prefix = i.prefix ++ comparison_lexeme o ∷ j.prefix;
         same = g.comparison p o a b i.size j.size i.prefix j.prefix i.same j.same;
         as_many = omega (arith, i.as_many, j.as_many);
         as_wide = λ w. wide_too _ _ _ _ (i.as_wide w) (j.as_wide w);
@@ -458,7 +459,7 @@ mutual
               i.no_deeper j.no_deeper,
         );
         spells = as_text _ _ _ (right5 (tree_text false a) (codes " ") (sign_text o) (codes " ")
-            (tree_text false b)) (join i.prefix (spelled o ∷ j.prefix) (tree_text false a)
+            (tree_text false b)) (join i.prefix (comparison_lexeme o ∷ j.prefix) (tree_text false a)
             (32 ∷ (sign_text o ++ 32 ∷ tree_text false b)) i.spells
             (compares o j.prefix (tree_text false b) j.spells) refl);
       })

@@ -4,10 +4,10 @@ use Rattle.std.proofs.Common.{◌++◌, length, map, take, drop, codes, Option, 
 use Rattle.std.proofs.Common.{◌∙◌, subst, arith, append_assoc, append-nil}
 use Rattle.lexer_spec.specs.declared.token.Token.{Token as Scanned_token}
 use Rattle.lexer_spec.specs.declared.kind.TokenKind.{TokenKind}
-use Rattle.lexer_spec.specs.declared.scanned.Scanned.{Scanned}
-use Rattle.lexer_spec.specs.declared.scanned.Scanned.TheVariants.{End, Of}
+use Rattle.lexer_spec.specs.declared.scan_of.Scanned.{Scanned}
+use Rattle.lexer_spec.specs.declared.scan_of.Scanned.TheVariants.{End, Of}
 use Rattle.lexer_spec.specs.declared.fault.LexFault.{LexFault}
-use Rattle.lexer_spec.specs.Bytes.{is_blank, gap_len, gap_dash, scanned}
+use Rattle.lexer_spec.specs.Bytes.{is_blank, gap_len, gap_dash, scan_of}
 use Rattle.lexer_spec.specs.Lexed.{Lexes, EndsBy, after_gap}
 use Rattle.lexer_spec.specs.Lexemes.{Lexeme, sign, says, lexeme}
 use Rattle.smo_parse.proofs.Spellings.{kind_of, written, Writable, Closing, closing_append, Token}
@@ -112,12 +112,12 @@ line_gap bytes = let e : gap_len false 0 bytes + 1 ≡ suc (gap_len false 0 byte
 without_space : (at : ℕ) (bytes : List ℕ) (ts : List Scanned_token) (e : Option LexFault)
     → Lexes at (32 ∷ bytes) ts e → Lexes (at + 1) bytes ts e
 without_space at bytes [] e h =
-    let P : ℕ → Type 0 = λ k. EndsBy (at + k) (scanned (drop k (32 ∷ bytes))) e in
-    let Q : ℕ → Type 0 = λ k. EndsBy k (scanned (after_gap bytes)) e in
+    let P : ℕ → Type 0 = λ k. EndsBy (at + k) (scan_of (drop k (32 ∷ bytes))) e in
+    let Q : ℕ → Type 0 = λ k. EndsBy k (scan_of (after_gap bytes)) e in
     let z : at + suc (gap_len false 0 bytes) ≡ at + 1 + gap_len false 0 bytes = omega arith in
     subst Q z (subst P (space_gap bytes) h)
 without_space at bytes (t ∷ ts) e h =
-    let P : ℕ → Type 0 = λ k. scanned (drop k (32 ∷ bytes)) ≡ Of t.kind (length t.text.now) in
+    let P : ℕ → Type 0 = λ k. scan_of (drop k (32 ∷ bytes)) ≡ Of t.kind (length t.text.now) in
     let Q : ℕ → Type 0 = λ k. t.text.now ≡ take (length t.text.now) (drop k (32 ∷ bytes)) in
     let R : ℕ → Type 0 = λ k. Lexes (t.at + length t.text.now)
     (drop (length t.text.now) (drop k (32 ∷ bytes))) ts e in
@@ -156,8 +156,8 @@ token_first x f rest k more at ts e h = by_tokens ts h
     after : after_gap (written x ++ rest) ≡ written x ++ rest
     after = ap (λ n. drop n (written x ++ rest)) k.near
 
-    is : scanned (after_gap (written x ++ rest)) ≡ Of (kind_of x) (length (written x))
-    is = ap scanned after ∙ k.whole
+    is : scan_of (after_gap (written x ++ rest)) ≡ Of (kind_of x) (length (written x))
+    is = ap scan_of after ∙ k.whole
 
     by_tokens : (us : List Scanned_token) → Lexes at (written x ++ rest) us e
         → (map lexeme us ≡ x ∷ f) × (e ≡ None)

@@ -13,19 +13,20 @@ use Rattle.std.proofs.lemmas.Str.Parse.{IsNumeralModel, numerals_by_fold}
 use Rattle.prima_base.specs.Bytes.{is_control, is_digit, is_name_byte, first_from, IsName, IsTxt}
 use Rattle.lexer_spec.specs.declared.kind.TokenKind.{TokenKind}
 use Rattle.lexer_spec.specs.declared.kind.TokenKind.TheVariants.{Word, Number, Text, Sign}
-use Rattle.lexer_spec.specs.declared.scanned.Scanned.TheVariants.{Of, Long, Big}
+use Rattle.lexer_spec.specs.declared.scan_of.Scanned.TheVariants.{Of, Long, Big}
 use Rattle.lexer_spec.specs.Bytes.{is_word_start, is_blank, gap_len, gap_dash, number_from}
 use Rattle.lexer_spec.specs.Bytes.{number as value_of, is_big, scanned_number, digits_of}
-use Rattle.lexer_spec.specs.Bytes.{text_value, text_from, text_quote, sized}
-use Rattle.lexer_spec.specs.Bytes.{sign as scanned_sign, scanned}
+use Rattle.lexer_spec.specs.Bytes.{text_value, text_from, text_quote, scan_sized}
+use Rattle.lexer_spec.specs.Bytes.{sign as scanned_sign, scan_of}
 use Rattle.lexer_spec.specs.Spaced.{Each, NoneNext, is_quote}
-use Rattle.lexer_spec.specs.Lexemes.{Lexeme, word, number, text, sign, signed, integer, says}
+use Rattle.lexer_spec.specs.Lexemes.{Lexeme, word, number, text, sign, signed_value, integer, says}
 use Rattle.lexer_spec.specs.Lexemes.{is_int, is_one_of}
 use Rattle.lexer_spec.proofs.Cases.{true_false, by_test}
-use Rattle.lexer_spec.proofs.Whole.{at_word, at_digit, at_quote, at_minus, at_sign, quote_step}
-use Rattle.lexer_spec.proofs.Whole.{plain_step, doubled_step, closed_step, last_step}
-use Rattle.lexer_spec.proofs.Whole.{value_plain, value_doubled, value_closed, value_last}
-use Rattle.lexer_spec.proofs.Whole.{or_true}
+use Rattle.lexer_spec.proofs.WholeTokens.{at_word, at_digit, at_quote, at_minus, at_sign}
+use Rattle.lexer_spec.proofs.WholeTokens.{quote_step}
+use Rattle.lexer_spec.proofs.WholeTokens.{plain_step, doubled_step, closed_step, last_step}
+use Rattle.lexer_spec.proofs.WholeTokens.{value_plain, value_doubled, value_closed, value_last}
+use Rattle.lexer_spec.proofs.WholeTokens.{or_true}
 use Rattle.lexer_spec.proofs.LexemeTests.{sign_exact}
 use Rattle.smo_parse.specs.TreeTexts.{doubled}
 
@@ -73,7 +74,7 @@ closing_append (b ∷ bytes) rest h k = h
 -- no gap stands before it, it is one token, and that says it
 pub record Token (x : Lexeme) (rest : List ℕ) : Type 0 where
   pub near : gap_len false 0 (written x ++ rest) ≡ 0
-  pub whole : scanned (written x ++ rest) ≡ Of (kind_of x) (length (written x))
+  pub whole : scan_of (written x ++ rest) ≡ Of (kind_of x) (length (written x))
   pub means : says (kind_of x) (written x) ≡ x
 
 -- ---- what a byte is
@@ -211,7 +212,7 @@ below n h = omega (arith, h)
 -- digits, with no sign before them
 digits_token : (n : ℕ) (ds rest : List ℕ) → n < 2 ^ 64 → 0 < length ds → Each is_digit ds
     → value_of ds ≡ n → Closing rest → (gap_len false 0 (ds ++ rest) ≡ 0)
-    × (scanned (ds ++ rest) ≡ Of Number (length ds)) × (integer ds ≡ pos n)
+    × (scan_of (ds ++ rest) ≡ Of Number (length ds)) × (integer ds ≡ pos n)
 digits_token n [] rest few some h e k = absurd (omega (arith, some))
 digits_token n (d ∷ ds) rest few some h e k = (
   no_gap d (ds ++ rest) (digit_no_blank d h.0) (digit_no_dash d h.0),
@@ -219,14 +220,14 @@ digits_token n (d ∷ ds) rest few some h e k = (
       ∙ ap (scanned_number false 0) (digits_are (d ∷ ds) rest h k)
       ∙ ap (λ t. cond t Big (Of Number (0 + length (d ∷ ds)))) (ap (is_big false) e ∙ not_big n few)
       ∙ (let z : 0 + length (d ∷ ds) ≡ length (d ∷ ds) = omega arith in ap (Of Number) z),
-  ap (λ t. cond t (signed true (value_of ds)) (signed false (value_of (d ∷ ds))))
+  ap (λ t. cond t (signed_value true (value_of ds)) (signed_value false (value_of (d ∷ ds))))
       (digit_no_dash d h.0) ∙ ap pos e,
 )
 
 minus_token : (n : ℕ) (ds rest : List ℕ) → suc n ≤ 9223372036854775808 → 0 < length ds
     → Each is_digit ds → value_of ds ≡ suc n → Closing rest
     → (gap_len false 0 (45 ∷ (ds ++ rest)) ≡ 0)
-    × (scanned (45 ∷ (ds ++ rest)) ≡ Of Number (length (45 ∷ ds))) × (integer (45 ∷ ds) ≡ negsuc n)
+    × (scan_of (45 ∷ (ds ++ rest)) ≡ Of Number (length (45 ∷ ds))) × (integer (45 ∷ ds) ≡ negsuc n)
 minus_token n [] rest few some h e k = absurd (omega (arith, some))
 minus_token n (d ∷ ds) rest few some h e k = (
   no_comment d (ds ++ rest) (digit_no_dash d h.0),
@@ -235,7 +236,7 @@ minus_token n (d ∷ ds) rest few some h e k = (
       ∙ ap (λ t. cond t Big (Of Number (1 + length (d ∷ ds))))
       (ap (is_big true) e ∙ not_low (suc n) few)
       ∙ (let z : 1 + length (d ∷ ds) ≡ length (45 ∷ d ∷ ds) = omega arith in ap (Of Number) z),
-  ap (signed true) e,
+  ap (signed_value true) e,
 )
 
 fits_token : (n : ℕ) → nat_le n 18446744073709551615 ≡ true → n ≤ 18446744073709551615
@@ -326,9 +327,10 @@ text_token t rest h k =
     omega (arith, length-append (doubled t) (39 ∷ [])) in
     record {
       near = no_gap 39 ((doubled t ++ 39 ∷ []) ++ rest) refl refl;
-      whole = ap (λ l. scanned (39 ∷ l)) same ∙ at_quote 39 (doubled t ++ 39 ∷ rest) refl refl refl
-          ∙ ap (λ l. sized (length l) (text_from 1 (doubled t ++ 39 ∷ rest))) (text_means t rest k)
-          ∙ ap (sized (length t)) (text_follow 1 0 t rest h.1 k)
+      whole = ap (λ l. scan_of (39 ∷ l)) same ∙ at_quote 39 (doubled t ++ 39 ∷ rest) refl refl refl
+          ∙ ap (λ l. scan_sized (length l) (text_from 1 (doubled t ++ 39 ∷ rest)))
+          (text_means t rest k)
+          ∙ ap (scan_sized (length t)) (text_follow 1 0 t rest h.1 k)
           ∙ ap (λ b. cond b Long (Of Text (1 + length (doubled t) + 1))) (not_long (length t) h.0)
           ∙ ap (Of Text) len;
       means = ap text (text_means t [] tt);
@@ -337,7 +339,7 @@ text_token t rest h k =
 -- ---- signs
 
 -- ( ) , . =
-alone : (b : ℕ) (rest : List ℕ) → gap_len false 0 (b ∷ rest) ≡ 0 → scanned (b ∷ rest) ≡ Of Sign 1
+alone : (b : ℕ) (rest : List ℕ) → gap_len false 0 (b ∷ rest) ≡ 0 → scan_of (b ∷ rest) ≡ Of Sign 1
     → Token (sign (b ∷ [])) rest
 alone b rest e f = record { near = e; whole = f; means = refl }
 
@@ -373,7 +375,7 @@ greater_token rest k = alone 62 rest (no_gap 62 rest refl refl)
     one (c ∷ l) h = ap (λ t. cond t (Of Sign 2) (Of Sign 1)) (no_equal c h)
 
 two : (b c : ℕ) (rest : List ℕ) → gap_len false 0 (b ∷ c ∷ rest) ≡ 0
-    → scanned (b ∷ c ∷ rest) ≡ Of Sign 2 → Token (sign (b ∷ c ∷ [])) rest
+    → scan_of (b ∷ c ∷ rest) ≡ Of Sign 2 → Token (sign (b ∷ c ∷ [])) rest
 two b c rest e f = record { near = e; whole = f; means = refl }
 
 unequal_token : (rest : List ℕ) → Token (sign (codes "<>")) rest

@@ -7,7 +7,7 @@ use Rattle.cond_expr.specs.Trees.{Test}
 use Rattle.lexer_spec.specs.Lexemes.{Lexeme}
 use Rattle.lexer_combinators.specs.Grammar.{Size}
 use Rattle.lexer_combinators.specs.TokenCounts.{TokenCounts, plain}
-use Rattle.lexer_combinators.specs.ListCrossings.{Crossing, count_crossing}
+use Rattle.lexer_combinators.specs.ListOverflows.{Overflow, count_overflow}
 use Rattle.lexer_trees_spec.specs.TreeCounts.{expr_counts, cond_counts}
 use Rattle.lexer_trees_spec.specs.Where.{IsWhere}
 use Rattle.smo_parse.specs.Productions.{IsPartitionTable, IsJoinTable, IsAddColumn, IsOperator}
@@ -68,5 +68,5 @@ operator_counts o s f (inr (inr (inr (inr (inr (inr (inr (inr (inr (inr (inr h))
     uncounted f
 
 -- at which of them a count passes its limit
-abbrev pub operator_crossings : Crossing IsOperator
-operator_crossings = count_crossing IsOperator operator_counts
+abbrev pub operator_overflows : Overflow IsOperator
+operator_overflows = count_overflow IsOperator operator_counts

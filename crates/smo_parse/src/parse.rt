@@ -4,9 +4,9 @@ ghost use Rattle.std.specs.Prelude.{◌≤◌, length};
 ghost use Rattle.smo_ops_types.specs.Operators.{operator_of};
 ghost use Rattle.lexer_combinators.specs.Found.{IsRead, FindsStopped, FindsLongest, AnswersAs};
 ghost use Rattle.lexer_combinators.specs.Found.{lexemes_from};
-ghost use Rattle.lexer_combinators.specs.Crossings.{IsFaultOf, RefusesFirst};
+ghost use Rattle.lexer_combinators.specs.Overflows.{IsFaultOf, RefusesFirst};
 ghost use Rattle.smo_parse.specs.Productions.{IsOperator};
-ghost use Rattle.smo_parse.specs.OperatorCounts.{operator_crossings};
+ghost use Rattle.smo_parse.specs.OperatorCounts.{operator_overflows};
 ghost use Rattle.smo_parse.specs.OperatorReader as spec;
 
 use crate::operator_reader::operator;
@@ -38,10 +38,10 @@ pub fn parse_op(alloc: Global, list: &[Token<'_>], from: usize) -> Result<(Op, u
     ensures longest { FindsLongest operator_of IsOperator list.now from result }
     // A fault is at the first token with which nothing of the grammar goes on, or at which a count
     // passes its limit.
-    ensures fault { IsFaultOf IsOperator operator_crossings list.now from result }
+    ensures fault { IsFaultOf IsOperator operator_overflows list.now from result }
     // A prefix that passes a limit at its last token is refused there for this count, whatever
     // stands after it.
-    ensures over { RefusesFirst IsOperator operator_crossings list.now from result }
+    ensures over { RefusesFirst IsOperator operator_overflows list.now from result }
     ensures exact { AnswersAs operator_of (spec.operator 0 (lexemes_from list.now from)) list.now
         result }
 {

@@ -7,9 +7,9 @@ use Rattle.std.proofs.lemmas.List.{drop_more}
 use Rattle.std.proofs.lemmas.List.Concat.{flat_map-cons}
 use Rattle.relations_spec.specs.Spans.{Span}
 use Rattle.history_store_spec.specs.Store.{Cell}
-use Rattle.command_codec_spec.specs.Spelling.{number, list_bytes}
+use Rattle.command_codec_spec.specs.Encoding.{number, list_bytes}
 use Rattle.command_codec_writer.proofs.Lengths.{number_length}
-use Rattle.store_image_spec.specs.Spelling.{span_bytes, cell_bytes, last_bytes}
+use Rattle.store_image_spec.specs.Encoding.{span_bytes, cell_bytes, last_bytes}
 
 pub span_length : (p : Span) → length (span_bytes p) ≡ 16
 span_length p = length-append (number 8 p.start) (number 8 p.end)

@@ -15,8 +15,8 @@ use Rattle.smo_ops_types.specs.Commands.{PlainVersion}
 use Rattle.smo_ops_spec.specs.After.{IsValid as AreTables}
 use Rattle.smo_ops_spec.specs.ValidPast.{AreVersions}
 use Rattle.smo_ops_spec.proofs.NextSchemas.{next_is_valid}
-use Rattle.command_codec_spec.specs.Spelling.{number, list_bytes}
-use Rattle.store_image_spec.specs.Spelling.{span_bytes, cell_bytes, stored_bytes}
+use Rattle.command_codec_spec.specs.Encoding.{number, list_bytes}
+use Rattle.store_image_spec.specs.Encoding.{span_bytes, cell_bytes, stored_bytes}
 use Rattle.store_image_spec.proofs.ValidVersions.{version_writable}
 use Rattle.version_groups_tables.specs.declared.made_table.MadeTable.{MadeTable}
 use Rattle.store_image.specs.ImageIn.{kept_line, CanBeWritten, AreValid}

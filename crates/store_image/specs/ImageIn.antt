@@ -14,7 +14,7 @@ use Rattle.version_groups_tables.specs.declared.made_table.MadeTable.{MadeTable}
 use Rattle.version_groups.specs.Covering.{line_of}
 use Rattle.version_groups.specs.Groups.{Kept, versions_in}
 use Rattle.store_image_spec.specs.Images.{StoredLine, Image, IsImage, VersionsNamed, store_of}
-use Rattle.store_image_spec.specs.Spelling.{image_bytes}
+use Rattle.store_image_spec.specs.Encoding.{image_bytes}
 use Rattle.store_image_spec.specs.ShownPast.{image_past}
 use Rattle.store_image_spec.specs.Lengths.{image_length}
 

@@ -3,9 +3,9 @@
 ghost use Rattle.std.specs.Prelude.{◌≡◌, ◌+◌, ◌≤◌, ℕ, Option, map, min, length};
 ghost use Rattle.std.specs.List.{flat_map};
 ghost use Rattle.smo_ops_types.specs.Commands.{version_of};
-ghost use Rattle.command_codec_spec.specs.Spelling.{list_bytes};
-ghost use Rattle.store_image_spec.specs.Spelling.{cell_bytes, stored_bytes, version_bytes};
-ghost use Rattle.store_image_spec.specs.Spelling.{image_bytes};
+ghost use Rattle.command_codec_spec.specs.Encoding.{list_bytes};
+ghost use Rattle.store_image_spec.specs.Encoding.{cell_bytes, stored_bytes, version_bytes};
+ghost use Rattle.store_image_spec.specs.Encoding.{image_bytes};
 ghost use Rattle.store_image.specs.ImageIn.{kept_line, image_in};
 
 use command_codec_writer::{borrowed_size, name_size, op_size, ops_size};

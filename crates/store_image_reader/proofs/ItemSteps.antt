@@ -8,7 +8,7 @@ use Rattle.command_codec.specs.declared.reader.ReadStop.{ReadStop}
 use Rattle.command_codec.specs.declared.reader.ReadStop.TheVariants as stop
 use Rattle.command_codec.specs.Reads.{Fails}
 use Rattle.command_codec.proofs.ReadSteps.{prepend_more}
-use Rattle.store_image_spec.specs.Items.{named_at, item, if_right, judged}
+use Rattle.store_image_spec.specs.Items.{named_at, item, if_right, checked}
 
 module _ {A : Type 0} (p : Parser A) where
   pub item_got : (a : A) (ts rest : List ℕ) → p ts ≡ Parsed a rest → item p ts ≡ Parsed a rest
@@ -19,20 +19,20 @@ module _ {A : Type 0} (p : Parser A) where
   item_fails stop.NoMemory ts rest h = tt
   item_fails stop.Unexpected ts rest h = ap (named_at ts) h
 
-  pub judged_got : (right : A → Bool) (a : A) (ts rest : List ℕ) → p ts ≡ Parsed a rest
-      → right a ≡ true → item (judged right p) ts ≡ Parsed a rest
-  judged_got right a ts rest e h = ap (λ o. named_at ts (if_right ts right o)) e
+  pub checked_got : (right : A → Bool) (a : A) (ts rest : List ℕ) → p ts ≡ Parsed a rest
+      → right a ≡ true → item (checked right p) ts ≡ Parsed a rest
+  checked_got right a ts rest e h = ap (λ o. named_at ts (if_right ts right o)) e
       ∙ ap (λ b. named_at ts (cond b (Parsed a rest) (Unexpected ts))) h
 
-  pub judged_wrong : (right : A → Bool) (a : A) (ts rest : List ℕ) → p ts ≡ Parsed a rest
-      → right a ≡ false → item (judged right p) ts ≡ Unexpected ts
-  judged_wrong right a ts rest e h = ap (λ o. named_at ts (if_right ts right o)) e
+  pub checked_wrong : (right : A → Bool) (a : A) (ts rest : List ℕ) → p ts ≡ Parsed a rest
+      → right a ≡ false → item (checked right p) ts ≡ Unexpected ts
+  checked_wrong right a ts rest e h = ap (λ o. named_at ts (if_right ts right o)) e
       ∙ ap (λ b. named_at ts (cond b (Parsed a rest) (Unexpected ts))) h
 
-  pub judged_fails : (right : A → Bool) (e : ReadStop) (ts rest : List ℕ) → Fails (p ts) e rest
-      → Fails (item (judged right p) ts) e ts
-  judged_fails right stop.NoMemory ts rest h = tt
-  judged_fails right stop.Unexpected ts rest h = ap (λ o. named_at ts (if_right ts right o)) h
+  pub checked_fails : (right : A → Bool) (e : ReadStop) (ts rest : List ℕ) → Fails (p ts) e rest
+      → Fails (item (checked right p) ts) e ts
+  checked_fails right stop.NoMemory ts rest h = tt
+  checked_fails right stop.Unexpected ts rest h = ap (λ o. named_at ts (if_right ts right o)) h
 
 -- ---- lists, of which so much was read: the whole is that before what is still read
 

@@ -5,8 +5,8 @@ use Rattle.prima_base.specs.OrderLaws.{same_is}
 use Rattle.smo_ops_spec.specs.OneRow.{same}
 use Rattle.command_codec_spec.proofs.Numbers.{of_both}
 use Rattle.smo_ops_versions_spec.specs.Lifelines.{Lifeline}
-use Rattle.store_image_spec.specs.Judged.{is_line}
-use Rattle.store_image_spec.specs.Spelling.{last_number}
+use Rattle.store_image_spec.specs.ItemChecks.{is_line}
+use Rattle.store_image_spec.specs.Encoding.{last_number}
 use Rattle.store_image_reader.specs.Seen.{head_of}
 
 pub head_due : (due : Lifeline) (read : (ℕ × ℕ) × List ℕ) → is_line due read ≡ true

@@ -12,7 +12,7 @@ use Rattle.prima_base.specs.Limits.{max_versions}
 use Rattle.smo_ops_spec.specs.After.{op_fault, schema_after}
 use Rattle.smo_ops_spec.specs.Counts.{first_excess}
 use Rattle.smo_ops_spec.specs.Inverses.{inverse_fault}
-use Rattle.store_image_spec.specs.Judged.{is_stamp, is_later, is_version}
+use Rattle.store_image_spec.specs.ItemChecks.{is_stamp, is_later, is_version}
 use Rattle.store_image_spec.specs.Reader.{version_after}
 
 -- the stamp of the newest version

@@ -8,11 +8,11 @@ use Rattle.history_store_spec.specs.Store.{Cell}
 use Rattle.smo_ops_types.specs.Commands.{versions_of}
 use Rattle.smo_ops_versions_spec.specs.Lifelines.{Lifeline, lifelines_of}
 use Rattle.store_image_spec.specs.Images.{StoredLine, Image}
-use Rattle.store_image_spec.specs.Spelling.{last_number}
+use Rattle.store_image_spec.specs.Encoding.{last_number}
 pub use Rattle.store_image_rows.specs.Cells.{cell_seen, cells_seen}
 use Rattle.store_image_reader.specs.declared.due.DueLine.{DueLine}
 use Rattle.history_store.specs.declared.restoration.Cell.{Cell as ReadCell}
-use Rattle.store_image_reader.specs.declared.entry.Unjudged.{Unjudged}
+use Rattle.store_image_reader.specs.declared.entry.Unchecked.{Unchecked}
 use Rattle.store_image_reader.specs.declared.line.ReadLine.{ReadLine}
 use Rattle.store_image_reader.specs.declared.image.ReadImage.{ReadImage}
 
@@ -32,9 +32,9 @@ head_of l = ((l.first, last_number l.last), l.table)
 
 -- ---- entries
 
--- one before it is judged
-abbrev pub unjudged_seen : Unjudged → Cell
-unjudged_seen c = record { id = c.id; value = shown c.value; period = span c.start c.end }
+-- one before it is checked
+abbrev pub unchecked_seen : Unchecked → Cell
+unchecked_seen c = record { id = c.id; value = shown c.value; period = span c.start c.end }
 
 -- ---- lifelines
 

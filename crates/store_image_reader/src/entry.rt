@@ -4,11 +4,11 @@ ghost use Rattle.std.specs.Prelude.{◌≡◌, ◌+◌, ◌<◌, ◌≤◌, map,
 ghost use Rattle.command_codec.specs.Reads.{Reads};
 ghost use Rattle.prima_base.specs.Columns.{has_type};
 ghost use Rattle.prima_base.specs.Order.{shown};
-ghost use Rattle.store_image_spec.specs.Judged.{is_due};
+ghost use Rattle.store_image_spec.specs.ItemChecks.{is_due};
 ghost use Rattle.store_image_spec.specs.Reader as spec;
 ghost use Rattle.command_codec_spec.specs.Reading.{map_to, pair};
 ghost use Rattle.command_codec_spec.specs.Reader as parts;
-ghost use Rattle.store_image_reader.specs.Seen.{cell_seen, cells_seen, unjudged_seen};
+ghost use Rattle.store_image_reader.specs.Seen.{cell_seen, cells_seen, unchecked_seen};
 ghost use Rattle.store_image_reader.specs.Due.{keys_left, IsNextDue};
 
 use crate::count::{count_64, number_64, room_for};
@@ -21,25 +21,25 @@ use std::alloc::Global;
 // The fewest bytes of an entry: an id, an empty text, a start and an end.
 const LEAST_ENTRY: usize = 27;
 
-// What is read of an entry before it is judged. A text stays where it stands in the image.
+// What is read of an entry before it is checked. A text stays where it stands in the image.
 #[derive(Drop)]
-struct Unjudged<'a> {
+struct Unchecked<'a> {
     id: u64,
     value: Val<'a>,
     start: u64,
     end: u64,
 }
 
-// An entry, not yet judged.
-fn entry_read<'a>(reader: &mut Reader<'a>) -> Result<Unjudged<'a>, ReadStop>
-    ensures { Reads unjudged_seen (map_to spec.cell_of
+// An entry, not yet checked.
+fn entry_read<'a>(reader: &mut Reader<'a>) -> Result<Unchecked<'a>, ReadStop>
+    ensures { Reads unchecked_seen (map_to spec.cell_of
         (pair (pair parts.number_64 parts.value) spec.period) reader.old.rest.now) result
         reader.new.rest.now }
 {
     let id = number_64(reader)?;
     let value = borrowed_value(reader)?;
     let (start, end) = period(reader)?;
-    Ok(Unjudged {
+    Ok(Unchecked {
         id,
         value,
         start,
@@ -59,8 +59,8 @@ fn has_type(kind: ColType, value: &Val<'_>) -> bool
 
 // Whether the entry is the one that is due: of the key with this id, of whose period this part is
 // not yet filled.
-fn is_due(last: Option<u64>, kind: ColType, id: u64, left: Period, read: &Unjudged<'_>) -> bool
-    ensures { result ≡ is_due last kind id left (unjudged_seen read.now) }
+fn is_due(last: Option<u64>, kind: ColType, id: u64, left: Period, read: &Unchecked<'_>) -> bool
+    ensures { result ≡ is_due last kind id left (unchecked_seen read.now) }
 {
     let begins = read.id == id && read.start == left.start();
     let lasts = is_period(last, read.start, read.end) && read.end <= left.end();
@@ -82,7 +82,7 @@ fn entry<'a>(
     let first = reader.rest;
     match entry_read(reader) {
         Ok(read) if is_due(last, kind, id, left, &read) => {
-            let Unjudged {
+            let Unchecked {
                 id,
                 value,
                 start,

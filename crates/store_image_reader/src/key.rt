@@ -3,7 +3,7 @@
 ghost use Rattle.std.specs.Prelude.{◌≡◌};
 ghost use Rattle.relations_spec.specs.Spans.{span};
 ghost use Rattle.command_codec.specs.Reads.{Reads};
-ghost use Rattle.store_image_spec.specs.Judged.{is_period};
+ghost use Rattle.store_image_spec.specs.ItemChecks.{is_period};
 ghost use Rattle.store_image_spec.specs.Reader as spec;
 
 use crate::count::{count_64, number_64, room_for};

@@ -1,9 +1,9 @@
 //! Store images, read from the start.
 //!
 //! `read` answers what an image has, or the place of the first byte of what breaks it: each
-//! version, lifeline, key and entry is judged by what was read before it. Which bytes are an image,
-//! and where others break, says store_image_spec (`specs/Reader.antt` there). Where a count is cut
-//! off, or an item is not as it must be, its reader stands again at its first byte.
+//! version, lifeline, key and entry is checked by what was read before it. Which bytes are an
+//! image, and where others break, says store_image_spec (`specs/Reader.antt` there). Where a count
+//! is cut off, or an item is not as it must be, its reader stands again at its first byte.
 #![tactic(auto)]
 
 mod count;

@@ -3,9 +3,9 @@
 ghost use Rattle.std.specs.Prelude.{◌≡◌, All, IfOk, length, map};
 ghost use Rattle.command_codec.specs.Reads.{Reads};
 ghost use Rattle.command_codec_spec.specs.Reading.{bind, map_to};
-ghost use Rattle.store_image_spec.specs.Items.{item, judged};
-ghost use Rattle.store_image_spec.specs.Judged.{is_line};
-ghost use Rattle.store_image_spec.specs.Spelling.{last_number};
+ghost use Rattle.store_image_spec.specs.Items.{item, checked};
+ghost use Rattle.store_image_spec.specs.ItemChecks.{is_line};
+ghost use Rattle.store_image_spec.specs.Encoding.{last_number};
 ghost use Rattle.store_image_spec.specs.Reader as spec;
 ghost use Rattle.store_image_reader.specs.Seen.{line_seen, parts_seen, stored_seen, lines_seen};
 ghost use Rattle.store_image_reader.specs.Seen.{head_of};
@@ -69,7 +69,7 @@ fn is_line(due: &DueLine<'_>, first: u64, last: u64, table: &Name) -> bool
 // The versions and the table of the lifeline that is due.
 fn head(alloc: Global, reader: &mut Reader<'_>, due: &DueLine<'_>) -> Result<(), ReadStop>
     ensures { Reads (λ u. head_of (line_seen due.now))
-        (item (judged (is_line (line_seen due.now)) spec.line_head) reader.old.rest.now) result
+        (item (checked (is_line (line_seen due.now)) spec.line_head) reader.old.rest.now) result
         reader.new.rest.now }
 {
     let start = reader.rest;
@@ -86,7 +86,7 @@ fn head(alloc: Global, reader: &mut Reader<'_>, due: &DueLine<'_>) -> Result<(),
     }
 }
 
-// What is kept over the lifeline that is due, whose rows are not yet judged.
+// What is kept over the lifeline that is due, whose rows are not yet checked.
 fn parts<'a>(
     alloc: Global,
     reader: &mut Reader<'a>,
@@ -94,7 +94,7 @@ fn parts<'a>(
     due: &DueLine<'_>,
 ) -> Result<Parts<'a>, ReadStop>
     ensures { Reads (parts_seen (line_seen due.now))
-        (bind (item (judged (is_line (line_seen due.now)) spec.line_head))
+        (bind (item (checked (is_line (line_seen due.now)) spec.line_head))
         (λ h. bind (spec.keys last) (λ ks. map_to (spec.a_line (line_seen due.now) ks)
         (spec.columns last ks due.now.columns.now))) reader.old.rest.now) result
         reader.new.rest.now }

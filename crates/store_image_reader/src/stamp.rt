@@ -1,10 +1,10 @@
 //! Stamps, and the last one of an image.
 
 ghost use Rattle.std.specs.Prelude.{◌≡◌};
-ghost use Rattle.command_codec_spec.specs.Reading.{tagged};
+ghost use Rattle.command_codec_spec.specs.Reading.{by_tag};
 ghost use Rattle.command_codec_spec.specs.Reader.{up_to};
 ghost use Rattle.command_codec.specs.Reads.{Reads};
-ghost use Rattle.store_image_spec.specs.Judged.{is_stamp, is_later, is_end};
+ghost use Rattle.store_image_spec.specs.ItemChecks.{is_stamp, is_later, is_end};
 ghost use Rattle.store_image_spec.specs.Reader as spec;
 
 use command_codec::{ReadStop, Reader};
@@ -39,7 +39,7 @@ pub(crate) fn is_end(last: Option<u64>, moment: u64) -> bool
 
 // None with eight zero bytes, or the stamp of a command.
 fn stamp_or_none(reader: &mut Reader<'_>) -> Result<Option<u64>, ReadStop>
-    ensures { Reads (λ s. s) (tagged (up_to 1) spec.last_arm reader.old.rest.now) result
+    ensures { Reads (λ s. s) (by_tag (up_to 1) spec.last_arm reader.old.rest.now) result
         reader.new.rest.now }
 {
     match reader.tag(1)? {

@@ -7,7 +7,7 @@ use Rattle.relations_spec.specs.Sets.{In}
 use Rattle.relations_spec.specs.Spans.{Span, span, covers}
 use Rattle.smo_ops_spec.proofs.PastMoments.{before_or_not}
 use Rattle.command_codec_spec.proofs.Correctness.{true_false}
-use Rattle.store_image_spec.proofs.Judging.{number_itself}
+use Rattle.store_image_spec.proofs.Checking.{number_itself}
 use Rattle.store_image_spec.proofs.Filling.{covers_so, covers_both}
 use Rattle.store_image_spec.proofs.DueEntries.{Last}
 use Rattle.store_image_rows.specs.Stretches.{RowStretch, bare_from}

@@ -4,4 +4,4 @@ pub mod MergedColumns
 pub mod ClashingRows
 pub mod CurrentRows
 pub mod Walking
-pub mod JudgedShowings
+pub mod CheckedShowings

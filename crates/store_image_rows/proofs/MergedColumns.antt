@@ -11,7 +11,7 @@ use Rattle.prima_base.specs.Columns.{Column}
 use Rattle.prima_base.specs.declared.value.ColType.{ColType}
 use Rattle.history_store_spec.specs.Store.{Cell, shown_at, row_at, IsFilled}
 use Rattle.command_codec_spec.proofs.Correctness.{by_test}
-use Rattle.store_image_spec.proofs.Judging.{period_lasts}
+use Rattle.store_image_spec.proofs.Checking.{period_lasts}
 use Rattle.store_image_spec.proofs.Filling.{covers_so, covers_both, fills_one, in_shown, in_key}
 use Rattle.store_image_spec.proofs.Filling.{due_is, run_fills, from_first}
 use Rattle.store_image_spec.proofs.DueEntries.{Last}

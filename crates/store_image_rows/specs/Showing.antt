@@ -72,7 +72,7 @@ abbrev pub IsVerdict : {T : Type 0} → (T → T → Ordering) → List (Showing
 IsVerdict cmp sorted None = none_clash cmp sorted ≡ false
 IsVerdict cmp sorted (Some ids) = (none_clash cmp sorted ≡ true) × (ids.items ≡ ids_on sorted)
 
-pub record IsShowingJudged {T : Type 0} (cmp : T → T → Ordering) (showing : List (Showing T))
+pub record IsShowingChecked {T : Type 0} (cmp : T → T → Ordering) (showing : List (Showing T))
     (answer : Option (Vec ℕ Global)) : Type 0 where
   pub sorted : List (Showing T)
   pub moved : IsPermutation showing sorted

@@ -4,14 +4,14 @@ ghost use Rattle.std.specs.Prelude.{◌≡◌, ℕ, List, Option, is_some, map, 
 ghost use Rattle.std.specs.Prelude.{OnOk, IfSome};
 ghost use Rattle.prima_base.specs.Columns.{Column};
 ghost use Rattle.command_codec_spec.specs.Reading.{Parsed};
-ghost use Rattle.store_image_spec.specs.Judged.{are_apart};
+ghost use Rattle.store_image_spec.specs.ItemChecks.{are_apart};
 ghost use Rattle.store_image_spec.specs.Reader as spec;
 ghost use Rattle.store_image_rows.specs.Cells.{cell_seen, cells_seen};
 ghost use Rattle.store_image_rows.specs.Stretches.{row_stretches};
 ghost use Rattle.store_image_rows.specs.Showing.{stretch_at, number_alone, alone, as_row};
 ghost use Rattle.store_image_rows.specs.Showing.{stretch_in};
 ghost use Rattle.store_image_rows.specs.Showing.{clash, none_clash, goes_on, id_on, ids_on};
-ghost use Rattle.store_image_rows.specs.Showing.{IsShowingJudged};
+ghost use Rattle.store_image_rows.specs.Showing.{IsShowingChecked};
 ghost use Rattle.store_image_rows.specs.Showing.{AreOrdered};
 
 use crate::stretch::{Stretch, all_stretches};
@@ -79,11 +79,11 @@ fn ids_on<T>(alloc: Global, showing: &[Showing<T>]) -> Result<Vec<usize>, NoMemo
 
 // The ids of what goes on, in order, where no two clash; none where two do. They are sorted, and
 // each is looked at with the next.
-fn judge<T: Ord + Drop>(
+fn check<T: Ord + Drop>(
     alloc: Global,
     showing: Vec<Showing<T>>,
 ) -> Result<Option<Vec<usize>>, NoMemory>
-    ensures { IfOk result (IsShowingJudged T.cmp showing.items) }
+    ensures { IfOk result (IsShowingChecked T.cmp showing.items) }
 {
     let mut sorted = showing;
     sorted.sort_unstable();
@@ -171,12 +171,12 @@ pub fn order_of(
         return Ok(Some(Vec::new(alloc)));
     };
     if let Some(numbers) = numbers_of(alloc, first)? {
-        if let Some(order) = judge(alloc, numbers)? {
+        if let Some(order) = check(alloc, numbers)? {
             return Ok(Some(order));
         }
-    } else if let Some(order) = judge(alloc, values_of(alloc, first)?)? {
+    } else if let Some(order) = check(alloc, values_of(alloc, first)?)? {
         return Ok(Some(order));
     }
     let stretches = all_stretches(alloc, keys, cells)?;
-    judge(alloc, rows_of(alloc, stretches)?)
+    check(alloc, rows_of(alloc, stretches)?)
 }

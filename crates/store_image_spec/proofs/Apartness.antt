@@ -18,8 +18,8 @@ use Rattle.history_store_spec.specs.Store.{Cell, shown_at, row_at, rows_from, Ho
 use Rattle.smo_ops_spec.proofs.PastMoments.{before_or_not}
 use Rattle.command_codec_spec.proofs.Correctness.{by_test, true_false}
 use Rattle.command_codec_spec.proofs.Numbers.{both_true, of_both}
-use Rattle.store_image_spec.specs.Judged.{is_among, all_apart, starts_of, are_apart}
-use Rattle.store_image_spec.proofs.Judging.{either, first_true, second_true}
+use Rattle.store_image_spec.specs.ItemChecks.{is_among, all_apart, starts_of, are_apart}
+use Rattle.store_image_spec.proofs.Checking.{either, first_true, second_true}
 use Rattle.store_image_spec.proofs.Filling.{covers_so, covers_both, in_shown, from_shown, fills_one}
 use Rattle.store_image_spec.proofs.Filling.{in_key}
 use Rattle.store_image_spec.proofs.FittingRows.{AllFilled, only_one}

@@ -11,7 +11,7 @@ use Rattle.history_store_spec.specs.Store.{Cell, shown_at, Fills, cell_cmp}
 use Rattle.smo_ops_spec.proofs.PastMoments.{before_or_not}
 use Rattle.command_codec_spec.proofs.Correctness.{by_test, true_false}
 use Rattle.store_image_spec.proofs.ReadParts.{Run}
-use Rattle.store_image_spec.proofs.Judging.{number_itself, period_lasts}
+use Rattle.store_image_spec.proofs.Checking.{number_itself, period_lasts}
 use Rattle.store_image_spec.proofs.Filling.{covers_so, covers_both, not_covered, cell_before}
 use Rattle.store_image_spec.proofs.Filling.{shown_one, shown_past, in_shown, from_shown, fills_one}
 use Rattle.store_image_spec.proofs.Filling.{fills_none, fills_so, fills_after, in_key, FillsFrom}

@@ -20,9 +20,9 @@ use Rattle.prima_base.specs.declared.value.Value.{Value}
 use Rattle.history_store_spec.specs.Store.{Cell, shown_at, Fills, IsPeriod, cell_cmp, IsFilled}
 use Rattle.command_codec_spec.proofs.Correctness.{by_test, true_false}
 use Rattle.command_codec_spec.proofs.Numbers.{both_true, of_both}
-use Rattle.store_image_spec.specs.Judged.{is_period, is_due}
+use Rattle.store_image_spec.specs.ItemChecks.{is_period, is_due}
 use Rattle.store_image_spec.proofs.ReadParts.{CellFits, Run}
-use Rattle.store_image_spec.proofs.Judging.{number_itself, period_lasts}
+use Rattle.store_image_spec.proofs.Checking.{number_itself, period_lasts}
 
 -- ---- periods
 

@@ -11,12 +11,12 @@ use Rattle.prima_base.specs.declared.value.Value.TheVariants.{Int, Text}
 use Rattle.history_store_spec.specs.Store.{Cell, weight}
 use Rattle.smo_ops_types.specs.Commands.{PlainVersion}
 use Rattle.smo_ops_spec.specs.Sizes.{value_bytes as value_length}
-use Rattle.command_codec_spec.specs.Spelling.{number, name_bytes, value_bytes, list_bytes}
+use Rattle.command_codec_spec.specs.Encoding.{number, name_bytes, value_bytes, list_bytes}
 use Rattle.command_codec_spec.proofs.Numbers.{number_zero, number_suc}
 use Rattle.smo_ops_versions_spec.specs.Lifelines.{Lifeline}
 use Rattle.store_image_spec.specs.Images.{StoredLine, Image}
-use Rattle.store_image_spec.specs.Spelling.{last_number, last_bytes, version_bytes, span_bytes}
-use Rattle.store_image_spec.specs.Spelling.{cell_bytes, line_bytes, stored_bytes, image_bytes}
+use Rattle.store_image_spec.specs.Encoding.{last_number, last_bytes, version_bytes, span_bytes}
+use Rattle.store_image_spec.specs.Encoding.{cell_bytes, line_bytes, stored_bytes, image_bytes}
 use Rattle.store_image_spec.specs.ShownPast.{cells_written, line_size, image_past}
 use Rattle.store_image_spec.specs.Lengths.{versions_length, column_length, columns_length}
 use Rattle.store_image_spec.specs.Lengths.{size_length, sizes_length, image_length}
@@ -30,23 +30,23 @@ sum_of : {A : Type 0} → (A → ℕ) → List A → ℕ
 sum_of f [] = 0
 sum_of f (a ∷ l) = f a + sum_of f l
 
-flat_length : {A : Type 0} (spell : A → List ℕ) (f : A → ℕ) → ((a : A) → length (spell a) ≡ f a)
-    → (l : List A) → length (flat_map spell l) ≡ sum_of f l
+flat_length : {A : Type 0} (encode : A → List ℕ) (f : A → ℕ) → ((a : A) → length (encode a) ≡ f a)
+    → (l : List A) → length (flat_map encode l) ≡ sum_of f l
 unfolding sum_of
-flat_length spell f e [] = refl
-flat_length spell f e (a ∷ l) =
-    ap length (flat_map-cons spell a l) ∙ length-append (spell a) (flat_map spell l)
-    ∙ (let x = e a in let y = flat_length spell f e l in
-    let z : length (spell a) + length (flat_map spell l) ≡ f a + sum_of f l =
+flat_length encode f e [] = refl
+flat_length encode f e (a ∷ l) =
+    ap length (flat_map-cons encode a l) ∙ length-append (encode a) (flat_map encode l)
+    ∙ (let x = e a in let y = flat_length encode f e l in
+    let z : length (encode a) + length (flat_map encode l) ≡ f a + sum_of f l =
     omega (arith, x, y) in z)
 
-list_length : {A : Type 0} (k : ℕ) (spell : A → List ℕ) (f : A → ℕ)
-    → ((a : A) → length (spell a) ≡ f a) → (l : List A)
-    → length (list_bytes k spell l) ≡ k + sum_of f l
-list_length k spell f e l =
-    length-append (number k (length l)) (flat_map spell l)
-    ∙ (let x = number_length k (length l) in let y = flat_length spell f e l in
-    let z : length (number k (length l)) + length (flat_map spell l) ≡ k + sum_of f l =
+list_length : {A : Type 0} (k : ℕ) (encode : A → List ℕ) (f : A → ℕ)
+    → ((a : A) → length (encode a) ≡ f a) → (l : List A)
+    → length (list_bytes k encode l) ≡ k + sum_of f l
+list_length k encode f e l =
+    length-append (number k (length l)) (flat_map encode l)
+    ∙ (let x = number_length k (length l) in let y = flat_length encode f e l in
+    let z : length (number k (length l)) + length (flat_map encode l) ≡ k + sum_of f l =
     omega (arith, x, y) in z)
 
 -- ---- the parts

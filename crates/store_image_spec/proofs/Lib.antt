@@ -5,7 +5,7 @@ pub mod Filling
 pub mod FittingRows
 pub mod Formats
 pub mod ImageLengths
-pub mod Judging
+pub mod Checking
 pub mod ValidVersions
 pub mod Places
 pub mod QuietMoments
@@ -17,4 +17,4 @@ pub mod ShownPasts
 pub mod ShownRelations
 pub mod ShownStates
 pub mod SomeColumns
-pub mod SpelledValues
+pub mod EncodedValues

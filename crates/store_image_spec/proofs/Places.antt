@@ -15,7 +15,7 @@ use Rattle.command_codec_spec.specs.Reading.{Out, Parsed, Unexpected, Parser, Is
 use Rattle.command_codec_spec.specs.Reading.{Explains, and_then, bind, byte, pure, map_to, pair}
 use Rattle.command_codec_spec.specs.Reading.{digits, items}
 use Rattle.command_codec_spec.specs.Reader.{up_to, number_64, name, value, operator, operators}
-use Rattle.command_codec_spec.specs.Spelling.{number, name_bytes, value_bytes, operator_bytes}
+use Rattle.command_codec_spec.specs.Encoding.{number, name_bytes, value_bytes, operator_bytes}
 use Rattle.command_codec_spec.specs.Valid.{IsOperator}
 use Rattle.command_codec_spec.proofs.Correctness.{byte_correct}
 use Rattle.command_codec_spec.proofs.Numbers.{number_correct}
@@ -23,8 +23,8 @@ use Rattle.command_codec_spec.proofs.PartFormats.{name_correct, value_correct}
 use Rattle.command_codec_spec.proofs.CommandFormats.{operator_correct}
 use Rattle.smo_ops_versions_spec.specs.Lifelines.{Lifeline, lifelines_of}
 use Rattle.store_image_spec.specs.Images.{StoredLine, Image}
-use Rattle.store_image_spec.specs.Items.{named_at, item, if_right, judged, missing}
-use Rattle.store_image_spec.specs.Judged.{is_version, is_line, is_period, is_due}
+use Rattle.store_image_spec.specs.Items.{named_at, item, if_right, checked, missing}
+use Rattle.store_image_spec.specs.ItemChecks.{is_version, is_line, is_period, is_due}
 use Rattle.store_image_spec.specs.Reader.{number_32, last_arm, last_stamp, version_after}
 use Rattle.store_image_spec.specs.Reader.{evolution, version, versions, all_versions, period, key}
 use Rattle.store_image_spec.specs.Reader.{keys, cell_of, entry, entries, column_entries, columns}
@@ -53,12 +53,12 @@ end_of_end ts us vs a b = (a.0 ++ b.0, a.1 ∙ ap (λ l. a.0 ++ l) b.1 ∙ sym (
 
 -- ---- readers
 
-correct_leaves : {A : Type 0} (p : Parser A) (Is : A → Type 0) (spell : A → List ℕ)
-    → IsCorrectParser p Is spell → LeavesEnds p
-correct_leaves {A} p Is spell correct ts = step (p ts) (correct.explains ts)
+correct_leaves : {A : Type 0} (p : Parser A) (Is : A → Type 0) (encode : A → List ℕ)
+    → IsCorrectParser p Is encode → LeavesEnds p
+correct_leaves {A} p Is encode correct ts = step (p ts) (correct.explains ts)
   where
-    step : (o : Out A) → Explains p Is spell ts o → Leaves ts o
-    step (Parsed a rest) x = (spell a, x.1)
+    step : (o : Out A) → Explains p Is encode ts o → Leaves ts o
+    step (Parsed a rest) x = (encode a, x.1)
     step (Unexpected rest) x = (x.0, x.1)
 
 item_leaves : {A : Type 0} (p : Parser A) → LeavesEnds p → LeavesEnds (item p)
@@ -68,9 +68,9 @@ item_leaves {A} p h ts = step (p ts) (h ts)
     step (Parsed a rest) x = x
     step (Unexpected rest) x = all_left ts
 
-judged_leaves : {A : Type 0} (right : A → Bool) (p : Parser A) → LeavesEnds p
-    → LeavesEnds (judged right p)
-judged_leaves {A} right p h ts = step (p ts) (h ts)
+checked_leaves : {A : Type 0} (right : A → Bool) (p : Parser A) → LeavesEnds p
+    → LeavesEnds (checked right p)
+checked_leaves {A} right p h ts = step (p ts) (h ts)
   where
     taken : (a : A) (rest : List ℕ) (b : Bool) → IsEnd ts rest
         → Leaves ts (cond b (Parsed a rest) (Unexpected ts))
@@ -158,8 +158,8 @@ version_leaves : (last : Option ℕ) (number : ℕ) (before : Option ℕ) (table
     → LeavesEnds (version last number before tables)
 unfolding version
 version_leaves last number before tables = item_leaves
-    (judged (is_version last number before tables) (evolution tables))
-    (judged_leaves (is_version last number before tables) (evolution tables)
+    (checked (is_version last number before tables) (evolution tables))
+    (checked_leaves (is_version last number before tables) (evolution tables)
     (map_leaves (version_after tables) (pair number_64 (pair operator operators))
     (pair_leaves number_64 (pair operator operators) number_64_leaves
     (pair_leaves operator operators operator_leaves operators_leave))))
@@ -189,15 +189,15 @@ keys_leave : (last : Option ℕ) → LeavesEnds (keys last)
 unfolding keys key
 keys_leave last = bind_leaves (item number_64) (λ n. items (key last) n)
     (item_leaves number_64 number_64_leaves)
-    (λ n. items_leave (key last) (item_leaves (judged (is_period last) period)
-    (judged_leaves (is_period last) period period_leaves)) n)
+    (λ n. items_leave (key last) (item_leaves (checked (is_period last) period)
+    (checked_leaves (is_period last) period period_leaves)) n)
 
 entry_leaves : (last : Option ℕ) (type : ColType) (id : ℕ) (left : Span)
     → LeavesEnds (entry last type id left)
 unfolding entry
-entry_leaves last type id left = item_leaves (judged (is_due last type id left)
+entry_leaves last type id left = item_leaves (checked (is_due last type id left)
     (map_to cell_of (pair (pair number_64 value) period)))
-    (judged_leaves (is_due last type id left) (map_to cell_of (pair (pair number_64 value) period))
+    (checked_leaves (is_due last type id left) (map_to cell_of (pair (pair number_64 value) period))
     (map_leaves cell_of (pair (pair number_64 value) period)
     (pair_leaves (pair number_64 value) period
     (pair_leaves number_64 value number_64_leaves
@@ -241,13 +241,13 @@ head_leaves = pair_leaves (pair number_32 number_32) name
 
 line_leaves : (last : Option ℕ) (due : Lifeline) → LeavesEnds (stored_line last due)
 unfolding stored_line
-line_leaves last due = judged_leaves has_apart
-    (bind (item (judged (is_line due) line_head))
+line_leaves last due = checked_leaves has_apart
+    (bind (item (checked (is_line due) line_head))
     (λ head. bind (keys last) (λ ks. map_to (a_line due ks) (columns last ks due.columns))))
-    (bind_leaves (item (judged (is_line due) line_head))
+    (bind_leaves (item (checked (is_line due) line_head))
     (λ head. bind (keys last) (λ ks. map_to (a_line due ks) (columns last ks due.columns)))
-    (item_leaves (judged (is_line due) line_head)
-    (judged_leaves (is_line due) line_head head_leaves))
+    (item_leaves (checked (is_line due) line_head)
+    (checked_leaves (is_line due) line_head head_leaves))
     (λ head. bind_leaves (keys last) (λ ks. map_to (a_line due ks) (columns last ks due.columns))
     (keys_leave last)
     (λ ks. map_leaves (a_line due ks) (columns last ks due.columns)

@@ -13,14 +13,14 @@ use Rattle.smo_ops_spec.specs.ValidPast.{last_or_nought}
 use Rattle.smo_ops_spec.specs.Past.{no_tables}
 use Rattle.smo_ops_versions_spec.specs.Lifelines.{Lifeline, lifelines_of}
 use Rattle.store_image_spec.specs.Images.{StoredLine, Image, EndsUpTo, IsStoredLine, IsImage}
-use Rattle.store_image_spec.specs.Judged.{is_period}
-use Rattle.store_image_spec.specs.Spelling.{last_number}
+use Rattle.store_image_spec.specs.ItemChecks.{is_period}
+use Rattle.store_image_spec.specs.Encoding.{last_number}
 use Rattle.store_image_spec.proofs.Formats.{Each}
 use Rattle.store_image_spec.proofs.ReadParts.{IsLast, IsKey, Fits, CellFits, KeysRead, ColumnRead}
 use Rattle.store_image_spec.proofs.ReadParts.{ColumnsRead, LineRead, LinesRead, AllRead}
 use Rattle.store_image_spec.proofs.ReadParts.{AllLinesRead}
 use Rattle.store_image_spec.proofs.ReadParts.{ImageRead}
-use Rattle.store_image_spec.proofs.Judging.{period_lasts, period_up_to, is_period_so}
+use Rattle.store_image_spec.proofs.Checking.{period_lasts, period_up_to, is_period_so}
 use Rattle.store_image_spec.proofs.Filling.{from_first, to_first, IsWell, run_well, run_fills}
 use Rattle.store_image_spec.proofs.DueEntries.{Last, fills_run}
 use Rattle.store_image_spec.proofs.FittingRows.{Typed, AllFilled, rows_fit, entries_typed}

@@ -22,8 +22,8 @@ use Rattle.smo_ops_spec.proofs.NameLaws.{same_itself}
 use Rattle.command_codec_spec.specs.Reading.{Out, Parsed, Unexpected, and_then, bind, byte, map_to}
 use Rattle.command_codec_spec.specs.Reading.{pair, digits, items}
 use Rattle.command_codec_spec.specs.Reader.{up_to, number_64, name, value, operator, operators}
-use Rattle.command_codec_spec.specs.Spelling.{number, name_bytes, value_bytes, operator_bytes}
-use Rattle.command_codec_spec.specs.Spelling.{list_bytes}
+use Rattle.command_codec_spec.specs.Encoding.{number, name_bytes, value_bytes, operator_bytes}
+use Rattle.command_codec_spec.specs.Encoding.{list_bytes}
 use Rattle.command_codec_spec.specs.Valid.{IsOperator}
 use Rattle.command_codec_spec.proofs.Correctness.{byte_correct}
 use Rattle.command_codec_spec.proofs.Numbers.{both_true, of_both}
@@ -32,10 +32,10 @@ use Rattle.command_codec_spec.proofs.PartFormats.{list_correct}
 use Rattle.command_codec_spec.proofs.CommandFormats.{operator_correct}
 use Rattle.smo_ops_versions_spec.specs.Lifelines.{Lifeline, lifelines_of}
 use Rattle.store_image_spec.specs.Images.{StoredLine, Image}
-use Rattle.store_image_spec.specs.Items.{item, judged}
-use Rattle.store_image_spec.specs.Judged.{is_version, is_line, is_period, is_due}
-use Rattle.store_image_spec.specs.Spelling.{last_number, last_bytes, version_bytes, span_bytes}
-use Rattle.store_image_spec.specs.Spelling.{cell_bytes, line_bytes, stored_bytes, image_bytes}
+use Rattle.store_image_spec.specs.Items.{item, checked}
+use Rattle.store_image_spec.specs.ItemChecks.{is_version, is_line, is_period, is_due}
+use Rattle.store_image_spec.specs.Encoding.{last_number, last_bytes, version_bytes, span_bytes}
+use Rattle.store_image_spec.specs.Encoding.{cell_bytes, line_bytes, stored_bytes, image_bytes}
 use Rattle.store_image_spec.specs.Reader.{number_32, last_arm, last_stamp, version_after}
 use Rattle.store_image_spec.specs.Reader.{evolution, version, versions, all_versions, period, key}
 use Rattle.store_image_spec.specs.Reader.{keys, cell_of, entry, entries, column_entries, columns}
@@ -43,9 +43,9 @@ use Rattle.store_image_spec.specs.Reader.{line_head, a_line, has_apart, stored_l
 use Rattle.store_image_spec.specs.Reader.{all_lines}
 use Rattle.store_image_spec.specs.Reader.{nothing_after, an_image, image}
 use Rattle.store_image_spec.specs.Reader.{a_span}
-use Rattle.store_image_spec.proofs.Judging.{number_itself}
+use Rattle.store_image_spec.proofs.Checking.{number_itself}
 use Rattle.store_image_spec.proofs.Formats.{Reads, reads_correct, reads_so, reads_item}
-use Rattle.store_image_spec.proofs.Formats.{reads_judged}
+use Rattle.store_image_spec.proofs.Formats.{reads_checked}
 use Rattle.store_image_spec.proofs.Formats.{reads_missing, reads_then, reads_map, reads_pair, Led}
 use Rattle.store_image_spec.proofs.Formats.{reads_led, reads_none, reads_if, reads_number}
 use Rattle.store_image_spec.proofs.Formats.{reads_counted, Each, reads_items}
@@ -101,22 +101,22 @@ reads_last = reads_item (bind (byte (up_to 1)) last_arm) IsLast last_bytes
         (λ last. number 8 (stamp_in last)) (λ n h. ((n, h, refl), refl)) (λ last h. h)
     arms (suc (suc n)) t = absurd (let h = leb-true (suc (suc n)) 1 t in omega (arith, h))
 
-    spelled : (last : Option ℕ) (tag : ℕ) → up_to 1 tag ≡ true → AfterTag tag last → IsLast last
+    encoded : (last : Option ℕ) (tag : ℕ) → up_to 1 tag ≡ true → AfterTag tag last → IsLast last
         × (last_bytes last ≡ (tag ∷ []) ++ number 8 (stamp_in last))
-    spelled None zero t h = (tt, refl)
-    spelled (Some stamp) zero t h = absurd (cc)
-    spelled None (suc tag) t h = absurd (let e = h.2 in cc)
-    spelled (Some stamp) (suc zero) t h = (
+    encoded None zero t h = (tt, refl)
+    encoded (Some stamp) zero t h = absurd (cc)
+    encoded None (suc tag) t h = absurd (let e = h.2 in cc)
+    encoded (Some stamp) (suc zero) t h = (
       let e : h.0 ≡ stamp = (let q = h.2 in cc) in let k =
           h.1 in omega (arith, e, k),
       refl,
     )
-    spelled (Some stamp) (suc (suc n)) t h = absurd
+    encoded (Some stamp) (suc (suc n)) t h = absurd
         (let k = leb-true (suc (suc n)) 1 t in omega (arith, k))
 
     up : (tag : ℕ) (last : Option ℕ) → up_to 1 tag ≡ true → AfterTag tag last → IsLast last
         × (last_bytes last ≡ (tag ∷ []) ++ number 8 (stamp_in last))
-    up tag last t h = spelled last tag t h
+    up tag last t h = encoded last tag t h
 
     down : (last : Option ℕ) → IsLast last → (tag : ℕ) × (up_to 1 tag ≡ true) × AfterTag tag last
     down None h = (0, refl, refl)
@@ -125,12 +125,12 @@ reads_last = reads_item (bind (byte (up_to 1)) last_arm) IsLast last_bytes
 -- ---- versions
 
 -- a stamp of 64 bits, and operators that can be spelled
-abbrev pub IsSpelled : PlainVersion → Type 0
-IsSpelled v = (v.stamp ≤ most_64) × IsOperator v.op × (length v.inverse ≤ most_32)
+abbrev pub IsEncoded : PlainVersion → Type 0
+IsEncoded v = (v.stamp ≤ most_64) × IsOperator v.op × (length v.inverse ≤ most_32)
     × AllByRecursion IsOperator v.inverse
 
 abbrev pub IsEvolution : Tables → PlainVersion → Type 0
-IsEvolution before v = IsSpelled v × (v.tables ≡ schema_after before v.op)
+IsEvolution before v = IsEncoded v × (v.tables ≡ schema_after before v.op)
 
 abbrev Operators : List Operator → Type 0
 Operators ops = (length ops ≤ most_32) × AllByRecursion IsOperator ops
@@ -182,9 +182,9 @@ reads_version : (last : Option ℕ) (number : ℕ) (before : Option ℕ) (tables
     version_bytes
 unfolding version
 reads_version last number before tables =
-    reads_item (judged (is_version last number before tables) (evolution tables))
+    reads_item (checked (is_version last number before tables) (evolution tables))
     (IsVersionRead last number before tables) version_bytes
-    (reads_judged (evolution tables) (IsEvolution tables) version_bytes (reads_evolution tables)
+    (reads_checked (evolution tables) (IsEvolution tables) version_bytes (reads_evolution tables)
     (is_version last number before tables))
 
 reads_versions : (last : Option ℕ) (n number : ℕ) (before : Option ℕ) (tables : Tables)
@@ -237,8 +237,8 @@ IsKey last p = Fits p × (is_period last p ≡ true)
 
 reads_key : (last : Option ℕ) → Reads (key last) (IsKey last) span_bytes
 unfolding key
-reads_key last = reads_item (judged (is_period last) period) (IsKey last) span_bytes
-    (reads_judged period Fits span_bytes reads_period (is_period last))
+reads_key last = reads_item (checked (is_period last) period) (IsKey last) span_bytes
+    (reads_checked period Fits span_bytes reads_period (is_period last))
 
 each_counted : {A : Type 0} (Is : A → Type 0) (n : ℕ) (l : List A) → Each Is n l → length l ≡ n
 each_counted Is zero l h = ap length h
@@ -280,10 +280,10 @@ reads_entry : (last : Option ℕ) (type : ColType) (id : ℕ) (left : Span)
     → Reads (entry last type id left) (IsEntry last type id left) cell_bytes
 unfolding entry
 reads_entry last type id left =
-    reads_item (judged (is_due last type id left)
+    reads_item (checked (is_due last type id left)
     (map_to cell_of (pair (pair number_64 value) period))) (IsEntry last type id left)
     cell_bytes
-    (reads_judged (map_to cell_of (pair (pair number_64 value) period)) CellFits cell_bytes
+    (reads_checked (map_to cell_of (pair (pair number_64 value) period)) CellFits cell_bytes
     reads_cell (is_due last type id left))
 
 -- the entries of these keys, of the first of which a part may be filled
@@ -487,9 +487,9 @@ own_head due = both_true (due.first == due.first && last_number due.last == last
     (both_true (due.first == due.first) (last_number due.last == last_number due.last)
     (number_itself due.first) (number_itself (last_number due.last))) (same_itself due.table)
 
-head_spelled : (due : Lifeline) (x : Head) (l : StoredLine) → is_line due x ≡ true → l.line ≡ due
+head_encoded : (due : Lifeline) (x : Head) (l : StoredLine) → is_line due x ≡ true → l.line ≡ due
     → stored_bytes l ≡ head_bytes x ++ body_bytes l
-head_spelled due x l e q =
+head_encoded due x l e q =
     let h = head_is due x e in
     append_assoc (line_bytes l.line) (list_bytes 8 span_bytes l.keys)
     (flat_map (list_bytes 8 cell_bytes) l.cells)
@@ -507,18 +507,19 @@ head_fits due x h e =
 reads_line : (last : Option ℕ) (due : Lifeline)
     → Reads (stored_line last due) (LineRead last due) stored_bytes
 unfolding stored_line
-reads_line last due = reads_judged (bind (item (judged (is_line due) line_head))
+reads_line last due = reads_checked (bind (item (checked (is_line due) line_head))
     (λ head. bind (keys last) (λ ks. map_to (a_line due ks) (columns last ks due.columns))))
     (λ l. LineFits due × BodyRead last due l) stored_bytes
-    (reads_then (item (judged (is_line due) line_head)) (λ x. IsHead x × (is_line due x ≡ true))
+    (reads_then (item (checked (is_line due) line_head)) (λ x. IsHead x × (is_line due x ≡ true))
     head_bytes (λ head. bind (keys last) (λ ks.
     map_to (a_line due ks) (columns last ks due.columns)))
     (λ x l. BodyRead last due l) (λ x l. body_bytes l) (λ l. LineFits due × BodyRead last due l)
     stored_bytes
-    (reads_item (judged (is_line due) line_head) (λ x. IsHead x × (is_line due x ≡ true)) head_bytes
-    (reads_judged line_head IsHead head_bytes reads_head (is_line due)))
+    (reads_item (checked (is_line due) line_head) (λ x. IsHead x × (is_line due x ≡ true))
+    head_bytes
+    (reads_checked line_head IsHead head_bytes reads_head (is_line due)))
     (λ x h. reads_body last due)
-    (λ x l h k. ((head_fits due x h.0 h.1, k), head_spelled due x l h.1 k.0))
+    (λ x l h k. ((head_fits due x h.0 h.1, k), head_encoded due x l h.1 k.0))
     (λ l h. (((due.first, last_number due.last), due.table), (h.0, own_head due), h.1)))
     has_apart
 

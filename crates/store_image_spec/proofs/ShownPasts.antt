@@ -29,7 +29,7 @@ use Rattle.store_image_spec.proofs.ShownDatabases.{holds_values}
 use Rattle.store_image_spec.proofs.QuietMoments.{version_stamp, stamp_up_to}
 use Rattle.store_image_spec.proofs.ShownStates.{stamps_climb, begins_there, rise, all_up_to}
 use Rattle.store_image_spec.proofs.ShownStates.{each_differs, version_starts, shows}
-use Rattle.store_image_spec.proofs.SpelledValues.{versions_hold}
+use Rattle.store_image_spec.proofs.EncodedValues.{versions_hold}
 
 module _ (n : ℕ) (image : Image) (is : IsImage image) where
   abbrev past : Past

@@ -34,7 +34,7 @@ use Rattle.smo_ops_spec.proofs.NextSchemas.{ordered_columns}
 use Rattle.smo_ops_spec.proofs.MetPreconditions.{create_met, decompose_met, drop_met}
 use Rattle.command_codec_spec.proofs.Correctness.{by_test, true_false}
 use Rattle.command_codec_spec.proofs.Numbers.{of_both}
-use Rattle.store_image_spec.proofs.Judging.{either}
+use Rattle.store_image_spec.proofs.Checking.{either}
 
 abbrev pub HasColumn : List Column → Type 0
 HasColumn columns = 1 ≤ length columns

@@ -31,9 +31,9 @@ use Rattle.command_codec_spec.proofs.CommandFormats.{each_of_both, both_of_each}
 use Rattle.command_codec_spec.proofs.Correctness.{true_false}
 use Rattle.command_codec_spec.proofs.Numbers.{both_true, of_both}
 use Rattle.store_image_spec.specs.Images.{VersionsNamed}
-use Rattle.store_image_spec.specs.Judged.{is_stamp, is_later, is_accepted}
-use Rattle.store_image_spec.proofs.ReadParts.{IsSpelled, AreRead}
-use Rattle.store_image_spec.proofs.Judging.{stamp_within}
+use Rattle.store_image_spec.specs.ItemChecks.{is_stamp, is_later, is_accepted}
+use Rattle.store_image_spec.proofs.ReadParts.{IsEncoded, AreRead}
+use Rattle.store_image_spec.proofs.Checking.{stamp_within}
 
 none_is : {A : Type 0} (o : Option A) → is_none o ≡ true → o ≡ None
 none_is None e = refl
@@ -112,7 +112,7 @@ module _ (last : Option ℕ) where
       })
   read_valid (suc n) number before tables [] h = absurd h
   read_valid (suc n) number before tables (v ∷ l)
-      ((((stamp_fits, (writable, op_named), few_back, back_spelled), next), accepted), later) =
+      ((((stamp_fits, (writable, op_named), few_back, back_encoded), next), accepted), later) =
       let e = of_both (is_stamp last v.stamp) (is_accepted number before tables v) accepted in
       let a = accepted_is number before tables v e.1 next in
       let r = read_valid n (number + 1) (Some v.stamp) v.tables l later in
@@ -121,7 +121,7 @@ module _ (last : Option ℕ) where
         begun = (stamp_within last v.stamp e.0, r.begun);
         without = λ q. absurd (true_false (sym e.0 ∙ ap (λ o. is_stamp o v.stamp) q));
         few = λ k. (let b = a.0 in let m = r.few (omega (arith, b)) in omega (arith, m));
-        named = ((op_named, named_of v.inverse back_spelled), r.named);
+        named = ((op_named, named_of v.inverse back_encoded), r.named);
       }
 
 -- ---- what can be read
@@ -163,10 +163,10 @@ some_last None m f h = absurd (f refl)
 some_last (Some k) m f h = le-leb m k h
 
 module _ (last : Option ℕ) (ends : last_or_nought last < forever) where
-  spelled : (before : Option ℕ) (tables : Tables) (v : PlainVersion) → IsValid tables
+  encoded : (before : Option ℕ) (tables : Tables) (v : PlainVersion) → IsValid tables
       → IsVersion before tables v → v.stamp ≤ last_or_nought last → OperatorNamed v.op
-      → AllByRecursion OperatorNamed v.inverse → IsSpelled v
-  spelled before tables v l h b n i =
+      → AllByRecursion OperatorNamed v.inverse → IsEncoded v
+  encoded before tables v l h b n i =
       let w = version_writable before tables v l h in
       let few = w.1 in
       let e = ends in (
@@ -184,7 +184,7 @@ module _ (last : Option ℕ) (ends : last_or_nought last < forever) where
   valid_read number before tables [] w a b f n k = refl
   valid_read number before tables (v ∷ l) w a b f n k = (
     (
-      (spelled before tables v w a.0 b.0 k.0.0 k.0.1, a.0.tables),
+      (encoded before tables v w a.0 b.0 k.0.0 k.0.1, a.0.tables),
       both_true (is_stamp last v.stamp) (is_accepted number before tables v)
           (some_last last v.stamp some b.0) (is_accepted_so last number before tables v
           (omega (arith, n)) a.0),

@@ -11,13 +11,13 @@ named_at ts (Unexpected rest) = Unexpected ts
 abbrev pub item : {A : Type 0} → Parser A → Parser A
 item p = λ ts. named_at ts (p ts)
 
--- what was read is judged, and where it is not right its first byte is named
+-- what was read is checked, and where it is not right its first byte is named
 abbrev pub if_right : {A : Type 0} → List ℕ → (A → Bool) → Out A → Out A
 if_right ts right (Parsed a rest) = if right a then Parsed a rest else Unexpected ts
 if_right ts right (Unexpected rest) = Unexpected rest
 
-abbrev pub judged : {A : Type 0} → (A → Bool) → Parser A → Parser A
-judged right p = λ ts. if_right ts right (p ts)
+abbrev pub checked : {A : Type 0} → (A → Bool) → Parser A → Parser A
+checked right p = λ ts. if_right ts right (p ts)
 
 -- nothing may stand here
 abbrev pub missing : {A : Type 0} → Parser A

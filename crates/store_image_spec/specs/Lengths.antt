@@ -3,7 +3,7 @@ use Rattle.std.specs.Prelude.{ℕ, ◌+◌, ◌*◌, List, [], ◌∷◌, length
 use Rattle.smo_ops_types.specs.Commands.{PlainVersion}
 use Rattle.smo_ops_spec.specs.Past.{Past}
 use Rattle.smo_ops_spec.specs.Sizes.{Written, Size}
-use Rattle.store_image_spec.specs.Spelling.{version_bytes}
+use Rattle.store_image_spec.specs.Encoding.{version_bytes}
 
 -- a count of versions, and each
 abbrev pub versions_length : List PlainVersion → ℕ

@@ -1,7 +1,7 @@
 pub mod Images
-pub mod Spelling
+pub mod Encoding
 pub mod Items
 pub mod Reader
-pub mod Judged
+pub mod ItemChecks
 pub mod ShownPast
 pub mod Lengths

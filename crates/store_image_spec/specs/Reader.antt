@@ -15,12 +15,12 @@ use Rattle.smo_ops_types.specs.Operators.{Operator}
 use Rattle.smo_ops_spec.specs.After.{schema_after}
 use Rattle.smo_ops_spec.specs.Past.{no_tables}
 use Rattle.command_codec_spec.specs.Reading.{Parsed, Unexpected, Parser, bind, pure, map_to, pair}
-use Rattle.command_codec_spec.specs.Reading.{tagged, digits, items}
+use Rattle.command_codec_spec.specs.Reading.{by_tag, digits, items}
 use Rattle.command_codec_spec.specs.Reader.{up_to, number_64, name, value, operator, operators}
 use Rattle.smo_ops_versions_spec.specs.Lifelines.{Lifeline, lifelines_of}
 use Rattle.store_image_spec.specs.Images.{StoredLine, Image}
-use Rattle.store_image_spec.specs.Items.{item, judged, missing}
-use Rattle.store_image_spec.specs.Judged.{is_version, is_line, is_period, is_due, are_apart}
+use Rattle.store_image_spec.specs.Items.{item, checked, missing}
+use Rattle.store_image_spec.specs.ItemChecks.{is_version, is_line, is_period, is_due, are_apart}
 
 -- a number of 4 bytes
 unfoldable pub number_32 : Parser ℕ
@@ -34,7 +34,7 @@ last_arm tag = if tag == 0 then map_to (λ n. None) (digits 0 8 0)
     else map_to Some (digits 18446744073709551614 8 0)
 
 unfoldable pub last_stamp : Parser (Option ℕ)
-last_stamp = item (tagged (up_to 1) last_arm)
+last_stamp = item (by_tag (up_to 1) last_arm)
 
 -- ---- versions
 
@@ -52,7 +52,7 @@ evolution before = map_to (version_after before) (pair number_64 (pair operator 
 
 -- the next version, after so many, the last of which has this stamp and these tables
 unfoldable pub version : Option ℕ → ℕ → Option ℕ → Tables → Parser PlainVersion
-version last number before tables = item (judged (is_version last number before tables)
+version last number before tables = item (checked (is_version last number before tables)
     (evolution tables))
 
 -- so many
@@ -74,7 +74,7 @@ unfoldable pub period : Parser Span
 period = map_to a_span (pair number_64 number_64)
 
 unfoldable pub key : Option ℕ → Parser Span
-key last = item (judged (is_period last) period)
+key last = item (checked (is_period last) period)
 
 unfoldable pub keys : Option ℕ → Parser (List Span)
 keys last = bind (item number_64) (λ n. items (key last) n)
@@ -84,7 +84,7 @@ cell_of ((id, content), lasts) = record { id = id; value = content; period = las
 
 -- the next entry: of the key with this id, of whose period this part is not yet filled
 unfoldable pub entry : Option ℕ → ColType → ℕ → Span → Parser Cell
-entry last type id left = item (judged (is_due last type id left)
+entry last type id left = item (checked (is_due last type id left)
     (map_to cell_of (pair (pair number_64 value) period)))
 
 -- so many entries fill the periods of these keys, the first of which has this id; of the first a
@@ -122,7 +122,7 @@ has_apart l = are_apart l.keys l.cells
 -- which breaks nothing else
 unfoldable pub stored_line : Option ℕ → Lifeline → Parser StoredLine
 stored_line last due =
-    judged has_apart (bind (item (judged (is_line due) line_head))
+    checked has_apart (bind (item (checked (is_line due) line_head))
     (λ head. bind (keys last) (λ ks. map_to (a_line due ks) (columns last ks due.columns))))
 
 -- so many, of the lifelines that are due

@@ -12,7 +12,7 @@ ghost use Rattle.smo_ops_spec.specs.Past.{version_at, database_at};
 ghost use Rattle.command_codec_spec.specs.Reading.{Parsed, Unexpected};
 ghost use Rattle.smo_ops_versions_spec.specs.Lifelines.{Covers};
 ghost use Rattle.store_image_spec.specs.Images.{StoredLine, Image, IsImage, store_of};
-ghost use Rattle.store_image_spec.specs.Spelling.{image_bytes};
+ghost use Rattle.store_image_spec.specs.Encoding.{image_bytes};
 ghost use Rattle.store_image_spec.specs.Reader as spec;
 ghost use Rattle.store_image_spec.specs.ShownPast.{image_past};
 ghost use Rattle.store_image_spec.specs.Lengths.{image_length};

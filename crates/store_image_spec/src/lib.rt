@@ -3,7 +3,7 @@
 //!
 //! What an image has stands in `specs/Images.antt`, with what holds of it; its bytes in
 //! `specs/Spelling.antt`. The reader from the start (`specs/Reader.antt`) says where bytes that are
-//! no image break: each item is judged by what was read before it.
+//! no image break: each item is checked by what was read before it.
 #![tactic(auto)]
 
 mod laws;

@@ -1,6 +1,6 @@
 pub mod ItemLaws
 pub mod PlaceLaws
-pub mod CrossingLaws
+pub mod OverflowLaws
 pub mod CountLaws
 pub mod FewLaws
 pub mod TypingLaws

@@ -27,7 +27,7 @@ pub use parse::parse_query;
 pub use prima_base::Keep;
 pub use query_reader::ask;
 pub use temporal_lang_grammar_spec::{
-    crossings_tell_what_is_too_much, queries_are_correct, queries_are_one,
+    overflows_tell_what_is_too_much, queries_are_correct, queries_are_one,
 };
 pub use temporal_lang_spec::{
     a_query_is_refused_for_want_of_a_named_inverse_alone, first_loss_is_at_the_least_moment,

@@ -3,10 +3,10 @@
 ghost use Rattle.std.specs.Prelude.{◌≤◌, length};
 ghost use Rattle.lexer_combinators.specs.Found.{IsRead, FindsStopped, FindsLongest, AnswersAs};
 ghost use Rattle.lexer_combinators.specs.Found.{lexemes_from};
-ghost use Rattle.lexer_combinators.specs.Crossings.{IsFaultOf, RefusesFirst};
+ghost use Rattle.lexer_combinators.specs.Overflows.{IsFaultOf, RefusesFirst};
 ghost use Rattle.temporal_lang_types.specs.Queries.{query_of};
 ghost use Rattle.temporal_lang_grammar_spec.specs.QueryGrammar.{IsAsk};
-ghost use Rattle.temporal_lang_grammar_spec.specs.QueryCrossings.{ask_crossings};
+ghost use Rattle.temporal_lang_grammar_spec.specs.QueryOverflows.{ask_overflows};
 ghost use Rattle.temporal_lang_grammar_spec.specs.QueryReader as spec;
 
 use crate::query_reader::ask;
@@ -40,10 +40,10 @@ pub fn parse_query(
     ensures longest { FindsLongest query_of IsAsk list.now from result }
     // A fault is at the first token with which nothing of the grammar goes on, or at which a count
     // passes its limit.
-    ensures fault { IsFaultOf IsAsk ask_crossings list.now from result }
+    ensures fault { IsFaultOf IsAsk ask_overflows list.now from result }
     // A prefix that passes a limit at its last token is refused there for this count, whatever
     // stands after it.
-    ensures over { RefusesFirst IsAsk ask_crossings list.now from result }
+    ensures over { RefusesFirst IsAsk ask_overflows list.now from result }
     ensures exact { AnswersAs query_of (spec.ask 0 (lexemes_from list.now from)) list.now result }
 {
     let mut cursor = Cursor {

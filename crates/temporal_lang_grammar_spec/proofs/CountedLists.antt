@@ -8,12 +8,12 @@ use Rattle.lexer_combinators.specs.Parsing.{Parser, IsCorrectParser, Stops, Exce
 use Rattle.lexer_combinators.specs.Parsing.{more}
 use Rattle.lexer_combinators.specs.Grammar.{Size, AreMore, so_wide}
 use Rattle.lexer_combinators.specs.Grammar as grammar
-use Rattle.lexer_combinators.specs.ListCrossings.{Crossing, map_crossing, counted_crossing}
+use Rattle.lexer_combinators.specs.ListOverflows.{Overflow, map_overflow, counted_overflow}
 use Rattle.lexer_combinators.proofs.Parsing.{more_correct, bind_more, map_correct, side}
 use Rattle.lexer_combinators.proofs.AlongParts.{GoesAlong, map_follow, bind_follow, counted_follow}
 use Rattle.temporal_lang_grammar_spec.specs.QueryGrammar.{counted_grammar}
 use Rattle.temporal_lang_grammar_spec.specs.QueryReader.{counted}
-use Rattle.temporal_lang_grammar_spec.specs.QueryCrossings.{list_crossings}
+use Rattle.temporal_lang_grammar_spec.specs.QueryOverflows.{list_overflows}
 use Rattle.temporal_lang_grammar_spec.proofs.WholePrefixes.{StuckNowhere, map_nowhere, bind_nowhere}
 use Rattle.temporal_lang_grammar_spec.proofs.WholePrefixes.{more_nowhere}
 
@@ -54,15 +54,15 @@ module _ (is : Lexeme → Bool) (sep : Lexeme) (is_sep : is sep ≡ true) (exact
   stopping a b s ts rest h stops = side is sep is_sep exact 32 item G follow correct apart
       (so_wide w) 1 h.0 s ts rest h.2 stops
 
-  pub counted_along : (ps : Crossing G) → GoesAlong item G follow ps
+  pub counted_along : (ps : Overflow G) → GoesAlong item G follow ps
       → GoesAlong (counted is w k item) (counted_grammar sep w G) follow_list
-      (list_crossings sep w G ps)
+      (list_overflows sep w G ps)
   counted_along ps along = bind_follow item (λ a. map_to (λ l. a ∷ l) (more is w item k)) G
       (λ a. grammar.map (λ l. a ∷ l) (AreMore sep (so_wide w) G 1)) follow follow_list ps
-      (λ a. map_crossing (λ l. a ∷ l) (AreMore sep (so_wide w) G 1) (counted_crossing w sep G ps 1))
+      (λ a. map_overflow (λ l. a ∷ l) (AreMore sep (so_wide w) G 1) (counted_overflow w sep G ps 1))
       along
       (λ a. map_follow (λ l. a ∷ l) (more is w item k) (AreMore sep (so_wide w) G 1) follow_list
-      (counted_crossing w sep G ps 1)
+      (counted_overflow w sep G ps 1)
       (counted_follow is sep is_sep exact item G follow correct apart ps along w k 1 e)) stopping
 
   pub counted_nowhere : StuckNowhere item G → StuckNowhere (counted is w k item)

@@ -1,3 +1,3 @@
 pub mod QueryGrammar
 pub mod QueryReader
-pub mod QueryCrossings
+pub mod QueryOverflows

@@ -5,10 +5,10 @@ ghost use Rattle.prima_base.specs.declared.refusal.What.{What};
 ghost use Rattle.lexer_spec.specs.Lexemes.{Lexeme};
 ghost use Rattle.lexer_combinators.specs.Parsing.{IsCorrectParser, Exceeds, Valid};
 ghost use Rattle.lexer_combinators.specs.Grammar.{Size};
-ghost use Rattle.lexer_combinators.specs.Crossings.{IsFirstCrossing};
+ghost use Rattle.lexer_combinators.specs.Overflows.{IsFirstOverflow};
 ghost use Rattle.temporal_lang_types.specs.Queries.{PlainQuery};
 ghost use Rattle.temporal_lang_grammar_spec.specs.QueryGrammar.{IsBranch, IsAsk};
-ghost use Rattle.temporal_lang_grammar_spec.specs.QueryCrossings.{ask_crossings};
+ghost use Rattle.temporal_lang_grammar_spec.specs.QueryOverflows.{ask_overflows};
 ghost use Rattle.temporal_lang_grammar_spec.specs.QueryReader as spec;
 
 /// The readers of queries and their branches are good for their grammars: what is read is in them,
@@ -27,11 +27,11 @@ pub fn queries_are_one()
 /// The tokens at which a count passes its limit tell what is too much in a query: of what first
 /// passes its limit there is more than it, and where nothing does, there is more of nothing. Each
 /// token of the query has its place among them.
-pub fn crossings_tell_what_is_too_much()
+pub fn overflows_tell_what_is_too_much()
     ensures some { (q : PlainQuery) (s : Size) (f : List Lexeme) (h : IsAsk q s f) (w : What)
-        (k : ℕ) → IsFirstCrossing w (ask_crossings q s f h) k → Exceeds w 0 32 s }
+        (k : ℕ) → IsFirstOverflow w (ask_overflows q s f h) k → Exceeds w 0 32 s }
     ensures none { (q : PlainQuery) (s : Size) (f : List Lexeme) (h : IsAsk q s f)
-        → ((k : ℕ) → get_or (ask_crossings q s f h) k None ≡ None) → Valid 32 s }
+        → ((k : ℕ) → get_or (ask_overflows q s f h) k None ≡ None) → Valid 32 s }
     ensures each { (q : PlainQuery) (s : Size) (f : List Lexeme) (h : IsAsk q s f)
-        → length (ask_crossings q s f h) ≡ length f }
+        → length (ask_overflows q s f h) ≡ length f }
 {}

@@ -2,7 +2,7 @@
 //!
 //! `specs/QueryGrammar.antt` says which lexemes spell which query, and of what size it is.
 //! `specs/QueryReader.antt` reads them from left to right, made of the parts of lexer_combinators
-//! and of the readers of lexer_trees_spec. `specs/QueryCrossings.antt` says at which tokens a count
+//! and of the readers of lexer_trees_spec. `specs/QueryOverflows.antt` says at which tokens a count
 //! passes its limit.
 //!
 //! Nothing runs here. Each function is proved and does nothing; crates above make their own
@@ -11,4 +11,4 @@
 
 mod laws;
 
-pub use laws::{crossings_tell_what_is_too_much, queries_are_correct, queries_are_one};
+pub use laws::{overflows_tell_what_is_too_much, queries_are_correct, queries_are_one};

@@ -44,10 +44,10 @@ one_node sources (Alias alias) n = refl
 one_node sources (Atom i) n = refl
 
 module _ (sources : List Source) where
-  abbrev crossings : List ColRef → Type 0
-  crossings rs = first_refusal (map (reference_test sources) rs) ≡ None
+  abbrev overflows : List ColRef → Type 0
+  overflows rs = first_refusal (map (reference_test sources) rs) ≡ None
 
-  outputs_known : (ts : List Tree) → crossings (flat_map references ts)
+  outputs_known : (ts : List Tree) → overflows (flat_map references ts)
       → first_unknown (kinds_of (atoms_from 0 (source_columns sources)))
       (flat_map references (map (fill (to_atoms sources)) ts)) ≡ None
   outputs_known [] h = refl
@@ -63,7 +63,7 @@ module _ (sources : List Source) where
       (reference_test sources) (known_reference sources) t p.0)
       (outputs_known ts p.1)
 
-  branch_known : (b : PlainBranch) → crossings (branch_references b)
+  branch_known : (b : PlainBranch) → overflows (branch_references b)
       → first_unknown (kinds_of (atoms_from 0 (source_columns sources)))
       (branch_references (filled_branch (to_atoms sources) b)) ≡ None
   branch_known b h =

@@ -58,10 +58,10 @@ map_both f (x ∷ xs) ys = ap (λ zs. f x ∷ zs) (map_both f xs ys)
 module _ (by : Filling) (of : Kinds) (test : ColRef → Fault)
     (known : (r : ColRef) → test r ≡ None → first_unknown of (references (by r.whose r.name))
     ≡ None) where
-  abbrev pub Crossings : List ColRef → Type 0
-  Crossings rs = first_refusal (map test rs) ≡ None
+  abbrev pub Overflows : List ColRef → Type 0
+  Overflows rs = first_refusal (map test rs) ≡ None
 
-  pub both : (xs ys : List ColRef) → Crossings (xs ++ ys) → Crossings xs × Crossings ys
+  pub both : (xs ys : List ColRef) → Overflows (xs ++ ys) → Overflows xs × Overflows ys
   both xs ys h = none_of_both (map test xs) (map test ys)
       (ap first_refusal (sym (map_both test xs ys)) ∙ h)
 
@@ -70,7 +70,7 @@ module _ (by : Filling) (of : Kinds) (test : ColRef → Fault)
   together xs ys p q = unknown_append of xs ys ∙ ap (λ o. option_or o (first_unknown of ys)) p ∙ q
 
   mutual
-    pub known_filled : (t : Tree) → Crossings (references t)
+    pub known_filled : (t : Tree) → Overflows (references t)
         → first_unknown of (references (fill by t)) ≡ None
     known_filled (column w n) h = known (record { whose = w; name = n })
         (none_of_first (test (record { whose = w; name = n })) [] h).0
@@ -85,7 +85,7 @@ module _ (by : Filling) (of : Kinds) (test : ColRef → Fault)
         (together (references (fill by a)) (references (fill by b)) (known_filled a q.0)
         (known_filled b q.1))
 
-    known_trees : (ts : Trees) → Crossings (trees_references ts)
+    known_trees : (ts : Trees) → Overflows (trees_references ts)
         → first_unknown of (trees_references (fill_trees by ts)) ≡ None
     known_trees no_trees h = refl
     known_trees (a_tree t ts) h =
@@ -93,7 +93,7 @@ module _ (by : Filling) (of : Kinds) (test : ColRef → Fault)
         together (references (fill by t)) (trees_references (fill_trees by ts)) (known_filled t p.0)
         (known_trees ts p.1)
 
-    pub known_test : (c : Test) → Crossings (test_references c)
+    pub known_test : (c : Test) → Overflows (test_references c)
         → first_unknown of (test_references (fill_test by c)) ≡ None
     known_test never h = refl
     known_test always h = refl
@@ -105,7 +105,7 @@ module _ (by : Filling) (of : Kinds) (test : ColRef → Fault)
     known_test (some_of cs) h = known_tests cs h
     known_test (fails c) h = known_test c h
 
-    known_tests : (cs : Tests) → Crossings (tests_references cs)
+    known_tests : (cs : Tests) → Overflows (tests_references cs)
         → first_unknown of (tests_references (fill_tests by cs)) ≡ None
     known_tests no_tests h = refl
     known_tests (a_test c cs) h =

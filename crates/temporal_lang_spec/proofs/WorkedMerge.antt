@@ -22,7 +22,7 @@ use Rattle.smo_ops_types.specs.Commands.{PlainCommand, PlainVersion, changing, e
 use Rattle.smo_ops_spec.specs.OneRow.{Row, Relation, same}
 use Rattle.smo_ops_spec.specs.Making.{union, from_two}
 use Rattle.smo_ops_spec.specs.Effects.{database_after, after_each, gained, lost}
-use Rattle.smo_ops_spec.specs.After.{op_fault, schema_after, carried}
+use Rattle.smo_ops_spec.specs.After.{op_fault, schema_after, migrate}
 use Rattle.smo_ops_spec.specs.Sizes.{Size, sizes_changed, sizes_evolved}
 use Rattle.smo_ops_spec.specs.Past.{Past, State, a_state, no_tables, no_database, beginning}
 use Rattle.smo_ops_spec.specs.Past.{changed_to, evolved_to, past_with, from_stamp}
@@ -347,7 +347,7 @@ on_3 : (db : Database) (rows : Relation) → get db t ≡ Some (Rows rows)
 on_3 db rows h = selected merged db t (column Free a ∷ []) always a_columns rows t_columns h
 
 merged_over : (db : Database) (x y : Relation) → get db r ≡ Some (Rows x) → get db s ≡ Some (Rows y)
-    → get (carried with_s (merge_table r s t) db) t ≡ Some (Rows (union x y))
+    → get (migrate with_s (merge_table r s t) db) t ≡ Some (Rows (union x y))
 merged_over db x y h k =
     t_there (remove (remove db r) s) (from_two union (get db r) (get db s))
     ∙ ap (λ (e : Option DatabaseEntry). Some (from_two union e (get db s))) h

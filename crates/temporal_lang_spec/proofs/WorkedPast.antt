@@ -27,7 +27,7 @@ use Rattle.smo_ops_spec.specs.OneRow.{Row, Relation}
 use Rattle.smo_ops_spec.specs.Making.{from_one}
 use Rattle.smo_ops_spec.specs.Effects.{columns_of, relation_after, with_changed, after_each, gained}
 use Rattle.smo_ops_spec.specs.Effects.{lost, rows_under}
-use Rattle.smo_ops_spec.specs.After.{op_fault, schema_after, carried}
+use Rattle.smo_ops_spec.specs.After.{op_fault, schema_after, migrate}
 use Rattle.smo_ops_spec.specs.Past.{State, Past, a_state, no_tables, no_database, tables_of}
 use Rattle.smo_ops_spec.specs.Past.{version_at, database_at, beginning, changed_to, evolved_to}
 use Rattle.smo_ops_spec.specs.Past.{past_with, from_stamp}
@@ -358,7 +358,7 @@ asked_later db rows h =
     ∙ ap (λ e. set_of row_cmp (a_of (Some ab_columns) e)) h
 
 renamed_from : (db : Database) (rows : Relation) → get db t ≡ Some (Rows rows)
-    → get (carried tables_1 (rename_table t u) db) u ≡ Some (Rows rows)
+    → get (migrate tables_1 (rename_table t u) db) u ≡ Some (Rows rows)
 renamed_from db rows h = u_there (remove db t) (from_one (λ rows. rows) (get db t))
     ∙ ap (λ e. Some (from_one (λ rows. rows) e)) h
 

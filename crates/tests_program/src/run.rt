@@ -14,20 +14,20 @@ const FIRST_REPLIES: &[u8] = b"ok 1 version 1\nok 5 +1 -0\nrow 5 now 1\nend 1\n"
 // The status of a run with one rule for each kind of operator.
 fn run<S: Source, K: Sink>(
     alloc: Global,
-    words: &[Word],
+    arguments: &[Word],
     source: &mut S,
     sink: &mut K,
 ) -> Result<Status, AllocError> {
-    match run_with_rules(alloc, words, source, sink) {
+    match run_with_rules(alloc, arguments, source, sink) {
         Ok(status) => Ok(status),
         Err(_no_memory) => Err(AllocError),
     }
 }
 
 fn words_of(alloc: Global, word: &str) -> Result<Vec<Word>, AllocError> {
-    let mut words = Vec::new(alloc);
-    words.push(String::from_str(alloc, word)?)?;
-    Ok(words)
+    let mut arguments = Vec::new(alloc);
+    arguments.push(String::from_str(alloc, word)?)?;
+    Ok(arguments)
 }
 
 // Runs the script, handed out in chunks of this size, and compares status and replies.
@@ -39,13 +39,13 @@ fn expect_run(
     want: Status,
     replies: &[u8],
 ) -> Result<(), AllocError> {
-    let words = words_of(alloc, "run")?;
+    let arguments = words_of(alloc, "run")?;
     let most = chunk.max(1);
     let mut source = MemSource::new(Vec::from_slice(alloc, script)?, most, Vec::new(alloc));
     let Ok(mut sink) = MemSink::new(alloc, 4096, Vec::new(alloc)) else {
         return Err(AllocError);
     };
-    let status = run(alloc, &words, &mut source, &mut sink)?;
+    let status = run(alloc, &arguments, &mut source, &mut sink)?;
     assert!(rt; status == want, "status in chunks of {chunk}");
     assert!(rt; sink.written() == replies, "replies in chunks of {chunk}");
     Ok(())
@@ -132,9 +132,9 @@ fn after_a_long_statement(rt: HostRuntime) -> Result<(), Fail> {
 #[test]
 fn sure_ends_never_fail(rt: HostRuntime) -> Result<(), Fail> {
     let alloc = rt.alloc();
-    let words = words_of(alloc, "run")?;
+    let arguments = words_of(alloc, "run")?;
     let mut source = SureSource::new(Vec::from_slice(alloc, FIRST)?);
     let mut sink = SureSink::new();
-    assert!(rt; run(alloc, &words, &mut source, &mut sink)? == Status::Done);
+    assert!(rt; run(alloc, &arguments, &mut source, &mut sink)? == Status::Done);
     Ok(())
 }

@@ -6,11 +6,11 @@ use std::test::Fail;
 
 // The words stand in the line, apart by a blank.
 fn asked_for(alloc: Global, line: &str) -> Result<Option<Request>, NoMemory> {
-    let mut words = Vec::new(alloc);
+    let mut arguments = Vec::new(alloc);
     for word in line.split(' ') {
-        words.push(String::from_str(alloc, word)?)?;
+        arguments.push(String::from_str(alloc, word)?)?;
     }
-    asked(alloc, &words)
+    asked(alloc, &arguments)
 }
 
 fn run(journal_limit: u64) -> Option<Request> {

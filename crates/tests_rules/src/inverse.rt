@@ -23,7 +23,7 @@ fn is_accepted(alloc: Global, before: &Schema, op: &Op) -> bool
 }
 
 // What `check_inverse` answers to the operator and its inverse; none where the operator is refused.
-fn judged(
+fn checked(
     alloc: Global,
     before: &Schema,
     op: &Op,
@@ -38,7 +38,7 @@ fn judged(
 }
 
 // The same, of the inverse that the text spells; none where it spells no operator.
-fn judged_text(
+fn checked_text(
     alloc: Global,
     before: &Schema,
     op: &Op,
@@ -53,11 +53,11 @@ fn judged_text(
     if list.is_empty() {
         return Ok(None);
     }
-    Ok(judged(alloc, before, op, &list))
+    Ok(checked(alloc, before, op, &list))
 }
 
 // The same, of the operator that the text spells.
-fn judged_texts(
+fn checked_texts(
     alloc: Global,
     before: &Schema,
     op: &[u8],
@@ -66,46 +66,46 @@ fn judged_texts(
     requires { IsValid before.now }
 {
     match operator(alloc, op) {
-        Some(op) => judged_text(alloc, before, &op, inverse),
+        Some(op) => checked_text(alloc, before, &op, inverse),
         None => Ok(None),
     }
 }
 
-fn leads_back(judged: &Option<Result<(), InverseFault>>) -> bool {
-    match judged {
+fn leads_back(checked: &Option<Result<(), InverseFault>>) -> bool {
+    match checked {
         Some(Ok(())) => true,
         _ => false,
     }
 }
 
-fn misses(judged: &Option<Result<(), InverseFault>>, table: &[u8]) -> bool {
-    match judged {
+fn misses(checked: &Option<Result<(), InverseFault>>, table: &[u8]) -> bool {
+    match checked {
         Some(Err(InverseFault::Misses(name))) => name.bytes() == table,
         _ => false,
     }
 }
 
-fn has_no_table(judged: &Option<Result<(), InverseFault>>, table: &[u8]) -> bool {
-    match judged {
+fn has_no_table(checked: &Option<Result<(), InverseFault>>, table: &[u8]) -> bool {
+    match checked {
         Some(Err(InverseFault::Op(1, OpRefusal::NoTable(name)))) => name.bytes() == table,
         _ => false,
     }
 }
 
 #[test]
-fn an_inverse_is_judged(rt: HostRuntime) -> Result<(), Fail> {
+fn an_inverse_is_checked(rt: HostRuntime) -> Result<(), Fail> {
     let alloc = rt.alloc();
     let Some(before) = two_tables(alloc) else {
         return Err(Fail::new("two tables are made"));
     };
     let add = b"ADD COLUMN c AS LENGTH(b) INTO r";
-    assert!(rt; leads_back(&judged_texts(alloc, &before, add, b"DROP COLUMN c FROM r")?));
+    assert!(rt; leads_back(&checked_texts(alloc, &before, add, b"DROP COLUMN c FROM r")?));
     assert!(rt;
         misses(
-            &judged_texts(alloc, &before, add, b"DROP COLUMN b FROM r")?,
+            &checked_texts(alloc, &before, add, b"DROP COLUMN b FROM r")?,
             b"r"
         )
     );
-    assert!(rt; has_no_table(&judged_texts(alloc, &before, add, b"DROP TABLE t")?, b"t"));
+    assert!(rt; has_no_table(&checked_texts(alloc, &before, add, b"DROP TABLE t")?, b"t"));
     Ok(())
 }

@@ -106,11 +106,11 @@ part_in rows start end row s m =
     (subst (λ (w : List TimedRow). In row w) (sym e) (in_right row (take start rows)
     (slice_range rows start end) m)))
 
-abbrev pub Told : ℕ → List AggItem → List TimedRow → List (Entry Group) → Type 0
-Told g items rows entries = IsListing group_cmp
+abbrev pub BothKnown : ℕ → List AggItem → List TimedRow → List (Entry Group) → Type 0
+BothKnown g items rows entries = IsListing group_cmp
     (λ m. groups g items (held_at (entries_of rows) m)) always entries
 
-pub none_told : (g : ℕ) (items : List AggItem) → Told g items [] []
+pub none_told : (g : ℕ) (items : List AggItem) → BothKnown g items [] []
 unfolding groups set_of
 none_told g items = record {
   each = λ e m. absurd m;
@@ -151,8 +151,8 @@ told_parts g items rows start end m s l apart =
 
 pub told_more : (g : ℕ) (items : List AggItem) (rows : List TimedRow) (start end : ℕ)
     (es fs : List (Entry Group)) → start ≤ end → end ≤ length rows → IsApart g rows start
-    → Told g items (take start rows) es → Told g items (slice_range rows start end) fs
-    → Told g items (take end rows) (es ++ fs)
+    → BothKnown g items (take start rows) es → BothKnown g items (slice_range rows start end) fs
+    → BothKnown g items (take end rows) (es ++ fs)
 told_more g items rows start end es fs s l apart p q =
     listing_same group_cmp (λ m. told_part g items (take start rows) m
     ++ told_part g items (slice_range rows start end) m) (told_part g items (take end rows))
@@ -171,7 +171,7 @@ told_more g items rows start end es fs s l apart p q =
 
 pub told_all : (g : ℕ) (items : List AggItem) (rows : List TimedRow) (n : ℕ)
     (es : List (Entry Group)) → length rows ≤ n
-    → IsListing row_cmp (rows_at rows) always (entries_of rows) → Told g items (take n rows) es
+    → IsListing row_cmp (rows_at rows) always (entries_of rows) → BothKnown g items (take n rows) es
     → IsAggregated g items (rows_at rows) always es
 told_all g items rows n es l p q =
     listing_same group_cmp (told_part g items rows) (λ m. groups g items (rows_at rows m)) always
@@ -179,4 +179,4 @@ told_all g items rows n es l p q =
       λ i. subst (λ (w : List Group). In x w) (sym e) i,
       λ i. subst (λ (w : List Group). In x w) e i,
     )))
-    (subst (λ (w : List TimedRow). Told g items w es) (take_all n rows l) q)
+    (subst (λ (w : List TimedRow). BothKnown g items w es) (take_all n rows l) q)

@@ -85,8 +85,8 @@ groups g items rows = map (group_of g items rows) (keys_of g rows)
 abbrev pub group_cmp : Group → Group → Ordering
 group_cmp a b = row_cmp a.key b.key
 
--- the one list of the groups of what holds in the slice: each group with what the aggregates have of
--- it, as long as that stays the same; ascending by group, then start
+-- the one list of the groups of what holds in the slice: each group with what the aggregates have
+-- of it, as long as that stays the same; ascending by group, then start
 abbrev pub IsAggregated : ℕ → List AggItem → (ℕ → List Row) → Span → List (Entry Group) → Type 0
 IsAggregated g items relation slice entries = IsListing group_cmp
     (λ m. groups g items (relation m)) slice entries

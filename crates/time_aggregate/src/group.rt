@@ -46,10 +46,10 @@ fn group_end(rows: &TimedRows<'_>, group: usize, start: usize) -> usize
     end
 }
 
-/// What groups of rows have at each moment, over time: the rows that hold are grouped by their first
-/// `group` values, and each group that has a row is listed with what the aggregates have of it, and
-/// with the longest periods in which that stays the same; ascending by group, then start. The rows
-/// are a listing. For n rows it takes n log n steps.
+/// What groups of rows have at each moment, over time: the rows that hold are grouped by their
+/// first `group` values, and each group that has a row is listed with what the aggregates have of
+/// it, and with the longest periods in which that stays the same; ascending by group, then start.
+/// The rows are a listing. For n rows it takes n log n steps.
 pub fn aggregate<'a>(
     alloc: Global,
     rows: &TimedRows<'a>,

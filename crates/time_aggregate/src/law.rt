@@ -10,8 +10,8 @@ ghost use Rattle.prima_base.specs.Groups.{Group};
 ghost use Rattle.time_aggregate.specs.Aggregates.{Row, IsAggregated, groups, amounts_of};
 ghost use Rattle.time_aggregate.specs.Parts.{AreOf, AreBefore};
 
-/// What aggregates have of a listing is what they have of the relation that it lists, at each moment
-/// of the slice.
+/// What aggregates have of a listing is what they have of the relation that it lists, at each
+/// moment of the slice.
 pub fn aggregates_of_a_listing()
     ensures itself { (relation : ℕ → List Row) → (slice : Span) → (entries : List (Entry Row))
         → slice.end ≤ forever → IsListing row_cmp relation slice entries

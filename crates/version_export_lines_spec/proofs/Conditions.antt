@@ -15,7 +15,8 @@ use Rattle.cond_expr.specs.Seen.{tests_of}
 use Rattle.lexer_spec.specs.Lexemes.{Lexeme, word, number, text, is_int}
 use Rattle.lexer_combinators.specs.Grammar.{Size, nothing_counted, both, one_node}
 use Rattle.lexer_trees_spec.specs.Grammar as g
-use Rattle.lexer_trees_spec.specs.Grammar.{IsExpr, IsFact, AreFacts, IsConj, IsCond, leaf, spelled}
+use Rattle.lexer_trees_spec.specs.Grammar.{IsExpr, IsFact, AreFacts, IsConj, IsCond, leaf}
+use Rattle.lexer_trees_spec.specs.Grammar.{comparison_lexeme}
 use Rattle.smo_parse.specs.Texts.{cond_text}
 use Rattle.smo_parse.specs.Productions.{IsTest}
 use Rattle.smo_parse.proofs.PrintedTrees.{AllValid, AND}
@@ -48,7 +49,7 @@ constant_valid (Text t) h = (h, tt)
 -- ---- COLUMN = VALUE
 
 abbrev cell_spelled : Cell → List Lexeme
-cell_spelled c = word c.0 ∷ spelled Eq ∷ spelling c.1 ∷ []
+cell_spelled c = word c.0 ∷ comparison_lexeme Eq ∷ spelling c.1 ∷ []
 
 abbrev cell_size : Size
 cell_size = both leaf (one_node leaf)

@@ -2,7 +2,7 @@
 use Rattle.std.specs.Prelude.{◌≡◌, ◌≤◌, ◌<◌, ◌+◌, ℕ, zero, suc, pos, negsuc, false}
 use Rattle.std.specs.Prelude.{List, [], ◌∷◌, ◌++◌, length, take, drop, codes}
 use Rattle.std.proofs.Common.{refl, sym, ap, subst, ◌∙◌, arith, length-append}
-use Rattle.lexer_spec.specs.Bytes.{gap_len, scanned}
+use Rattle.lexer_spec.specs.Bytes.{gap_len, scan_of}
 use Rattle.lexer_spec.specs.Lexemes.{Lexeme, word, number, text, sign, says}
 use Rattle.smo_parse.proofs.Spellings.{kind_of, written, Writable, Token, token_of, open_token}
 use Rattle.smo_parse.proofs.Spellings.{point_token, number_is_digits}
@@ -29,7 +29,7 @@ no_lexeme (x ∷ f) l = absurd (omega (arith, l))
 
 -- after a gap of one byte the same tokens stand, one place further
 abbrev stepped : ℕ → ℕ → List ℕ → ℕ → Lexed
-stepped n at bytes k = by_scanned (at + k) (drop k bytes) (lexed_from n) (scanned (drop k bytes))
+stepped n at bytes k = by_scanned (at + k) (drop k bytes) (lexed_from n) (scan_of (drop k bytes))
 
 shifted : (n at b : ℕ) (rest : List ℕ)
     → gap_len false 0 (b ∷ rest) ≡ suc (gap_len false 0 rest)
@@ -39,7 +39,7 @@ shifted n at b rest e =
     let g : ℕ = gap_len false 0 rest in
     let z : at + suc g ≡ at + 1 + g = omega arith in
     ap (stepped n at (b ∷ rest)) e
-    ∙ ap (λ j. by_scanned j (drop g rest) (lexed_from n) (scanned (drop g rest))) z
+    ∙ ap (λ j. by_scanned j (drop g rest) (lexed_from n) (scan_of (drop g rest))) z
 
 first_token : (x : Lexeme) (g : List Lexeme) (rest : List ℕ) (n at : ℕ) → Token x rest
     → LexedAs g rest n (at + 0 + length (written x))

@@ -10,7 +10,7 @@ use Rattle.prima_base.specs.Bytes.{is_name_byte, is_digit}
 use Rattle.lexer_spec.specs.Spaced.{Each as EachByte}
 use Rattle.lexer_spec.specs.Lexemes.{Lexeme, word, number, text, sign, is_one_of}
 use Rattle.lexer_spec.proofs.Cases.{true_false}
-use Rattle.lexer_spec.proofs.Whole.{or_true}
+use Rattle.lexer_spec.proofs.WholeTokens.{or_true}
 use Rattle.lexer_spec.proofs.LexemeTests.{sign_exact}
 use Rattle.smo_ops_types.specs.Commands.{PlainCommand}
 use Rattle.smo_parse.specs.TreeTexts.{doubled}

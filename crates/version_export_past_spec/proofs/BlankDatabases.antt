@@ -20,7 +20,7 @@ use Rattle.smo_ops_spec.specs.Effects.{rows_of, rows_under}
 use Rattle.smo_ops_spec.specs.Making.{from_one, from_two}
 use Rattle.smo_ops_spec.specs.Losses.{Loss}
 use Rattle.smo_ops_spec.specs.OperatorTable.{Made, line, made_names}
-use Rattle.smo_ops_spec.specs.After.{carried, lose_all, make_all}
+use Rattle.smo_ops_spec.specs.After.{migrate, lose_all, make_all}
 use Rattle.smo_ops_versions_spec.specs.Steps.{Step, carrying, undoing, taken}
 use Rattle.smo_ops_versions_spec.specs.Ways.{way}
 use Rattle.smo_ops_versions_spec.specs.Migration.{lost_by, stepped, migrated_from}
@@ -88,7 +88,7 @@ each_blank tables (drop_column c r) db h = (one_blank _ (get db r) (h r) refl, t
 each_blank tables (rename_column b r c) db h = (one_blank _ (get db r) (h r) refl, tt)
 
 pub blank_carried : (tables : Tables) (op : Operator) (db : Database) → IsBlank db
-    → IsBlank (carried tables op db)
+    → IsBlank (migrate tables op db)
 blank_carried tables op db h = blank_made db (line tables op).made
     (lose_all (line tables op).consumed db) (each_blank tables op db h)
     (blank_lost (line tables op).consumed db h)

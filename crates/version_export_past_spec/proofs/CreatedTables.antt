@@ -35,7 +35,7 @@ use Rattle.smo_ops_spec.specs.Inverses.{schema_after_each, AllOperatorsAccepted}
 use Rattle.smo_ops_spec.specs.Past.{no_tables}
 use Rattle.smo_ops_spec.proofs.NameLaws.{same_not, same_turned}
 use Rattle.smo_ops_versions_spec.specs.Steps.{carrying_each}
-use Rattle.smo_ops_versions_spec.specs.Migration.{carried_over}
+use Rattle.smo_ops_versions_spec.specs.Migration.{migrate_over}
 use Rattle.version_export_past_spec.specs.Blank.{IsBlank}
 use Rattle.version_export_past_spec.proofs.BlankDatabases.{blank_taken}
 use Rattle.version_export_past_spec.proofs.CreatedPast.{already_in_order, none_again}
@@ -188,5 +188,5 @@ all_created_accepted tables few c = all_accepted no_tables (entries tables) (ent
 
 -- and no row is made
 pub blank_over_each : (tables : Tables) (ops : List Operator) (db : Database) → IsBlank db
-    → IsBlank (carried_over tables ops db)
+    → IsBlank (migrate_over tables ops db)
 blank_over_each tables ops db h = blank_taken (carrying_each tables ops) db h

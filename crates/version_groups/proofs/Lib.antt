@@ -7,7 +7,7 @@ pub mod OwnMoments
 pub mod Installed
 pub mod GroupPlaces
 pub mod Newest
-pub mod CarriedOut
+pub mod Applied
 pub mod LongestRuns
 pub mod EachLifeline
 pub mod FewLifelines
@@ -17,4 +17,4 @@ pub mod RestoredGroups
 pub mod RestoredPasts
 pub mod LifelinesNamed
 pub mod VersionsKept
-pub mod CommandsReady
+pub mod PreparedCommands

@@ -25,7 +25,7 @@ use Rattle.smo_ops_spec.proofs.PastSteps.{stamp_accepted}
 use Rattle.version_groups_tables.specs.declared.made_table.MadeTable.{MadeTable}
 use Rattle.version_groups_tables.specs.Stored.{stored_as, stored_names}
 use Rattle.version_groups_tables.specs.Becoming.{Leads}
-use Rattle.version_groups_tables.specs.Changing.{rows_now, rows_after, AreChangeable, AreReady}
+use Rattle.version_groups_tables.specs.Changing.{rows_now, rows_after, AreChangeable, ArePrepared}
 use Rattle.version_groups_tables.specs.Changing.{all_gained}
 use Rattle.version_groups_tables.specs.Changing.{all_lost}
 use Rattle.version_groups_tables.specs.NewestTables.{IsStoredEntry, AreStored}
@@ -138,7 +138,7 @@ module _ (tables : Tables) (database : Database) (stamp : ℕ) (made : List Made
   pub are_changes : IsDatabase tables database
       → (changes : List PlainChange) (new : List MadeTable)
       (prepared : List (Option PreparedChange))
-      → AreReady stamp changes new prepared → length new ≡ length made
+      → ArePrepared stamp changes new prepared → length new ≡ length made
       → ((k : ℕ) (d : MadeTable) → k < length made
       → ((get_or new k d).name ≡ (get_or made k d).name)
       × (rows_after stamp changes (get_or new k d)

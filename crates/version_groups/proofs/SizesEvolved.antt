@@ -31,7 +31,7 @@ use Rattle.smo_ops_spec.specs.Past.{newest_database, next_version, next_database
 use Rattle.smo_ops_spec.specs.Sizes.{Size, if_living, ended_with, size_after, size_begun}
 use Rattle.smo_ops_spec.specs.Sizes.{sizes_evolved}
 use Rattle.smo_ops_spec.specs.Touching.{makes, consumes}
-use Rattle.smo_ops_spec.proofs.CarriedDatabases.{carried_database}
+use Rattle.smo_ops_spec.proofs.MigratedDatabases.{migrated_database}
 use Rattle.smo_ops_spec.proofs.Firsts.{none_of_first, none_mapped}
 use Rattle.smo_ops_spec.proofs.PastMoments.{newest_tables_from, is_later, still_later}
 use Rattle.smo_ops_spec.proofs.PastMoments.{before_or_not}
@@ -295,7 +295,7 @@ module _ (kept : Kept) (past : Past) (stamp : ℕ) (op : Operator) (inverse : Li
   -- the carried database is of the next schema
   whole : IsDatabase (schema_after (newest_tables past) op)
       (next_database (evolving op inverse) past)
-  whole = carried_database (newest_tables past) op
+  whole = migrated_database (newest_tables past) op
       (newest_database past) represents.valid.tables.schema
       op_accepted represents.valid.database
 

@@ -6,7 +6,7 @@ pub mod Sizes
 pub mod GroupFields
 pub mod Representation
 pub mod Steps
-pub mod Judged
+pub mod CheckedCommands
 pub mod Room
 pub mod Installing
 pub mod Restoring

@@ -1,4 +1,4 @@
-use crate::judged::Judged;
+use crate::checked_command::CheckedCommand;
 use crate::prepared_command::{PreparedCommand, Step};
 use crate::size::SizeLine;
 use history_store::{PreparedTable, StoredTable};
@@ -131,8 +131,8 @@ impl Groups {
     ghost use Rattle.version_groups.specs.Room.{IsSame};
     ghost use Rattle.version_groups.specs.Steps.{IsPreparedCommand, IsStep, Prepares, a_command};
     ghost use Rattle.version_groups.specs.Steps.{step_of};
-    ghost use Rattle.version_groups.specs.Judged.{judged_command, IsCommandAccepted};
-    ghost use Rattle.version_groups.specs.declared.judged.Judged.TheVariants as found;
+    ghost use Rattle.version_groups.specs.CheckedCommands.{checked_command, IsCommandAccepted};
+    ghost use Rattle.version_groups.specs.declared.checked_command.CheckedCommand.TheVariants as found;
 
     /// Groups in which nothing was accepted: version 0 alone. It takes no memory.
     pub fn new(alloc: Global) -> Groups
@@ -301,8 +301,8 @@ impl Groups {
         })
     }
 
-    /// Makes a command ready, and all the room that installing it needs. The command was judged,
-    /// and is accepted after the past that is shown, which stays as it is; judging found of each
+    /// Makes a command ready, and all the room that installing it needs. The command was checked,
+    /// and is accepted after the past that is shown, which stays as it is; checking found of each
     /// change where its table stands, and of an operator the schema that is after it.
     /// `PreparedCommand` has its stamp; for changes it has the counts of the rows that are gained
     /// and lost, summed over the tables, and for an operator none. The one error is `NoMemory`,
@@ -314,21 +314,24 @@ impl Groups {
     /// gained; where more than 64 rows are lost or gained, a copy of the index of its current rows
     /// too. Other tables are not looked at. An operator costs a copy of its inputs, and of the rows
     /// that it makes; other tables go on.
-    pub fn prepare<'a>(&mut self, judged: Judged<'a>) -> Result<PreparedCommand<'a>, NoMemory>
-        requires { (past : Past) × Represents self.old past × IsCommandAccepted past judged }
+    pub fn prepare<'a>(
+        &mut self,
+        checked: CheckedCommand<'a>,
+    ) -> Result<PreparedCommand<'a>, NoMemory>
+        requires { (past : Past) × Represents self.old past × IsCommandAccepted past checked }
         ensures same { IsSame self.old self.new }
         ensures represents { (past : Past) → Represents self.old past → Represents self.new past }
         ensures prepared { (past : Past) → Represents self.old past
-            → IsCommandAccepted past judged.entry → IfOk result (λ prepared.
-            Prepares self.new past (judged_command judged.entry) prepared) }
+            → IsCommandAccepted past checked.entry → IfOk result (λ prepared.
+            Prepares self.new past (checked_command checked.entry) prepared) }
     {
-        match judged {
-            Judged::Changes {
+        match checked {
+            CheckedCommand::Changes {
                 stamp,
                 changes,
                 places,
             } => self.prepare_changes(stamp, changes, &places),
-            Judged::Evolve(version) => self.prepare_version(version),
+            CheckedCommand::Evolve(version) => self.prepare_version(version),
         }
     }
 
@@ -445,7 +448,7 @@ impl Groups {
         ensures same { IsSame self.old self.new }
         ensures prepared { (past : Past) → Represents self.old past
             → IsCommandAccepted past (found.Evolve version) → IfOk result (λ prepared.
-            Prepares self.new past (judged_command (found.Evolve version)) prepared) }
+            Prepares self.new past (checked_command (found.Evolve version)) prepared) }
     {
         let number = self.newest() + 1;
         let schema = newest_schema(&self.nothing, &self.versions);

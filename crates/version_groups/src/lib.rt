@@ -2,20 +2,20 @@
 //! over all versions in which no operator makes or consumes it; its history begins at the stamp of
 //! the first.
 //!
-//! `specs/Representation.antt` says when groups represent a past. A command that was judged is made
-//! ready by `prepare`, which takes all the memory that it needs, and `install` carries it out and
-//! cannot fail.
+//! `specs/Representation.antt` says when groups represent a past. A command that was checked is
+//! made ready by `prepare`, which takes all the memory that it needs, and `install` carries it out
+//! and cannot fail.
 #![tactic(auto)]
 
+mod checked_command;
 mod groups;
-mod judged;
 mod lifeline_laws;
 mod prepared_command;
 mod restoration;
 mod size;
 
+pub use checked_command::CheckedCommand;
 pub use groups::Groups;
-pub use judged::Judged;
 pub use lifeline_laws::{lifelines_are_few, lifelines_are_longest_runs};
 pub use prepared_command::PreparedCommand;
 pub use restoration::restored_groups_represent;

@@ -14,7 +14,7 @@ use Rattle.smo_ops_spec.specs.Effects.{gained_rows}
 use Rattle.smo_ops_spec.proofs.RelationLaws.{filter_ascends}
 use Rattle.version_groups_changes.proofs.Applying.{not_true, not_of}
 use Rattle.version_groups_changes.proofs.Becoming.{only_is_gained}
-use Rattle.version_groups_changes.proofs.OverlayLaws.{known_or_not, never, not_in}
+use Rattle.version_groups_changes.proofs.PendingLaws.{known_or_not, never, not_in}
 
 -- those of one relation that the other does not have
 pub apart_relation : (columns : List Column) (one other : Relation) → IsRelation columns one

@@ -18,12 +18,13 @@ use Rattle.history_store.specs.Cuts.{Cut, is_before}
 use Rattle.history_store.specs.Handing.{is_value, at_column}
 use Rattle.smo_ops_spec.specs.OneRow.{Row, Relation}
 use Rattle.version_groups_candidates.specs.Ranges.{cut_at}
-use Rattle.version_groups_changes.specs.Overlay.{Known, known_hits, HaveKnownHits, AreLed, led_by}
-use Rattle.version_groups_changes.specs.Overlay.{led_of}
-use Rattle.version_groups_changes.specs.Overlay.{IsToldLed, Led, IsToldToo}
-use Rattle.version_groups_changes.proofs.OverlayLaws.{found_in, in_found, picked_is, is_picked}
-use Rattle.version_groups_changes.proofs.OverlayLaws.{and_true}
-use Rattle.version_groups_changes.proofs.OverlayLaws.{from_cut, both, never}
+use Rattle.version_groups_changes.specs.PendingChanges.{Pending, pending_hits, HavePendingHits}
+use Rattle.version_groups_changes.specs.PendingChanges.{AreLed, led_by}
+use Rattle.version_groups_changes.specs.PendingChanges.{led_of}
+use Rattle.version_groups_changes.specs.PendingChanges.{IsToldLed, Led, IsToldToo}
+use Rattle.version_groups_changes.proofs.PendingLaws.{found_in, in_found, picked_is, is_picked}
+use Rattle.version_groups_changes.proofs.PendingLaws.{and_true}
+use Rattle.version_groups_changes.proofs.PendingLaws.{from_cut, both, never}
 
 -- ---- the rows between the cuts
 
@@ -31,13 +32,13 @@ same_rows : (rows : Relation) → map (drop 0) rows ≡ rows
 same_rows [] = refl
 same_rows (row ∷ rows) = ap (λ rs. row ∷ rs) (same_rows rows)
 
-pub row_hits_are : (passes : Row → Bool) (from to : Cut) (known : Known)
+pub row_hits_are : (passes : Row → Bool) (from to : Cut) (known : Pending)
     → Ascends row_cmp (keys_of known)
     → ((row : Row) → In (row, true) known → passes row ≡ true → (is_before from row ≡ false)
-    × (is_before to row ≡ true)) → HaveKnownHits passes known
-    (map (drop 0) (known_hits from to passes known))
+    × (is_before to row ≡ true)) → HavePendingHits passes known
+    (map (drop 0) (pending_hits from to passes known))
 row_hits_are passes from to known ordered within =
-    subst (HaveKnownHits passes known) (sym (same_rows (known_hits from to passes known)))
+    subst (HavePendingHits passes known) (sym (same_rows (pending_hits from to passes known)))
     (record { only = only; all = all })
   where
     pick : Row × Bool → Bool
@@ -83,11 +84,11 @@ told_in : (b : Bool) (o : Option Bool) (t : Bool) → cond b o None ≡ Some t �
 told_in true o t e = (refl, e)
 told_in false o t e = absurd (cc)
 
-pub led_hits_are : (passes : Row → Bool) (column : ℕ) (v : Value) (known led : Known)
+pub led_hits_are : (passes : Row → Bool) (column : ℕ) (v : Value) (known led : Pending)
     → Ascends row_cmp (keys_of known) → Ascends row_cmp (keys_of led) → AreLed column known led
     → ((row : Row) → In (row, true) known → passes row ≡ true → at_column column row ≡ v ∷ [])
-    → HaveKnownHits passes known (map (drop 1)
-    (known_hits (cut_at (v ∷ []) false) (cut_at (v ∷ []) true) (λ row. passes (drop 1 row))
+    → HavePendingHits passes known (map (drop 1)
+    (pending_hits (cut_at (v ∷ []) false) (cut_at (v ∷ []) true) (λ row. passes (drop 1 row))
     led))
 led_hits_are passes column v known led ordered after are pinned = record { only = only; all = all }
   where
@@ -158,12 +159,12 @@ is_equal Less e = absurd (cc)
 is_equal Equal e = refl
 is_equal Greater e = absurd (cc)
 
-module _ (column : ℕ) (row : Row) (told : Option Bool) (known led new : Known)
+module _ (column : ℕ) (row : Row) (told : Option Bool) (known led new : Pending)
     (are : AreLed column known led) (known_new : (q : Row)
     → lookup (is_at (row_cmp q)) new ≡ cond (is_eq (row_cmp row q)) told
     (lookup (is_at (row_cmp q)) known)) where
-  abbrev find_known : Row → Option Bool
-  find_known q = lookup (is_at (row_cmp q)) known
+  abbrev find_pending : Row → Option Bool
+  find_pending q = lookup (is_at (row_cmp q)) known
 
   -- the row has no value there
   pub led_skipped : at_column column row ≡ [] → AreLed column new led
@@ -185,11 +186,11 @@ module _ (column : ℕ) (row : Row) (told : Option Bool) (known led new : Known)
               absurd (never (is_value v (at_column column q)) f n)
 
       other : (b : Bool) → is_value v (at_column column q) ≡ b
-          → cond b (find_known q) None ≡ cond b new_q None
+          → cond b (find_pending q) None ≡ cond b new_q None
       other false f = refl
-      other true f = sym (known_new q ∙ ap (λ b. cond b told (find_known q)) (not_same f))
+      other true f = sym (known_new q ∙ ap (λ b. cond b told (find_pending q)) (not_same f))
 
-  pub led_set : (w : Value) (more : Known) → at_column column row ≡ w ∷ []
+  pub led_set : (w : Value) (more : Pending) → at_column column row ≡ w ∷ []
       → ((q : Row) → lookup (is_at (row_cmp q)) more
       ≡ cond (is_eq (row_cmp (w ∷ row) q)) told (lookup (is_at (row_cmp q)) led))
       → AreLed column new more
@@ -218,9 +219,9 @@ module _ (column : ℕ) (row : Row) (told : Option Bool) (known led new : Known)
 
       other : (b : Bool) → is_value v (at_column column q) ≡ b
           → is_eq (row_cmp (w ∷ row) (v ∷ q)) ≡ false
-          → cond b (find_known q) None ≡ cond b new_q None
+          → cond b (find_pending q) None ≡ cond b new_q None
       other false f n = refl
-      other true f n = sym (known_new q ∙ ap (λ b. cond b told (find_known q)) (not_same n f))
+      other true f n = sym (known_new q ∙ ap (λ b. cond b told (find_pending q)) (not_same n f))
 
       by_case : (b : Bool) → is_eq (row_cmp (w ∷ row) (v ∷ q)) ≡ b
           → cond b told (lookup (is_at (row_cmp (v ∷ q))) led)
@@ -230,7 +231,7 @@ module _ (column : ℕ) (row : Row) (told : Option Bool) (known led new : Known)
           let rest : row ≡ q = ap (λ (r : Row). drop 1 r) same in
           let one : w ∷ [] ≡ v ∷ [] = ap (λ (r : Row). take 1 r) same in
           let has = is_that v (at_column column q) (sym (ap (at_column column) rest) ∙ e ∙ one) in
-          let now = known_new q ∙ ap (λ b. cond b told (find_known q))
+          let now = known_new q ∙ ap (λ b. cond b told (find_pending q))
           (ap is_eq (ap (row_cmp row) (sym rest) ∙ cmp_itself row_cmp row_exact row)) in
           sym (ap (λ b. cond b new_q None) has ∙ now)
       by_case false n = are v q ∙ other (is_value v (at_column column q)) refl n
@@ -245,21 +246,22 @@ one_value k row = step (drop k row)
     step [] = inl refl
     step (v ∷ vs) = inr (v, refl)
 
-set_led : (k : ℕ) (row : Row) (told : Option Bool) (known led new more : Known) → AreLed k known led
+set_led : (k : ℕ) (row : Row) (told : Option Bool) (known led new more : Pending)
+    → AreLed k known led
     → ((q : Row) → lookup (is_at (row_cmp q)) new
     ≡ cond (is_eq (row_cmp row q)) told (lookup (is_at (row_cmp q)) known))
     → IsToldLed (led_of k row) told led more → AreLed k new more
 set_led k row told known led new more are n m = elim (one_value k row) [
   | inl f ↦ (let s : more ≡ led = subst (λ (o : Option Row). IsToldLed o told led more)
       (ap (λ (vs : List Value). led_by vs row) f) m in
-      subst (λ (es : Known). AreLed k new es) (sym s)
+      subst (λ (es : Pending). AreLed k new es) (sym s)
       (led_skipped k row told known led new are n f))
   | inr r ↦ led_set k row told known led new are n r.0 more r.1
       (subst (λ (o : Option Row). IsToldLed o told led more)
       (ap (λ (vs : List Value). led_by vs row) r.1) m)
 ]
 
-pub all_set : (row : Row) (told : Option Bool) (known new : Known) (xs ys : List Led)
+pub all_set : (row : Row) (told : Option Bool) (known new : Pending) (xs ys : List Led)
     → length ys ≡ length xs → All (λ led. AreLed led.column known led.rows) xs
     → ((q : Row) → lookup (is_at (row_cmp q)) new
     ≡ cond (is_eq (row_cmp row q)) told (lookup (is_at (row_cmp q)) known))
@@ -274,9 +276,9 @@ all_set row told known new xs ys same are n each k d h =
     (set_led x.column row told known x.rows new y.rows (are k d b) n t.rows)
 
 -- nothing is known after any column
-pub all_none : (known : Known) (leds : List Led) → known ≡ [] → All (λ led. led.rows ≡ []) leds
+pub all_none : (known : Pending) (leds : List Led) → known ≡ [] → All (λ led. led.rows ≡ []) leds
     → All (λ led. AreLed led.column known led.rows) leds
 all_none known leds e none k d h =
     let x = get_or leds k d in
-    subst (λ (es : Known). AreLed x.column es x.rows) (sym e)
-    (subst (λ (es : Known). AreLed x.column [] es) (sym (none k d h)) (none_led x.column))
+    subst (λ (es : Pending). AreLed x.column es x.rows) (sym e)
+    (subst (λ (es : Pending). AreLed x.column [] es) (sym (none k d h)) (none_led x.column))

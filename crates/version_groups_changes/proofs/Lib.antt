@@ -1,8 +1,8 @@
 pub mod Becoming
 pub mod Applying
-pub mod OverlayLaws
+pub mod PendingLaws
 pub mod LedRows
-pub mod OverlayWalks
-pub mod OverlaySteps
+pub mod PendingWalks
+pub mod PendingSteps
 pub mod Differences
 pub mod RowValues

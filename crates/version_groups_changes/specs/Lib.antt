@@ -1,3 +1,3 @@
 pub mod Changing
-pub mod Overlay
-pub mod KnownFields
+pub mod PendingChanges
+pub mod PendingFields

@@ -14,7 +14,7 @@ ghost use Rattle.smo_ops_spec.specs.Inserting.{insertions};
 ghost use Rattle.version_groups_changes.specs.Changing.{AreAccepted, IsChange, borrowed_changes};
 ghost use Rattle.version_groups_changes.specs.Changing.{changed_relation};
 
-use crate::overlay::{condition, given_row, lost_and_gained};
+use crate::pending_changes::{condition, given_row, lost_and_gained};
 use history_store::{GivenRow, PreparedTable, StoredTable};
 use prima_base::{ColType, Name, NoMemory};
 use smo_ops::{Change, OwnColumns, insertions_are_a_union};
@@ -94,7 +94,7 @@ fn prepare_given<'a>(
 }
 
 // Makes ready what the changes lose and gain, from the stamp on.
-fn prepare_overlay<'a>(
+fn prepare_pending<'a>(
     alloc: Global,
     columns: &[(Name, ColType)],
     store: &mut StoredTable,
@@ -162,7 +162,7 @@ fn index_each(
     Ok(())
 }
 
-// The same as `prepare_overlay`, with the indexes that the changes ask for.
+// The same as `prepare_pending`, with the indexes that the changes ask for.
 fn prepare_indexed<'a>(
     alloc: Global,
     columns: &[(Name, ColType)],
@@ -187,7 +187,7 @@ fn prepare_indexed<'a>(
 {
     let own = OwnColumns::new(alloc, columns)?;
     index_each(alloc, &own, store, changes)?;
-    prepare_overlay(alloc, columns, store, stamp, changes)
+    prepare_pending(alloc, columns, store, stamp, changes)
 }
 
 /// Makes a table's changes ready, from the stamp on, and all the room that installing them needs.

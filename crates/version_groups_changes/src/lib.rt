@@ -2,14 +2,14 @@
 //!
 //! INSERTs alone are rows that the table gets too. Else the changes are carried out one after the
 //! other over what is stored, and what they come to is kept as the rows by which the table differs
-//! from that (`overlay`). An UPDATE or DELETE looks at rows among which are all that can meet its
+//! from that (`pending`). An UPDATE or DELETE looks at rows among which are all that can meet its
 //! condition, and passes over those that fail a test of one of its columns
 //! (version_groups_candidates).
 #![tactic(auto)]
 
 mod change;
-mod known_row;
-mod overlay;
+mod pending_changes;
+mod pending_row;
 mod row_value;
 
 pub use change::prepare_table;

@@ -9,7 +9,7 @@ pub mod NextPlaces
 pub mod BegunTables
 pub mod PlacedTables
 pub mod GivenTables
-pub mod CarriedTables
+pub mod MigratedTables
 pub mod RestoredTables
 pub mod SchemaTables
 pub mod ChangeGroups

@@ -19,7 +19,7 @@ use Rattle.version_groups_tables.specs.declared.made_table.MadeTable.{MadeTable}
 use Rattle.version_groups_changes.specs.Changing.{borrowed_changes}
 use Rattle.version_groups_tables.specs.Becoming.{Leads, IsMade}
 use Rattle.version_groups_tables.specs.Grouping.{of_table}
-use Rattle.version_groups_tables.specs.Changing.{rows_now, rows_after_own, rows_after, AreReady}
+use Rattle.version_groups_tables.specs.Changing.{rows_now, rows_after_own, rows_after, ArePrepared}
 use Rattle.version_groups_tables.specs.Changing.{all_gained, all_lost}
 use Rattle.version_groups_tables.specs.Room.{IsSameTable, AreSameTables}
 use Rattle.version_groups_changes.proofs.Becoming.{same_relation, same_columns}
@@ -198,7 +198,7 @@ module _ (stamp : ℕ) (changes : List PlainChange) (old new : List MadeTable)
     lost_is = (let l = h.loses in let none : all_lost stamp changes (drop i old) ≡ 0 =
         ap (all_lost stamp changes) none_left in omega (arith, l, none))
 
-    pub are_ready : i ≤ length new → AreReady stamp changes new prepared
+    pub are_ready : i ≤ length new → ArePrepared stamp changes new prepared
     are_ready few =
         let long = h.long in
         let count = h.count in

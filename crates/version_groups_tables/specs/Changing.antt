@@ -41,7 +41,7 @@ AreOfSchema tables made = entries tables
     ≡ map (λ (table : MadeTable). (table.name, table.store.columns)) made
 
 -- of each table, in turn, a change that leads to the rows after its changes
-pub record AreReady (stamp : ℕ) (changes : List PlainChange) (tables : List MadeTable)
+pub record ArePrepared (stamp : ℕ) (changes : List PlainChange) (tables : List MadeTable)
     (prepared : List (Option PreparedChange)) : Type 0 where
   pub count : length prepared ≡ length tables
   pub each : (k : ℕ) → (d : MadeTable) → k < length tables

@@ -9,7 +9,7 @@ use Rattle.prima_base.specs.Order.{bytes_cmp}
 use Rattle.schema_catalog.specs.Tables.{Tables}
 use Rattle.schema_catalog.specs.Databases.{Database}
 use Rattle.history_store.specs.Store.{Store, AllBefore}
-use Rattle.smo_ops_spec.specs.After.{schema_after, carried}
+use Rattle.smo_ops_spec.specs.After.{schema_after, migrate}
 use Rattle.smo_ops_types.specs.Commands.{PlainVersion}
 use Rattle.smo_ops_spec.specs.Effects.{rows_under}
 use Rattle.smo_ops_spec.specs.OneRow.{Relation}
@@ -62,7 +62,7 @@ pub record IsEvolved (stored : List MadeTable) (own : List ℕ) (number : ℕ) (
         schema_after before op;
   }
   pub tables : AreNext stored own number stamp (makes before op)
-      (λ name. rows_under (get (carried before op database) name)) (schema_after before op) begun
+      (λ name. rows_under (get (migrate before op database) name)) (schema_after before op) begun
       places
 
 -- a table of the next version at its place: it is there already, or the last that begins; and what

@@ -12,7 +12,7 @@ ghost use Rattle.smo_ops_spec.specs.Effects.{gained_rows};
 ghost use Rattle.version_groups_tables.specs.declared.made_table.MadeTable.{MadeTable as Stored};
 ghost use Rattle.version_groups_changes.specs.Changing.{IsChange, borrowed_changes};
 ghost use Rattle.version_groups_tables.specs.Becoming.{Leads, IsMade, HasRoom, AreMadeBy};
-ghost use Rattle.version_groups_tables.specs.Changing.{IsChangeable, AreChangeable, AreReady};
+ghost use Rattle.version_groups_tables.specs.Changing.{IsChangeable, AreChangeable, ArePrepared};
 ghost use Rattle.version_groups_tables.specs.Changing.{HaveRoom};
 ghost use Rattle.version_groups_tables.specs.Changing.{AreMade, rows_now, rows_after_own};
 ghost use Rattle.version_groups_tables.specs.Changing.{all_gained};
@@ -121,7 +121,7 @@ pub fn prepare_tables<'a>(
     ensures same { AreSameTables tables.old.items tables.new.items }
     ensures room { vec_capacity tables.old - vec_len tables.old ≤ vec_capacity tables.new - vec_len
         tables.new }
-    ensures ready { IfOk result (λ c. AreReady stamp (changes_of changes.now)
+    ensures ready { IfOk result (λ c. ArePrepared stamp (changes_of changes.now)
         (at_places tables.new.items places.now) c.prepared.items) }
     ensures gained { IfOk result (λ c. c.gained
         ≡ all_gained stamp (changes_of changes.now) (at_places tables.old.items places.now)) }

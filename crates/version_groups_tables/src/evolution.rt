@@ -11,7 +11,7 @@ ghost use Rattle.prima_base.specs.Columns.{AreColumns, IsRelation};
 ghost use Rattle.schema_catalog.specs.Databases.{Database, IsDatabase};
 ghost use Rattle.history_store.specs.Store.{AllBefore};
 ghost use Rattle.smo_ops_types.specs.Operators.{operator_of, operators_of};
-ghost use Rattle.smo_ops_spec.specs.After.{op_fault, schema_after, carried, IsValid};
+ghost use Rattle.smo_ops_spec.specs.After.{op_fault, schema_after, migrate, IsValid};
 ghost use Rattle.smo_ops_spec.specs.Effects.{rows_under};
 ghost use Rattle.smo_ops_types.specs.Commands.{version_of};
 ghost use Rattle.smo_ops_spec.specs.OperatorTable.{line, made_names};
@@ -217,7 +217,7 @@ fn next_tables(
 }
 
 // The rows that the operator makes of those that are stored now.
-fn carry_rows(
+fn migrate_rows(
     alloc: Global,
     before: &Schema,
     tables: &[MadeTable],
@@ -232,7 +232,7 @@ fn carry_rows(
     ensures { (stamp : ℕ) → stamp < forever → (database : Database) → IsDatabase before.now database
         → AreStored before.now database stamp (at_places tables.now places.now)
         → IfOk result (λ c. Has (made_names (line before.now (operator_of op.now)).made)
-        (carried before.now (operator_of op.now) database) c.first.items c.second.items) }
+        (migrate before.now (operator_of op.now) database) c.first.items c.second.items) }
 {
     let given = made_of(op);
     let first = current_rows(alloc, tables, places, given.first)?;
@@ -267,7 +267,7 @@ pub fn begin_version(
         (version_of version.now) t.begun.items t.places.items) }
 {
     next_schema_is_valid();
-    let rows = carry_rows(alloc, before, tables, places, &version.op)?;
+    let rows = migrate_rows(alloc, before, tables, places, &version.op)?;
     next_tables(
         alloc,
         number,

@@ -13,7 +13,7 @@ returns-in_err-read-clause-damaged c place is =
     let p = err_from_is_err_and c.from_residual.result c.from_residual.ensures.1 in
     let same : Err c.in_err-read.field-0.0 ≡ Err (Damaged place) = cc (p.1, p.2, is) in
     not_read c.args.recs.now c.loop-index.index c.index-recs-index.result c.loop-index.kept.count
-    place c.loop-index-test.true c.loop-index.invariant.read.judged
+    place c.loop-index-test.true c.loop-index.invariant.read.checked
     (subst (λ r. IsKnown r.kind → IsRefusedIn r.at (record_of r) place) c.index-recs-index.is
     (c.in_err-read.ensures.damaged place same)) c.requires
 

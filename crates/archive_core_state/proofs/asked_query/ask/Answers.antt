@@ -14,14 +14,14 @@ use Rattle.query_exec.specs.Accepted.{IsQueryAccepted}
 use Rattle.query_exec.specs.Borrowed.{AreBorrowedBy}
 use Rattle.query_exec.specs.QueryPieces.{ArePieces, living_pieces}
 use Rattle.query_exec.specs.Reads.{reads_of}
-use Rattle.archive_core_state.specs.Asking.{IfAccepted, IsQueryReady, query_asked}
+use Rattle.archive_core_state.specs.Asking.{IfAccepted, IsQueryPrepared, query_asked}
 use Rattle.archive_core_state.proofs.asked_query.ask.Goals as goal
 
 pub answer-requires-clause-answerable : goal.answer-requires-clause-answerable
 answer-requires-clause-answerable g c =
     let past = c.requires.represents.0 in
     let represents = c.requires.represents.1 in
-    let h : IsQueryReady past (query_of c.args.query.now) c.in_ok-atoms.atoms =
+    let h : IsQueryPrepared past (query_of c.args.query.now) c.in_ok-atoms.atoms =
     c.in_ok-atoms.ensures past represents in
     record {
       past = past;
@@ -34,7 +34,8 @@ answer-requires-clause-answerable g c =
 pub returns-in_err-rows-clause-cost : goal.returns-in_err-rows-clause-cost
 returns-in_err-rows-clause-cost g c = λ past represents accepted.
     let query = query_of c.args.query.now in
-    let h : IsQueryReady past query c.in_ok-atoms.atoms = c.in_ok-atoms.ensures past represents in
+    let h : IsQueryPrepared past query c.in_ok-atoms.atoms =
+    c.in_ok-atoms.ensures past represents in
     subst (λ (vs : List PlainVersion). c.answer.new.steps ≤ c.args.steps.now
     + reads_of c.args.groups.now (living_pieces
     (book_of g.R.Rule.handles g.R.Rule.answers c.args.book.now.rules.items) vs
@@ -47,7 +48,8 @@ returns-in_err-rows-clause-cost g c = λ past represents accepted.
 pub returns-clause-asked : goal.returns-clause-asked
 returns-clause-asked g c past represents =
     let query = query_of c.args.query.now in
-    let h : IsQueryReady past query c.in_ok-atoms.atoms = c.in_ok-atoms.ensures past represents in
+    let h : IsQueryPrepared past query c.in_ok-atoms.atoms =
+    c.in_ok-atoms.ensures past represents in
     record {
       accepted = h.accepted;
       rows = c.keep.ensures.rows ∙ ap (λ (k : List Keep).
@@ -60,7 +62,8 @@ returns-clause-asked g c past represents =
 pub returns-clause-cost : goal.returns-clause-cost
 returns-clause-cost g c = λ past represents accepted.
     let query = query_of c.args.query.now in
-    let h : IsQueryReady past query c.in_ok-atoms.atoms = c.in_ok-atoms.ensures past represents in
+    let h : IsQueryPrepared past query c.in_ok-atoms.atoms =
+    c.in_ok-atoms.ensures past represents in
     subst (λ (vs : List PlainVersion). c.answer.new.steps ≤ c.args.steps.now
     + reads_of c.args.groups.now (living_pieces
     (book_of g.R.Rule.handles g.R.Rule.answers c.args.book.now.rules.items) vs
@@ -73,7 +76,8 @@ returns-clause-cost g c = λ past represents accepted.
 pub returns-clause-borrowed : goal.returns-clause-borrowed
 returns-clause-borrowed g c = λ past represents pieces are by_branch spared.
     let query = query_of c.args.query.now in
-    let h : IsQueryReady past query c.in_ok-atoms.atoms = c.in_ok-atoms.ensures past represents in
+    let h : IsQueryPrepared past query c.in_ok-atoms.atoms =
+    c.in_ok-atoms.ensures past represents in
     let all : AreBorrowedBy past (query_asked past query) by_branch c.in_ok-rows.rows.items =
     subst (λ (q : PlainQuery). AreBorrowedBy past q by_branch c.in_ok-rows.rows.items) h.atoms
     (c.in_ok-rows.ensures.borrowed past represents pieces
@@ -93,7 +97,8 @@ returns-clause-borrowed g c = λ past represents pieces are by_branch spared.
 pub returns-clause-least : goal.returns-clause-least
 returns-clause-least g c = λ past represents e m.
     let query = query_of c.args.query.now in
-    let h : IsQueryReady past query c.in_ok-atoms.atoms = c.in_ok-atoms.ensures past represents in
+    let h : IsQueryPrepared past query c.in_ok-atoms.atoms =
+    c.in_ok-atoms.ensures past represents in
     c.in_ok-rows.ensures.least e
     (subst (λ (q : PlainQuery). In e (living_pieces
     (book_of g.R.Rule.handles g.R.Rule.answers c.args.book.now.rules.items)
@@ -104,18 +109,19 @@ returns-clause-least g c = λ past represents e m.
 
 pub returns-in_err-rows-clause-unread : goal.returns-in_err-rows-clause-unread
 returns-in_err-rows-clause-unread g c = λ past represents refused.
-    let h : IsQueryReady past (query_of c.args.query.now) c.in_ok-atoms.atoms =
+    let h : IsQueryPrepared past (query_of c.args.query.now) c.in_ok-atoms.atoms =
     c.in_ok-atoms.ensures past represents in absurd (refused h.accepted)
 
 pub returns-clause-unread : goal.returns-clause-unread
 returns-clause-unread g c = λ past represents refused.
-    let h : IsQueryReady past (query_of c.args.query.now) c.in_ok-atoms.atoms =
+    let h : IsQueryPrepared past (query_of c.args.query.now) c.in_ok-atoms.atoms =
     c.in_ok-atoms.ensures past represents in absurd (refused h.accepted)
 
 pub returns-clause-listed : goal.returns-clause-listed
 returns-clause-listed g c = λ past represents.
     let query = query_of c.args.query.now in
-    let h : IsQueryReady past query c.in_ok-atoms.atoms = c.in_ok-atoms.ensures past represents in
+    let h : IsQueryPrepared past query c.in_ok-atoms.atoms =
+    c.in_ok-atoms.ensures past represents in
     record {
       entries = entries_of c.in_ok-rows.rows.items;
       list = c.in_ok-rows.ensures.listed past query represents

@@ -8,14 +8,14 @@ use Rattle.piece_ir_spec.specs.Books.{book_of}
 use Rattle.piece_ir.specs.ExplainedPieces.{all_explained}
 use Rattle.query_exec.specs.QueryPieces.{ArePieces, living_pieces}
 use Rattle.query_exec.specs.ToldMeanings.{MeanWhatIsAsked}
-use Rattle.archive_core_state.specs.Asking.{IsQueryReady}
+use Rattle.archive_core_state.specs.Asking.{IsQueryPrepared}
 use Rattle.archive_core_state.proofs.asked_query.explain_query.Goals as goal
 
 pub explain-requires-clause-answerable : goal.explain-requires-clause-answerable
 explain-requires-clause-answerable g c =
     let past = c.requires.represents.0 in
     let represents = c.requires.represents.1 in
-    let h : IsQueryReady past (query_of c.args.query.now) c.in_ok-atoms.atoms =
+    let h : IsQueryPrepared past (query_of c.args.query.now) c.in_ok-atoms.atoms =
     c.in_ok-atoms.ensures past represents in
     record {
       past = past;
@@ -28,7 +28,8 @@ explain-requires-clause-answerable g c =
 pub returns : goal.returns
 returns g c = λ past represents.
     let query = query_of c.args.query.now in
-    let h : IsQueryReady past query c.in_ok-atoms.atoms = c.in_ok-atoms.ensures past represents in
+    let h : IsQueryPrepared past query c.in_ok-atoms.atoms =
+    c.in_ok-atoms.ensures past represents in
     record {
       accepted = h.accepted;
       are = subst (λ (vs : List PlainVersion).

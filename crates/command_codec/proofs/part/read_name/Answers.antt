@@ -1,5 +1,5 @@
 use Rattle.prima_base.specs.Bytes.{IsName}
-use Rattle.command_codec_spec.specs.Spelling.{name_bytes}
+use Rattle.command_codec_spec.specs.Encoding.{name_bytes}
 use Rattle.command_codec_spec.specs.Reader.{name}
 use Rattle.command_codec_spec.proofs.PartFormats.{name_correct}
 use Rattle.command_codec.proofs.ReadSteps.{of_stuck}

@@ -1,5 +1,5 @@
 use Rattle.smo_ops_types.specs.Operators.{operator_of}
-use Rattle.command_codec_spec.specs.Spelling.{operator_bytes}
+use Rattle.command_codec_spec.specs.Encoding.{operator_bytes}
 use Rattle.command_codec_spec.specs.Valid.{IsOperator}
 use Rattle.command_codec_spec.specs.Reader.{operator}
 use Rattle.command_codec_spec.proofs.CommandFormats.{operator_correct}

@@ -1,5 +1,5 @@
 use Rattle.prima_base.specs.Columns.{IsValid}
-use Rattle.command_codec_spec.specs.Spelling.{value_bytes}
+use Rattle.command_codec_spec.specs.Encoding.{value_bytes}
 use Rattle.command_codec_spec.specs.Reader.{value}
 use Rattle.command_codec_spec.proofs.PartFormats.{value_correct}
 use Rattle.command_codec.proofs.ReadSteps.{of_stuck}

@@ -2,7 +2,7 @@ use Rattle.std.proofs.Common.{nat_lt}
 use Rattle.std.proofs.lemmas.Result.{err_from_is_err_and}
 use Rattle.cond_expr.specs.Seen.{trees_of}
 use Rattle.cond_expr.specs.Trees.{joined}
-use Rattle.command_codec_spec.specs.Reading.{pair, digits, items, listed}
+use Rattle.command_codec_spec.specs.Reading.{pair, digits, items, list_parser}
 use Rattle.command_codec_spec.specs.Reader.{sign, level, most_parts}
 use Rattle.command_codec_spec.specs.Reader.{chosen, comparison}
 use Rattle.command_codec_checker.proofs.Steps.{first_halts, after, mapped, mapped_halts, paired}
@@ -57,7 +57,7 @@ pub check_concat-returns-in_err-count : goal.check_concat-returns-in_err-count
 check_concat-returns-in_err-count t c =
     let f = err_from_is_err_and c.from_residual.result c.from_residual.ensures.1 in
     rw f.1 (mapped_halts (λ l. joined (trees_of l))
-    (listed 1 (most_parts (nat_lt 0 c.args.levels) 255) (level c.args.levels).expr)
+    (list_parser 1 (most_parts (nat_lt 0 c.args.levels) 255) (level c.args.levels).expr)
     c.args.reader.now.rest.now c.in_err-count.field-0.0 c.part_count.new.reader.rest.now
     (first_halts (digits (most_parts (nat_lt 0 c.args.levels) 255) 1 0)
     (λ n. items (level c.args.levels).expr n) c.args.reader.now.rest.now
@@ -65,7 +65,7 @@ check_concat-returns-in_err-count t c =
 
 pub check_concat-returns : goal.check_concat-returns
 check_concat-returns t c = mapped (λ l. joined (trees_of l))
-    (listed 1 (most_parts (nat_lt 0 c.args.levels) 255) (level c.args.levels).expr)
+    (list_parser 1 (most_parts (nat_lt 0 c.args.levels) 255) (level c.args.levels).expr)
     c.args.reader.now.rest.now c.check_exprs.result c.check_exprs.new.reader.rest.now
     (after (digits (most_parts (nat_lt 0 c.args.levels) 255) 1 0)
     (λ n. items (level c.args.levels).expr n) c.args.reader.now.rest.now c.in_ok-count.count

@@ -2,7 +2,7 @@ use Rattle.std.proofs.Common.{◌≡◌, ◌++◌, drop}
 use Rattle.std.specs.List.{flat_map, AllByRecursion}
 use Rattle.prima_base.specs.Bytes.{IsName}
 use Rattle.prima_base.specs.Columns.{IsValid}
-use Rattle.command_codec_spec.specs.Spelling.{cell_bytes}
+use Rattle.command_codec_spec.specs.Encoding.{cell_bytes}
 use Rattle.command_codec_writer.proofs.change_writer.write_each_cell.Given as goal
 
 abbrev pub invariant-loop-cell : goal.invariant-loop-cell

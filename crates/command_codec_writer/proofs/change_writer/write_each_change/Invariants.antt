@@ -1,7 +1,7 @@
 use Rattle.std.proofs.Common.{◌≡◌, ◌++◌, drop}
 use Rattle.std.specs.List.{flat_map, AllByRecursion}
 use Rattle.smo_ops_types.specs.Changes.{changes_of}
-use Rattle.command_codec_spec.specs.Spelling.{change_bytes}
+use Rattle.command_codec_spec.specs.Encoding.{change_bytes}
 use Rattle.command_codec_spec.specs.Valid.{IsWritableChange, ChangeNamed}
 use Rattle.command_codec_writer.proofs.change_writer.write_each_change.Given as goal
 

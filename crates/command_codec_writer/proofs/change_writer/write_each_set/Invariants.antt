@@ -2,7 +2,7 @@ use Rattle.std.proofs.Common.{◌≡◌, ◌++◌, drop}
 use Rattle.std.specs.List.{flat_map, AllByRecursion}
 use Rattle.prima_base.specs.Bytes.{IsName}
 use Rattle.smo_ops_types.specs.Changes.{sets_of}
-use Rattle.command_codec_spec.specs.Spelling.{set_bytes}
+use Rattle.command_codec_spec.specs.Encoding.{set_bytes}
 use Rattle.command_codec_spec.specs.Valid.{IsWritableTree, TreeNamed}
 use Rattle.command_codec_writer.proofs.change_writer.write_each_set.Given as goal
 

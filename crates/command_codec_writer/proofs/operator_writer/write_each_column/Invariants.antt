@@ -1,7 +1,7 @@
 use Rattle.std.proofs.Common.{◌≡◌, ◌++◌, drop}
 use Rattle.std.specs.List.{flat_map, AllByRecursion}
 use Rattle.prima_base.specs.Bytes.{IsName}
-use Rattle.command_codec_spec.specs.Spelling.{column_bytes}
+use Rattle.command_codec_spec.specs.Encoding.{column_bytes}
 use Rattle.command_codec_writer.proofs.operator_writer.write_each_column.Given as goal
 
 abbrev pub invariant-loop-column : goal.invariant-loop-column

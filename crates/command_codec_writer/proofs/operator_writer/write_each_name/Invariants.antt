@@ -1,7 +1,7 @@
 use Rattle.std.proofs.Common.{◌≡◌, ◌++◌, drop}
 use Rattle.std.specs.List.{flat_map, AllByRecursion}
 use Rattle.prima_base.specs.Bytes.{IsName}
-use Rattle.command_codec_spec.specs.Spelling.{name_bytes}
+use Rattle.command_codec_spec.specs.Encoding.{name_bytes}
 use Rattle.command_codec_writer.proofs.operator_writer.write_each_name.Given as goal
 
 abbrev pub invariant-loop-name : goal.invariant-loop-name

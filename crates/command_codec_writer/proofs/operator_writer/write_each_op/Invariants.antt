@@ -1,7 +1,7 @@
 use Rattle.std.proofs.Common.{◌≡◌, ◌++◌, drop}
 use Rattle.std.specs.List.{flat_map, AllByRecursion}
 use Rattle.smo_ops_types.specs.Operators.{operators_of}
-use Rattle.command_codec_spec.specs.Spelling.{operator_bytes}
+use Rattle.command_codec_spec.specs.Encoding.{operator_bytes}
 use Rattle.command_codec_spec.specs.Valid.{IsWritableOperator, OperatorNamed}
 use Rattle.command_codec_writer.proofs.operator_writer.write_each_op.Given as goal
 

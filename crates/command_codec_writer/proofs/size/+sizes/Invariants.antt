@@ -1,6 +1,6 @@
 use Rattle.std.proofs.Common.{◌≡◌, ◌+◌, ◌≤◌, length, min, map, drop}
 use Rattle.cond_expr.specs.Seen.{tree, test, trees_of, tests_of}
-use Rattle.command_codec_spec.specs.Spelling.{trees_bytes, tests_bytes}
+use Rattle.command_codec_spec.specs.Encoding.{trees_bytes, tests_bytes}
 use Rattle.command_codec_writer.proofs.size.+sizes.Given as goal
 
 abbrev pub invariant-exprs_size-loop-part : goal.invariant-exprs_size-loop-part

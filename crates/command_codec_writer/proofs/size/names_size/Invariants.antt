@@ -1,6 +1,6 @@
 use Rattle.std.proofs.Common.{◌≡◌, ◌+◌, ◌≤◌, length, min, drop}
 use Rattle.std.specs.List.{flat_map}
-use Rattle.command_codec_spec.specs.Spelling.{name_bytes}
+use Rattle.command_codec_spec.specs.Encoding.{name_bytes}
 use Rattle.command_codec_writer.proofs.size.names_size.Given as goal
 
 abbrev pub invariant-loop-item : goal.invariant-loop-item

@@ -1,7 +1,7 @@
 use Rattle.std.proofs.Common.{◌≡◌, ◌+◌, ◌≤◌, length, min, drop}
 use Rattle.std.specs.List.{flat_map}
 use Rattle.smo_ops_types.specs.Operators.{operators_of}
-use Rattle.command_codec_spec.specs.Spelling.{operator_bytes}
+use Rattle.command_codec_spec.specs.Encoding.{operator_bytes}
 use Rattle.command_codec_writer.proofs.size.ops_size.Given as goal
 
 abbrev pub invariant-loop-item : goal.invariant-loop-item

@@ -1,7 +1,7 @@
 use Rattle.std.proofs.Common.{[], ◌∷◌, ◌++◌, sym, ap, ◌∙◌}
 use Rattle.cond_expr.specs.Seen.{tree, test}
 use Rattle.cond_expr.proofs.SeenLaws.{tree_of_concat, tree_of_case, test_of_and, test_of_or}
-use Rattle.command_codec_spec.specs.Spelling.{tree_bytes, test_bytes}
+use Rattle.command_codec_spec.specs.Encoding.{tree_bytes, test_bytes}
 use Rattle.command_codec_writer.proofs.After.{one_more, conds_written, exprs_written, three_more}
 use Rattle.command_codec_writer.proofs.After.{test_of_not}
 use Rattle.command_codec_writer.proofs.tree_writer.+writes.Goals as goal

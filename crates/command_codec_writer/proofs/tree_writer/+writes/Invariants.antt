@@ -1,6 +1,6 @@
 use Rattle.std.proofs.Common.{◌≡◌, ◌++◌, map, drop}
 use Rattle.cond_expr.specs.Seen.{tree, test, trees_of, tests_of}
-use Rattle.command_codec_spec.specs.Spelling.{trees_bytes, tests_bytes}
+use Rattle.command_codec_spec.specs.Encoding.{trees_bytes, tests_bytes}
 use Rattle.command_codec_spec.specs.Valid.{TreesFit, TestsFit, TreesNamed, TestsNamed}
 use Rattle.command_codec_writer.proofs.tree_writer.+writes.Given as goal
 

@@ -133,8 +133,10 @@ spoil_all-requires c =
     let copy = c.in_ok-seen.seen.items in
     let is_copy = c.in_ok-seen.ensures ∙ c.deref.ensures.value in
     record {
-      grown = no_shorter first calls front back written start k c.requires.total c.requires.fit whole.len
-          whole.since whole.sync c.split_at.ensures.front c.split_at.ensures.back c.in_ok-left.ensures
+      grown = no_shorter first calls front back written start k c.requires.total c.requires.fit
+          whole.len
+          whole.since whole.sync c.split_at.ensures.front c.split_at.ensures.back
+          c.in_ok-left.ensures
           c.replay.new.file.items c.split_at-2.result.1.now copy c.in_ok-used.used
           c.in_ok-used.ensures.seen c.in_ok-used.ensures.used
           c.split_at-2.ensures.back is_copy c.deref-2.result.now

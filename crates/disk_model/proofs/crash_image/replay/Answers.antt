@@ -28,7 +28,8 @@ loop-call-preserved c =
           let next = w.used-is in
           record {
             used = ap (λ n. n + total (drop (k + 1) calls)) next
-                ∙ used_step calls (call.Write 0 0) k used at len file c.match-call.file.items written
+                ∙ used_step calls (call.Write 0 0) k used at len file c.match-call.file.items
+                written
                 lt w.in-Write.is i.fit (total calls) i.used;
             fit = subst (λ n. IsTrue (all_fit (begun c.match-call.file.items)
                 (steps_of (drop (k + 1) calls) (drop n written)))) (sym next)

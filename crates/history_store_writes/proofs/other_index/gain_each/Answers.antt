@@ -1,7 +1,7 @@
 use Rattle.std.proofs.Common.{rules, get_or, ◌≡◌, ◌<◌, ◌∙◌, length, arith, sym, subst}
 use Rattle.std.proofs.lemmas.Grind.{common_steps}
 use Rattle.relations_spec.specs.Sets.{In}
-use Rattle.history_store_writes.specs.ValueIndexes.{Indexed, IsIndexReady, IsGaining}
+use Rattle.history_store_writes.specs.ValueIndexes.{Indexed, IsIndexPrepared, IsGaining}
 use Rattle.history_store_value_order.specs.ByValue.{ids_handed}
 use Rattle.history_store_writes.proofs.Others.{one_more, others_rest}
 use Rattle.history_store_writes.proofs.other_index.gain_each.Goals as goal
@@ -15,7 +15,7 @@ gain-requires-clause-new c = λ q d i.
     let is : c.index_mut.result.now ≡ get_or c.args.others.now.items c.loop-k.k
     c.index_mut.result.now = was ∙ w.rest c.loop-k.k c.index_mut.result.now (omega arith) in
     let b : c.loop-k.k < length c.args.others.now.items = grind (arith, common_steps) in
-    let ready = subst (IsIndexReady c.args.columns.now) (sym is)
+    let ready = subst (IsIndexPrepared c.args.columns.now) (sym is)
     (c.requires.ready c.loop-k.k c.index_mut.result.now b) in
     c.requires.new q c.index_mut.result.now.column d i ready.within
 

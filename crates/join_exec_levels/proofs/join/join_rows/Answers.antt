@@ -11,7 +11,7 @@ use Rattle.cond_expr.specs.Parts.{parts}
 use Rattle.cond_expr.specs.Seen.{tree, test}
 use Rattle.join_exec_spec.specs.Answering.{answers}
 use Rattle.join_exec_spec.specs.BorrowedOutputs.{RowsBorrow, AllStayBorrowed}
-use Rattle.join_exec_spec.specs.Choosing.{completed}
+use Rattle.join_exec_spec.specs.Choosing.{complete_choices}
 use Rattle.join_exec_spec.specs.Keeping.{meets_all, borrowed_tests, AllValid}
 use Rattle.join_exec_spec.proofs.JoinLaws.{fit_valid, start_held}
 use Rattle.join_exec_levels.specs.declared.level.Level.{Level}
@@ -73,5 +73,5 @@ returns-clause-rows c = λ m h.
     (held_at (made_through cs levels es) m)
     (c.in_ok-levels.ensures.joined es (none_fits c.args.slice es c.in_ok-first.ensures.rows) m
     ∙ ap (λ (xs : List (List Value)). filter (meets_all cs ps)
-    (completed xs (held_of c.args.sources.items m)))
+    (complete_choices xs (held_of c.args.sources.items m)))
     (start_held es c.args.slice m true c.in_ok-first.ensures.rows h))

@@ -5,7 +5,7 @@ use Rattle.std.proofs.lemmas.List.Sums.{sum_by-cons}
 use Rattle.relations_spec.specs.Timed.{Entry, held_at}
 use Rattle.prima_base.specs.declared.value.Value.{Value}
 use Rattle.cond_expr.specs.declared.expr.Column.{Column}
-use Rattle.join_exec_spec.specs.Choosing.{completed}
+use Rattle.join_exec_spec.specs.Choosing.{complete_choices}
 use Rattle.join_exec_spec.specs.Fitting.{Fit}
 use Rattle.join_exec_spec.specs.Keeping.{meets_all, borrowed_tests}
 use Rattle.join_exec_levels.specs.declared.level.Level.{Level}
@@ -55,15 +55,15 @@ sources-preserved c =
           (c.sources.invariant.wide ps f)));
       joined = λ ps f m.
           ap (λ (ls : List Level). filter met
-          (completed (held_at (made_through cs ls ps) m) (held_of left m)))
+          (complete_choices (held_at (made_through cs ls ps) m) (held_of left m)))
           c.in_ok-push.ensures.items
           ∙ ap (λ (es : List (Entry (List Value))).
-          filter met (completed (held_at es m) (held_of left m)))
+          filter met (complete_choices (held_at es m) (held_of left m)))
           (through_more cs before level ps)
           ∙ c.in_ok-level_of.ensures.joined (made_through cs before ps)
           (c.sources.invariant.wide ps f) m (held_of left m)
           ∙ ap (λ (xs : List Source). filter met
-          (completed (held_at (made_through cs before ps) m) (held_of xs m)))
+          (complete_choices (held_at (made_through cs before ps) m) (held_of xs m)))
           (sym c.in-Some.ensures.items)
           ∙ c.sources.invariant.joined ps f m;
     }
@@ -83,7 +83,7 @@ sources-init c = record {
       (sym c.new-levels.ensures.items) f;
   joined = λ ps f m. ap (λ (ls : List Level).
       filter (meets_all c.args.columns.now (borrowed_tests c.args.parts.now))
-      (completed (held_at (made_through c.args.columns.now ls ps) m)
+      (complete_choices (held_at (made_through c.args.columns.now ls ps) m)
       (held_of c.args.sources.items m))) c.new-levels.ensures.items;
 }
 
@@ -104,6 +104,6 @@ returns-clause-joined c = λ ps f m.
     let none : c.sources.sources.items ≡ [] =
     none_left c.sources.sources.items c.pop_front.new.self.items c.in_default.ensures.items
     c.in_default.ensures.rest in
-    ap (λ (xs : List Source). filter met (completed
+    ap (λ (xs : List Source). filter met (complete_choices
     (held_at (made_through cs c.sources.levels.items ps) m) (held_of xs m))) (sym none)
     ∙ c.sources.invariant.joined ps f m

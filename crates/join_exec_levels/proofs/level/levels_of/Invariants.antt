@@ -3,7 +3,7 @@ use Rattle.std.specs.List.{filter, sum_by}
 use Rattle.relations_spec.specs.Timed.{Entry, held_at}
 use Rattle.prima_base.specs.declared.value.Value.{Value}
 use Rattle.cond_expr.specs.declared.expr.Column.{Column}
-use Rattle.join_exec_spec.specs.Choosing.{completed}
+use Rattle.join_exec_spec.specs.Choosing.{complete_choices}
 use Rattle.join_exec_spec.specs.Fitting.{Fit}
 use Rattle.join_exec_spec.specs.Keeping.{meets_all, borrowed_tests}
 use Rattle.join_exec_spec.specs.BorrowedOutputs.{BorrowedValues}
@@ -24,9 +24,10 @@ invariant-sources l = record {
       → Fit l.taken (made_through l.columns l.levels.items ps);
   joined : (ps : List (Entry (List Value))) → Fit 0 ps → (m : ℕ)
       → filter (meets_all l.columns (borrowed_tests l.parts))
-      (completed (held_at (made_through l.columns l.levels.items ps) m) (held_of l.sources.items m))
+      (complete_choices (held_at (made_through l.columns l.levels.items ps) m)
+      (held_of l.sources.items m))
       ≡ filter (meets_all l.columns (borrowed_tests l.parts))
-      (completed (held_at ps m) (held_of l.initial.sources.items m));
+      (complete_choices (held_at ps m) (held_of l.initial.sources.items m));
 }
 
 abbrev pub decreases-sources : goal.decreases-sources

@@ -1,7 +1,7 @@
 use Rattle.journal.specs.RecordLaws.{stands_for_one}
 use Rattle.journal.specs.DamageLaws.{not_damaged, damaged_at_one_place}
 use Rattle.journal.specs.MountLaws.{opened_stands}
-use Rattle.journal.proofs.Whole.{stands_or_damaged}
+use Rattle.journal.proofs.FileCases.{stands_or_damaged}
 use Rattle.journal.proofs.laws.a_file_stands_or_is_damaged.Goals as goal
 
 pub returns-clause-some : goal.returns-clause-some

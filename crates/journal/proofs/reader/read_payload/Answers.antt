@@ -2,7 +2,7 @@ use Rattle.std.proofs.Common.{◌-◌, take, drop, length, ap, sym, ◌∙◌, a
 use Rattle.std.proofs.Common.{length-drop}
 use Rattle.std.specs.Int.{w64, from_be_bytes}
 use Rattle.std.proofs.lemmas.List.{take_all}
-use Rattle.journal.proofs.Spelled.{whole_payload, eight}
+use Rattle.journal.proofs.RecordBytes.{whole_payload, eight}
 use Rattle.journal.proofs.reader.read_payload.Goals as goal
 
 pub returns-clause-found : goal.returns-clause-found

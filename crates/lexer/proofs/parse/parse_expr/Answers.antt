@@ -9,13 +9,14 @@ use Rattle.lexer_trees_spec.specs.Reader.{outermost, follow_expr}
 use Rattle.lexer_trees_spec.proofs.Correctness.{outermost_correct}
 use Rattle.lexer_combinators.proofs.Places.{length_map, got_fits, got_read, got_found, got_only}
 use Rattle.lexer_combinators.proofs.Places.{got_exact, err_fits, err_found, err_only, err_exact}
-use Rattle.lexer_combinators.proofs.Crossing.{got_crossing, err_crossing, err_fault, counts_read}
-use Rattle.lexer_combinators.proofs.Crossing.{counts_sized}
+use Rattle.lexer_combinators.proofs.OverflowSteps.{got_overflow, err_overflow, err_fault}
+use Rattle.lexer_combinators.proofs.OverflowSteps.{counts_read}
+use Rattle.lexer_combinators.proofs.OverflowSteps.{counts_sized}
 use Rattle.lexer_combinators.specs.Found.{lexemes_from}
 use Rattle.lexer_trees_spec.proofs.Longest.{expr_longest}
 use Rattle.lexer_trees_spec.proofs.CountsJoined.{expr_counted}
 use Rattle.lexer_trees_spec.proofs.CountSizes.{expr_length}
-use Rattle.lexer_trees_spec.specs.TreeCounts.{expr_counts, expr_crossings}
+use Rattle.lexer_trees_spec.specs.TreeCounts.{expr_counts, expr_overflows}
 use Rattle.lexer.proofs.parse.parse_expr.Goals as goal
 
 pub overflow_sub-result : goal.overflow_sub-result
@@ -71,7 +72,7 @@ returns-in-Err-clause-only c = err_only (outermost c.args.qualified).expr (IsExp
 pub returns-in-Err-clause-fault : goal.returns-in-Err-clause-fault
 returns-in-Err-clause-fault c = err_fault (outermost c.args.qualified).expr
     (IsExpr c.args.qualified) (follow_expr c.args.qualified)
-    (outermost_correct c.args.qualified).expr (expr_crossings c.args.qualified)
+    (outermost_correct c.args.qualified).expr (expr_overflows c.args.qualified)
     (counts_read (outermost c.args.qualified).expr (IsExpr c.args.qualified)
     (expr_counts c.args.qualified) (expr_length c.args.qualified) (expr_counted c.args.qualified))
     (counts_sized (outermost c.args.qualified).expr (IsExpr c.args.qualified)
@@ -81,9 +82,9 @@ returns-in-Err-clause-fault c = err_fault (outermost c.args.qualified).expr
     c.outer_expr.new.c in subst P c.tail.ensures c.in-Err.ensures) c.fault_at.ensures
 
 pub returns-in-Err-clause-over : goal.returns-in-Err-clause-over
-returns-in-Err-clause-over c = err_crossing (outermost c.args.qualified).expr
+returns-in-Err-clause-over c = err_overflow (outermost c.args.qualified).expr
     (IsExpr c.args.qualified) (follow_expr c.args.qualified)
-    (outermost_correct c.args.qualified).expr (expr_crossings c.args.qualified)
+    (outermost_correct c.args.qualified).expr (expr_overflows c.args.qualified)
     (counts_read (outermost c.args.qualified).expr (IsExpr c.args.qualified)
     (expr_counts c.args.qualified) (expr_length c.args.qualified) (expr_counted c.args.qualified))
     (counts_sized (outermost c.args.qualified).expr (IsExpr c.args.qualified)
@@ -93,9 +94,9 @@ returns-in-Err-clause-over c = err_crossing (outermost c.args.qualified).expr
     c.outer_expr.new.c in subst P c.tail.ensures c.in-Err.ensures) c.fault_at.ensures
 
 pub returns-in-Ok-clause-over : goal.returns-in-Ok-clause-over
-returns-in-Ok-clause-over c = got_crossing (outermost c.args.qualified).expr
+returns-in-Ok-clause-over c = got_overflow (outermost c.args.qualified).expr
     (IsExpr c.args.qualified) (follow_expr c.args.qualified)
-    (outermost_correct c.args.qualified).expr (expr_crossings c.args.qualified)
+    (outermost_correct c.args.qualified).expr (expr_overflows c.args.qualified)
     (counts_read (outermost c.args.qualified).expr (IsExpr c.args.qualified)
     (expr_counts c.args.qualified) (expr_length c.args.qualified) (expr_counted c.args.qualified))
     (counts_sized (outermost c.args.qualified).expr (IsExpr c.args.qualified)

@@ -1,5 +1,5 @@
 use Rattle.std.proofs.Common.{refl, None}
-use Rattle.lexer_spec.specs.declared.scanned.Scanned.TheVariants.{End, Bad, Open, Long, Big}
+use Rattle.lexer_spec.specs.declared.scan_of.Scanned.TheVariants.{End, Bad, Open, Long, Big}
 use Rattle.lexer.proofs.Steps.{ends_here}
 use Rattle.lexer_spec.proofs.Shapes.{spaced}
 use Rattle.lexer.proofs.token_list.tokens.Goals as goal

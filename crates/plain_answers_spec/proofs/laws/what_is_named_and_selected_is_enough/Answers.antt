@@ -16,8 +16,8 @@ returns-clause-answers c = λ columns relations outs test reads a b e.
 pub returns-clause-branches : goal.returns-clause-branches
 returns-clause-branches c = λ tables db branches reads h. same_plain tables db branches reads h
 
-pub returns-clause-needed : goal.returns-clause-needed
-returns-clause-needed c = is_needed
+pub returns-clause-needed_reads : goal.returns-clause-needed_reads
+returns-clause-needed_reads c = is_needed
 
-pub returns-clause-pushed : goal.returns-clause-pushed
-returns-clause-pushed c = is_pushed
+pub returns-clause-pushed_cond : goal.returns-clause-pushed_cond
+returns-clause-pushed_cond c = is_pushed

@@ -1,5 +1,5 @@
 use Rattle.std.specs.Prelude.{Option, Some, None, List, ℕ}
-use Rattle.disk_model.specs.Meaning.{Tells}
+use Rattle.disk_model.specs.Meaning.{IfKnown}
 use Rattle.archive_core_replay.specs.declared.opened.Opened.{Opened}
 use Rattle.script_cli.proofs.Counting.{opening_counted}
 use Rattle.script_cli.proofs.disk_run.mount_counted.Goals as goal
@@ -20,7 +20,7 @@ returns-in-Ok-clause-opened g c =
     }
   where
     tells_counted : (seen : Option (List ℕ)) (P : List ℕ → Opened → Type 0) (opened : Opened)
-        → Tells seen (λ file. P file opened) → Tells seen (λ file. (o : Opened) × P file o)
+        → IfKnown seen (λ file. P file opened) → IfKnown seen (λ file. (o : Opened) × P file o)
     tells_counted None P opened told = tt
     tells_counted (Some file) P opened told = (opened, told)
 

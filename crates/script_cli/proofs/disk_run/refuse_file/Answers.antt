@@ -1,7 +1,7 @@
 use Rattle.std.proofs.Common.{sym, subst}
 use Rattle.answer_text.specs.Texts.{not_a_journal_text}
 use Rattle.script_cli.specs.Driving.{PutsUnopened}
-use Rattle.script_cli.proofs.Judging.{line_put}
+use Rattle.script_cli.proofs.Checking.{line_put}
 use Rattle.script_cli.proofs.disk_run.refuse_file.Goals as goal
 
 pub returns-in-Damaged-clause-told : goal.returns-in-Damaged-clause-told

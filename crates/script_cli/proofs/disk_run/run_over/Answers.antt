@@ -42,7 +42,7 @@ returns-in-Ok-clause-runs g c =
     let start = start_of (M c.args.disk) c.args.limit
     (book_of g.R.Rule.handles g.R.Rule.answers c.args.book.now.rules.items)
     c.in-Ok.archive has in
-    let drove = c.drive-driven.ensures.drove (given_by c.args.limit
+    let ran_script = c.drive-driven.ensures.ran_script (given_by c.args.limit
     (book_of g.R.Rule.handles g.R.Rule.answers c.args.book.now.rules.items))
     refl start.0 start.1 in
     let new = c.drive-driven.new.archive in
@@ -56,7 +56,7 @@ returns-in-Ok-clause-runs g c =
     (inr (ran_opened c.a_file_opens_or_is_damaged.ensures.one (M c.args.disk) c.args.limit
     (book_of g.R.Rule.handles g.R.Rule.answers c.args.book.now.rules.items)
     c.in-Ok.archive has start.0 start.2 c.drive-driven.result.status _ _ _ _ (below new)
-    (g.met.D.Disk.valid new.journal.disk) drove))
+    (g.met.D.Disk.valid new.journal.disk) ran_script))
 
 pub returns-in-Ok-clause-goes : goal.returns-in-Ok-clause-goes
 returns-in-Ok-clause-goes g c =
@@ -65,14 +65,14 @@ returns-in-Ok-clause-goes g c =
     let start = start_of (M c.args.disk) c.args.limit
     (book_of g.R.Rule.handles g.R.Rule.answers c.args.book.now.rules.items)
     c.in-Ok.archive has in
-    let drove = c.drive-driven.ensures.drove (given_by c.args.limit
+    let ran_script = c.drive-driven.ensures.ran_script (given_by c.args.limit
     (book_of g.R.Rule.handles g.R.Rule.answers c.args.book.now.rules.items))
     refl start.0 start.1 in
     let new = c.drive-driven.new.archive in
     subst (λ d. GoesOn (M c.args.disk) (M d)) (sym c.into_disk.ensures)
     (goes_trans (M c.args.disk) (below c.in-Ok.archive) (below new) has.goes
     (put_goes c.drive-driven.result.status (below c.in-Ok.archive) (below new)
-    (place_of c.in-Ok.archive) _ _ drove.puts))
+    (place_of c.in-Ok.archive) _ _ ran_script.puts))
 
 pub returns-in-Ok-clause-disk : goal.returns-in-Ok-clause-disk
 returns-in-Ok-clause-disk g c =

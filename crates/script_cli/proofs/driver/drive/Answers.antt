@@ -3,10 +3,10 @@ use Rattle.std.proofs.Common.{length-take, ℕ, refl}
 use Rattle.std.specs.Prelude.{Option, Some, None}
 use Rattle.std.specs.Io.KnownBytes.{Consumes}
 use Rattle.archive_core.specs.Fields.{below, place_of}
-use Rattle.script_cli.specs.Driving.{Drove, CountsPuts}
+use Rattle.script_cli.specs.Driving.{RanScript, CountsPuts}
 use Rattle.script_cli.specs.Limits.{longest_script}
 use Rattle.script_cli.specs.Runs.{SourceCounted, SinkCounted, DiskCounted}
-use Rattle.script_cli.proofs.Reaching.{reach_start, reach, drove_read, drove_limit, drove_halted}
+use Rattle.script_cli.proofs.Reaching.{reach_start, reach, drove_read, drove_limit, ran_stopped}
 use Rattle.script_cli.proofs.Reaching.{drove_end}
 use Rattle.script_cli.proofs.Counts.{rose_after, sink_after, sink_stopped, disk_stopped}
 use Rattle.script_cli.proofs.Counts.{source_stopped, source_at_end, disk_at_end}
@@ -43,23 +43,23 @@ turns-init g c =
       disk = refl;
     }
 
-pub returns-in-Err-clause-drove : goal.returns-in-Err-clause-drove
-returns-in-Err-clause-drove g c = λ limit same start represents.
+pub returns-in-Err-clause-ran_script : goal.returns-in-Err-clause-ran_script
+returns-in-Err-clause-ran_script g c = λ limit same start represents.
     drove_read limit start c.args.archive.now c.turns.archive
     (c.turns.invariant.reached limit same start represents) c.turns.invariant.within
     c.in-Err.ensures.bytes
 
-pub returns-then-taken-eq0-clause-drove : goal.returns-then-taken-eq0-clause-drove
-returns-then-taken-eq0-clause-drove g c = λ limit same start represents.
+pub returns-then-taken-eq0-clause-ran_script : goal.returns-then-taken-eq0-clause-ran_script
+returns-then-taken-eq0-clause-ran_script g c = λ limit same start represents.
     drove_end limit start c.args.archive.now c.turns.archive
     (c.turns.invariant.reached limit same start represents) c.turns.invariant.within
     (none_taken _ _ c.take_some.new.chunk _ c.if-taken-eq0.true c.in-Ok.ensures.bytes.0)
     (c.in-Ok.ensures.bytes.1 c.if-taken-eq0.true) c.finish-status.result
     c.finish-status.ensures.ends
 
-pub returns-then-count-eq-SCRIPT_LIMIT-clause-drove :
-    goal.returns-then-count-eq-SCRIPT_LIMIT-clause-drove
-returns-then-count-eq-SCRIPT_LIMIT-clause-drove g c = λ limit same start represents.
+pub returns-then-count-eq-SCRIPT_LIMIT-clause-ran_script :
+    goal.returns-then-count-eq-SCRIPT_LIMIT-clause-ran_script
+returns-then-count-eq-SCRIPT_LIMIT-clause-ran_script g c = λ limit same start represents.
     let l : length c.take_some.new.chunk ≡ 4096 = grind arith in
     let one : c.in-Ok.taken ≡ 1 = omega (
       arith,
@@ -90,7 +90,7 @@ turns-preserved g c =
           c.feed.new.archive (c.turns.invariant.reached limit same start represents)
           (take c.in-Ok.taken c.take_some.new.chunk) _ _ c.in-Ok.ensures.bytes.0
           (ap (λ k. c.turns.count + k) (sym (prefix_length c.take_some.new.chunk c.in-Ok.taken n)))
-          (c.in-Ok-feed.ensures.took limit same);
+          (c.in-Ok-feed.ensures.fed limit same);
       ready = c.in-Ok-feed.ensures.ready;
       takes = c.in-Ok-feed.ensures.takes;
       within = omega (arith, c.in-Ok.ensures.bound, c.room_for-room.ensures.within);
@@ -142,20 +142,20 @@ returns-then-count-eq-SCRIPT_LIMIT-clause-disk g c = c.turns.invariant.disk
 
 -- ---- a run that stopped
 
-pub returns-in-Err-feed-clause-drove : goal.returns-in-Err-feed-clause-drove
-returns-in-Err-feed-clause-drove g c = λ limit same start represents.
+pub returns-in-Err-feed-clause-ran_script : goal.returns-in-Err-feed-clause-ran_script
+returns-in-Err-feed-clause-ran_script g c = λ limit same start represents.
     let l : length c.take_some.new.chunk ≡ 4096 = grind arith in
     let n : length (take c.in-Ok.taken c.take_some.new.chunk) ≡ c.in-Ok.taken =
     prefix_length c.take_some.new.chunk c.in-Ok.taken (omega (arith, c.in-Ok.ensures.bound)) in
     let within : c.turns.count + length (take c.in-Ok.taken c.take_some.new.chunk) ≤
     longest_script = omega (arith, c.in-Ok.ensures.bound, c.room_for-room.ensures.within) in
-    subst (λ s. Drove limit start s (g.S.Source.left c.args.source.now)
+    subst (λ s. RanScript limit start s (g.S.Source.left c.args.source.now)
     (g.S.Source.left c.take_some.new.source) (g.K.Sink.written c.args.sink.now)
     (g.K.Sink.written c.feed.new.sink)
     (below c.args.archive.now) (below c.feed.new.archive) (place_of c.args.archive.now))
     (sym c.status_of.ensures)
-    (drove_halted limit start c.args.archive.now c.turns.archive c.feed.new.archive
-    c.in-Err-feed.halt (c.turns.invariant.reached limit same start represents)
+    (ran_stopped limit start c.args.archive.now c.turns.archive c.feed.new.archive
+    c.in-Err-feed.reason (c.turns.invariant.reached limit same start represents)
     (take c.in-Ok.taken c.take_some.new.chunk)
     (g.met.D.Disk.valid c.feed.new.archive.journal.disk) within c.in-Ok.ensures.bytes.0
     (c.in-Err-feed.ensures.halted limit same))
@@ -164,13 +164,13 @@ pub returns-in-Err-feed-clause-source : goal.returns-in-Err-feed-clause-source
 returns-in-Err-feed-clause-source g c =
     subst (λ s. SourceCounted s (g.S.Source.faults c.args.source.now)
     (g.S.Source.faults c.take_some.new.source)) (sym c.status_of.ensures)
-    (source_stopped c.in-Err-feed.halt _ _ (c.in-Ok.ensures.cause.kept ∙ c.turns.invariant.read))
+    (source_stopped c.in-Err-feed.reason _ _ (c.in-Ok.ensures.cause.kept ∙ c.turns.invariant.read))
 
 pub returns-in-Err-feed-clause-sink : goal.returns-in-Err-feed-clause-sink
 returns-in-Err-feed-clause-sink g c =
     subst (λ s. SinkCounted s (g.K.Sink.faults c.args.sink.now) (g.K.Sink.faults c.feed.new.sink))
     (sym c.status_of.ensures)
-    (sink_stopped (Unit {0}) c.in-Err-feed.halt (g.K.Sink.faults c.args.sink.now)
+    (sink_stopped (Unit {0}) c.in-Err-feed.reason (g.K.Sink.faults c.args.sink.now)
     (g.K.Sink.faults c.turns.sink) (g.K.Sink.faults c.feed.new.sink)
     (below c.args.archive.now).faults (below c.turns.archive).faults
     (below c.feed.new.archive).faults
@@ -180,7 +180,7 @@ pub returns-in-Err-feed-clause-disk : goal.returns-in-Err-feed-clause-disk
 returns-in-Err-feed-clause-disk g c =
     subst (λ s. DiskCounted s (below c.args.archive.now).faults (below c.feed.new.archive).faults)
     (sym c.status_of.ensures)
-    (disk_stopped (Unit {0}) c.in-Err-feed.halt (g.K.Sink.faults c.args.sink.now)
+    (disk_stopped (Unit {0}) c.in-Err-feed.reason (g.K.Sink.faults c.args.sink.now)
     (g.K.Sink.faults c.turns.sink) (g.K.Sink.faults c.feed.new.sink)
     (below c.args.archive.now).faults (below c.turns.archive).faults
     (below c.feed.new.archive).faults
@@ -189,4 +189,4 @@ returns-in-Err-feed-clause-disk g c =
 pub returns-in-Err-feed-clause-counted : goal.returns-in-Err-feed-clause-counted
 returns-in-Err-feed-clause-counted g c = λ limit same start represents.
     subst (λ s. CountsPuts s limit start (g.S.Source.left c.args.source.now) c.puts-puts.result)
-    (sym c.status_of.ensures) (counts_stopped c.in-Err-feed.halt limit start _ _)
+    (sym c.status_of.ensures) (counts_stopped c.in-Err-feed.reason limit start _ _)

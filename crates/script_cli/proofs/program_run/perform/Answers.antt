@@ -1,19 +1,19 @@
 use Rattle.std.proofs.Common.{◌≡◌, sym, subst, ap, refl, ◌∙◌}
 use Rattle.std.specs.Prelude.{Some, None}
 use Rattle.script_cli_arguments.specs.declared.request.Mode.TheVariants.{Run, Sample}
-use Rattle.script_cli_arguments.specs.Words.{limit_in}
+use Rattle.script_cli_arguments.specs.Arguments.{limit_in}
 use Rattle.script_cli_sample.specs.Statements.{sample_script}
 use Rattle.piece_ir_spec.specs.Books.{book_of}
 use Rattle.script_cli.specs.Runs.{RunsOver, given_by}
 use Rattle.script_cli.specs.Sampling.{SamplesOver}
-use Rattle.script_cli.proofs.Judging.{over_not_words}
+use Rattle.script_cli.proofs.Checking.{over_not_words}
 use Rattle.script_cli.proofs.SampleRuns.{sample_not_words, sample_source}
 use Rattle.script_cli.proofs.program_run.perform.Goals as goal
 
 -- ---- a run
 
-pub returns-in-Run-clause-words : goal.returns-in-Run-clause-words
-returns-in-Run-clause-words g c = λ is.
+pub returns-in-Run-clause-arguments : goal.returns-in-Run-clause-arguments
+returns-in-Run-clause-arguments g c = λ is.
     let M = g.D.Disk.meaning in
     over_not_words (given_by c.args.request.journal_limit
     (book_of g.R.Rule.handles g.R.Rule.answers c.args.book.now.rules.items))
@@ -40,8 +40,8 @@ returns-in-Run-clause-samples g c = λ size for. let here : Run ≡ Sample size 
 
 -- ---- a sample
 
-pub returns-in-Sample-clause-words : goal.returns-in-Sample-clause-words
-returns-in-Sample-clause-words g c = λ is.
+pub returns-in-Sample-clause-arguments : goal.returns-in-Sample-clause-arguments
+returns-in-Sample-clause-arguments g c = λ is.
     let M = g.D.Disk.meaning in
     sample_not_words c.in-Sample.size (given_by c.args.request.journal_limit
     (book_of g.R.Rule.handles g.R.Rule.answers c.args.book.now.rules.items))

@@ -5,7 +5,7 @@ use Rattle.piece_ir_spec.specs.Books.{book_of}
 use Rattle.script_cli_arguments.specs.declared.request.Mode.{Mode}
 use Rattle.script_cli_arguments.specs.declared.request.Mode.TheVariants.{Run, Sample}
 use Rattle.script_cli_arguments.specs.declared.request.Request.{Request}
-use Rattle.script_cli_arguments.specs.Words.{asked, limit_in, limit_of_run, request}
+use Rattle.script_cli_arguments.specs.Arguments.{asked, limit_in, limit_of_run, request}
 use Rattle.script_cli_sample.specs.Statements.{sample_script}
 use Rattle.script_cli_statement.specs.Replies.{recorded}
 use Rattle.script_cli.specs.Output.{recorded_after}
@@ -46,8 +46,8 @@ asks (Some r) = by r.mode refl
 -- wrong words are not answered by damage
 words_not_damaged : (status : Status) (place : ℕ) → status ≡ NotAJournal place → (status ≡ Words)
     ⊎ (status ≡ NoMemory) → ⊥
-words_not_damaged status place is (inl words) = let same : NotAJournal place ≡ Words = sym is
-    ∙ words in cc
+words_not_damaged status place is (inl arguments) = let same : NotAJournal place ≡ Words = sym is
+    ∙ arguments in cc
 words_not_damaged status place is (inr memory) = let same : NotAJournal place ≡ NoMemory = sym is
     ∙ memory in cc
 
@@ -55,39 +55,39 @@ pub returns-clause-damaged : goal.returns-clause-damaged
 returns-clause-damaged g c = λ place is.
     let M = g.D.Disk.meaning in
     ⊎_elim
-    (λ none. let refused = c.judge_and_run.ensures.refused none in
-    absurd (words_not_damaged c.judge_and_run.result place is
+    (λ none. let refused = c.check_and_run.ensures.refused none in
+    absurd (words_not_damaged c.check_and_run.result place is
     (⊎_elim (λ w. inl w.0) (λ m. inr m.0) refused.wrote)))
     (λ some. ⊎_elim
     (λ run. ⊎_elim
     (λ untouched. absurd (not_damaged_untouched M _ _ _ _ _ _ _ untouched place is))
     (λ over. damaged_over (given_by run.0
     (book_of g.R.Rule.handles g.R.Rule.answers c.args.book.now.rules.items)) _
-    _ _ _ _ _ _ (M c.args.disk.now) (M c.judge_and_run.new.disk) place is over)
-    (c.judge_and_run.ensures.runs run.0 run.1))
+    _ _ _ _ _ _ (M c.args.disk.now) (M c.check_and_run.new.disk) place is over)
+    (c.check_and_run.ensures.runs run.0 run.1))
     (λ sample. ⊎_elim
     (λ untouched. absurd (not_damaged_untouched M _ _ _ _ _ _ _ untouched place is))
     (λ over. sample_damaged sample.1 (given_by sample.0
     (book_of g.R.Rule.handles g.R.Rule.answers c.args.book.now.rules.items))
-    (sample_script sample.1) _ _ _ _ _ _ _ (M c.args.disk.now) (M c.judge_and_run.new.disk) over
+    (sample_script sample.1) _ _ _ _ _ _ _ (M c.args.disk.now) (M c.check_and_run.new.disk) over
     place is)
-    (c.judge_and_run.ensures.samples sample.0 sample.1 sample.2))
+    (c.check_and_run.ensures.samples sample.0 sample.1 sample.2))
     some)
-    (asks (asked (map string_bytes c.args.words.now)))
+    (asks (asked (map string_bytes c.args.arguments.now)))
 
 pub returns-clause-runs : goal.returns-clause-runs
 returns-clause-runs g c = λ limit asked. record {
-  runs = c.judge_and_run.ensures.runs limit asked;
+  runs = c.check_and_run.ensures.runs limit asked;
   refuses = λ file place seen damages.
       let M = g.D.Disk.meaning in
       ⊎_elim
       (λ untouched. refuses_untouched M _ _ _ _ _ _ _ untouched place)
       (λ over. refuses_over (given_by limit
       (book_of g.R.Rule.handles g.R.Rule.answers c.args.book.now.rules.items)) _
-      _ _ _ _ _ _ (M c.args.disk.now) (M c.judge_and_run.new.disk)
+      _ _ _ _ _ _ (M c.args.disk.now) (M c.check_and_run.new.disk)
       c.a_file_opens_or_is_damaged.ensures.place c.a_file_opens_or_is_damaged.ensures.apart file
       place seen damages over)
-      (c.judge_and_run.ensures.runs limit asked);
+      (c.check_and_run.ensures.runs limit asked);
   prefix = λ file opening seen opens.
       let M = g.D.Disk.meaning in
       ⊎_elim
@@ -96,20 +96,20 @@ returns-clause-runs g c = λ limit asked. record {
       (recorded opening))
       (λ over. prefix_over (given_by limit (book_of g.R.Rule.handles g.R.Rule.answers
       c.args.book.now.rules.items)) _
-      _ _ _ _ _ _ (M c.args.disk.now) (M c.judge_and_run.new.disk)
+      _ _ _ _ _ _ (M c.args.disk.now) (M c.check_and_run.new.disk)
       c.a_file_opens_or_is_damaged.ensures.one c.a_file_opens_or_is_damaged.ensures.apart file
       opening seen opens over)
-      (c.judge_and_run.ensures.runs limit asked);
+      (c.check_and_run.ensures.runs limit asked);
   whole = λ file opening seen opens is_whole.
       let M = g.D.Disk.meaning in
       ⊎_elim
       (λ untouched. absurd (not_whole_untouched M _ _ _ _ _ _ _ untouched is_whole))
       (λ over. whole_over (given_by limit (book_of g.R.Rule.handles g.R.Rule.answers
       c.args.book.now.rules.items)) _
-      _ _ _ _ _ _ (M c.args.disk.now) (M c.judge_and_run.new.disk)
+      _ _ _ _ _ _ (M c.args.disk.now) (M c.check_and_run.new.disk)
       c.a_file_opens_or_is_damaged.ensures.one c.a_file_opens_or_is_damaged.ensures.apart file
       opening seen opens is_whole over)
-      (c.judge_and_run.ensures.runs limit asked);
+      (c.check_and_run.ensures.runs limit asked);
   crash = λ file opening honest seen opens.
       let M = g.D.Disk.meaning in
       ⊎_elim
@@ -118,10 +118,10 @@ returns-clause-runs g c = λ limit asked. record {
       opening)
       (λ over. crash_over (given_by limit (book_of g.R.Rule.handles g.R.Rule.answers
       c.args.book.now.rules.items)) _
-      _ _ _ _ _ _ (M c.args.disk.now) (M c.judge_and_run.new.disk)
+      _ _ _ _ _ _ (M c.args.disk.now) (M c.check_and_run.new.disk)
       c.a_file_opens_or_is_damaged.ensures.one c.a_file_opens_or_is_damaged.ensures.apart file
       opening seen opens honest over)
-      (c.judge_and_run.ensures.runs limit asked);
+      (c.check_and_run.ensures.runs limit asked);
   sound = λ file opening honest seen sound.
       let M = g.D.Disk.meaning in
       ⊎_elim
@@ -129,43 +129,43 @@ returns-clause-runs g c = λ limit asked. record {
       IsSoundFile)
       (λ over. sound_over (given_by limit (book_of g.R.Rule.handles g.R.Rule.answers
       c.args.book.now.rules.items)) _
-      _ _ _ _ _ _ (M c.args.disk.now) (M c.judge_and_run.new.disk)
+      _ _ _ _ _ _ (M c.args.disk.now) (M c.check_and_run.new.disk)
       c.a_file_opens_or_is_damaged.ensures.one c.a_file_opens_or_is_damaged.ensures.apart file
       opening seen (sound_opens file opening sound) honest sound.sound over)
-      (c.judge_and_run.ensures.runs limit asked);
+      (c.check_and_run.ensures.runs limit asked);
 }
 
 pub returns-clause-samples : goal.returns-clause-samples
 returns-clause-samples g c = λ limit size for. record {
-  samples = c.judge_and_run.ensures.samples limit size for;
+  samples = c.check_and_run.ensures.samples limit size for;
   refuses = λ file place seen damages.
       let M = g.D.Disk.meaning in
       ⊎_elim
       (λ untouched. refuses_untouched M _ _ _ _ _ _ _ untouched place)
       (λ over. sample_refuses size (given_by limit
       (book_of g.R.Rule.handles g.R.Rule.answers c.args.book.now.rules.items))
-      (sample_script size) _ _ _ _ _ _ _ (M c.args.disk.now) (M c.judge_and_run.new.disk) over
+      (sample_script size) _ _ _ _ _ _ _ (M c.args.disk.now) (M c.check_and_run.new.disk) over
       c.a_file_opens_or_is_damaged.ensures.place c.a_file_opens_or_is_damaged.ensures.apart file
       place seen damages)
-      (c.judge_and_run.ensures.samples limit size for);
+      (c.check_and_run.ensures.samples limit size for);
   summary = λ file opening seen opens is_whole.
       let M = g.D.Disk.meaning in
       ⊎_elim
       (λ untouched. absurd (not_whole_untouched M _ _ _ _ _ _ _ untouched is_whole))
       (λ over. sample_whole size (given_by limit
       (book_of g.R.Rule.handles g.R.Rule.answers c.args.book.now.rules.items))
-      (sample_script size) _ _ _ _ _ _ _ (M c.args.disk.now) (M c.judge_and_run.new.disk) over
+      (sample_script size) _ _ _ _ _ _ _ (M c.args.disk.now) (M c.check_and_run.new.disk) over
       c.a_file_opens_or_is_damaged.ensures.one file opening seen opens is_whole)
-      (c.judge_and_run.ensures.samples limit size for);
+      (c.check_and_run.ensures.samples limit size for);
   held = λ file opening honest seen opens is_whole.
       let M = g.D.Disk.meaning in
       ⊎_elim
       (λ untouched. absurd (not_whole_untouched M _ _ _ _ _ _ _ untouched is_whole))
       (λ over. sample_held size (given_by limit
       (book_of g.R.Rule.handles g.R.Rule.answers c.args.book.now.rules.items))
-      (sample_script size) _ _ _ _ _ _ _ (M c.args.disk.now) (M c.judge_and_run.new.disk) over
+      (sample_script size) _ _ _ _ _ _ _ (M c.args.disk.now) (M c.check_and_run.new.disk) over
       c.a_file_opens_or_is_damaged.ensures.one file opening seen opens honest is_whole)
-      (c.judge_and_run.ensures.samples limit size for);
+      (c.check_and_run.ensures.samples limit size for);
   crash = λ file opening honest seen opens.
       let M = g.D.Disk.meaning in
       ⊎_elim
@@ -177,9 +177,9 @@ returns-clause-samples g c = λ limit size for. record {
       ))
       (λ over. sample_crash size (given_by limit
       (book_of g.R.Rule.handles g.R.Rule.answers c.args.book.now.rules.items))
-      (sample_script size) _ _ _ _ _ _ _ (M c.args.disk.now) (M c.judge_and_run.new.disk) over
+      (sample_script size) _ _ _ _ _ _ _ (M c.args.disk.now) (M c.check_and_run.new.disk) over
       c.a_file_opens_or_is_damaged.ensures.one file opening seen opens honest)
-      (c.judge_and_run.ensures.samples limit size for);
+      (c.check_and_run.ensures.samples limit size for);
   sound = λ file opening honest seen sound.
       let M = g.D.Disk.meaning in
       ⊎_elim
@@ -187,10 +187,10 @@ returns-clause-samples g c = λ limit size for. record {
       IsSoundFile)
       (λ over. sample_sound size (given_by limit
       (book_of g.R.Rule.handles g.R.Rule.answers c.args.book.now.rules.items))
-      (sample_script size) _ _ _ _ _ _ _ (M c.args.disk.now) (M c.judge_and_run.new.disk) over
+      (sample_script size) _ _ _ _ _ _ _ (M c.args.disk.now) (M c.check_and_run.new.disk) over
       c.a_file_opens_or_is_damaged.ensures.one file opening seen (sound_opens file opening sound)
       honest sound.sound)
-      (c.judge_and_run.ensures.samples limit size for);
+      (c.check_and_run.ensures.samples limit size for);
 }
 
 pub returns-clause-laws : goal.returns-clause-laws

@@ -7,11 +7,11 @@ use Rattle.script_cli_sample.specs.Summary.{summary}
 use Rattle.script_cli.specs.Kept.{kept_by}
 use Rattle.script_cli.specs.Runs.{is_whole}
 use Rattle.script_cli.specs.Sampling.{ToldBy}
-use Rattle.script_cli.proofs.SampleDriven.{told_by_halt, sample_stops, sample_tells}
+use Rattle.script_cli.proofs.SampleDriven.{told_by_reason, sample_stops, sample_tells}
 use Rattle.script_cli.proofs.sample.sample.Goals as goal
 
-pub returns-then-not-is_whole-clause-drove : goal.returns-then-not-is_whole-clause-drove
-returns-then-not-is_whole-clause-drove g c = λ limit same start represents.
+pub returns-then-not-is_whole-clause-ran_script : goal.returns-then-not-is_whole-clause-ran_script
+returns-then-not-is_whole-clause-ran_script g c = λ limit same start represents.
     let a = c.args.archive.now in
     let d = c.drive-driven in
     let u = g.K.Sink.written c.args.sink.now in
@@ -19,10 +19,10 @@ returns-then-not-is_whole-clause-drove g c = λ limit same start represents.
     c.stop_of.result u u d.result.status (left_of c.new-source.result)
     (Some (left_of d.new.source)) (kept_by c.new-kept.result) (kept_by d.new.sink)
     (below a) (below d.new.archive) (place_of a) c.new-source.ensures.left c.new-kept.ensures.kept
-    (d.ensures.drove limit same start represents) c.stop_of.ensures refl
+    (d.ensures.ran_script limit same start represents) c.stop_of.ensures refl
 
-pub returns-in-Ok-clause-drove : goal.returns-in-Ok-clause-drove
-returns-in-Ok-clause-drove g c = λ limit same start represents.
+pub returns-in-Ok-clause-ran_script : goal.returns-in-Ok-clause-ran_script
+returns-in-Ok-clause-ran_script g c = λ limit same start represents.
     let a = c.args.archive.now in
     let d = c.drive-driven in
     let u = g.K.Sink.written c.args.sink.now in
@@ -32,12 +32,12 @@ returns-in-Ok-clause-drove g c = λ limit same start represents.
     u w d.result.status (left_of c.new-source.result) (Some (left_of d.new.source))
     (kept_by c.new-kept.result) (kept_by d.new.sink)
     (below a) (below d.new.archive) (place_of a) c.new-source.ensures.left c.new-kept.ensures.kept
-    (d.ensures.drove limit same start represents)
+    (d.ensures.ran_script limit same start represents)
     d.result.puts c.bytes.result.now whole (d.ensures.counted limit same start represents)
     c.bytes.ensures (inl (refl, c.in-Ok.ensures.told))
 
-pub returns-clause-drove : goal.returns-clause-drove
-returns-clause-drove g c = λ limit same start represents.
+pub returns-clause-ran_script : goal.returns-clause-ran_script
+returns-clause-ran_script g c = λ limit same start represents.
     let a = c.args.archive.now in
     let d = c.drive-driven in
     let u = g.K.Sink.written c.args.sink.now in
@@ -48,8 +48,8 @@ returns-clause-drove g c = λ limit same start represents.
     c.status_of.result u w d.result.status (left_of c.new-source.result)
     (Some (left_of d.new.source)) (kept_by c.new-kept.result) (kept_by d.new.sink)
     (below a) (below d.new.archive) (place_of a) c.new-source.ensures.left c.new-kept.ensures.kept
-    (d.ensures.drove limit same start represents)
+    (d.ensures.ran_script limit same start represents)
     d.result.puts c.bytes.result.now whole (d.ensures.counted limit same start represents)
     c.bytes.ensures
     (subst (λ s. ToldBy d.result.status s text u w) (sym c.status_of.ensures)
-    (told_by_halt d.result.status c.in-Err.halt text u w c.in-Err.ensures.told))
+    (told_by_reason d.result.status c.in-Err.reason text u w c.in-Err.ensures.told))

@@ -45,7 +45,7 @@ returns-in-Ok-clause-samples g c = λ left.
     let start = start_of (M c.args.disk) c.args.limit
     (book_of g.R.Rule.handles g.R.Rule.answers c.args.book.now.rules.items)
     c.in-Ok.archive has in
-    let it = c.sample-status.ensures.drove (given_by c.args.limit
+    let it = c.sample-status.ensures.ran_script (given_by c.args.limit
     (book_of g.R.Rule.handles g.R.Rule.answers c.args.book.now.rules.items))
     refl start.0 start.1 in
     let new = c.sample-status.new.archive in
@@ -53,11 +53,11 @@ returns-in-Ok-clause-samples g c = λ left.
     let ran = ran_opened c.a_file_opens_or_is_damaged.ensures.one (M c.args.disk) c.args.limit
     (book_of g.R.Rule.handles g.R.Rule.answers c.args.book.now.rules.items)
     c.in-Ok.archive has start.0 start.2 it.driven (Some script) it.left (Some []) (Some it.kept)
-    (below new) law it.drove in
+    (below new) law it.ran_script in
     let from = ran_opened_start c.a_file_opens_or_is_damaged.ensures.one (M c.args.disk)
     c.args.limit (book_of g.R.Rule.handles g.R.Rule.answers c.args.book.now.rules.items)
     c.in-Ok.archive has start.0 start.2 it.driven (Some script) it.left (Some []) (Some it.kept)
-    (below new) law it.drove in
+    (below new) law it.ran_script in
     subst (λ d. SamplesOver c.args.size (given_by c.args.limit
     (book_of g.R.Rule.handles g.R.Rule.answers c.args.book.now.rules.items))
     c.sample-status.result left left (g.K.Sink.written c.args.sink.now)
@@ -77,14 +77,14 @@ returns-in-Ok-clause-goes g c =
     let start = start_of (M c.args.disk) c.args.limit
     (book_of g.R.Rule.handles g.R.Rule.answers c.args.book.now.rules.items)
     c.in-Ok.archive has in
-    let it = c.sample-status.ensures.drove (given_by c.args.limit
+    let it = c.sample-status.ensures.ran_script (given_by c.args.limit
     (book_of g.R.Rule.handles g.R.Rule.answers c.args.book.now.rules.items))
     refl start.0 start.1 in
     let new = c.sample-status.new.archive in
     subst (λ d. GoesOn (M c.args.disk) (M d)) (sym c.into_disk.ensures)
     (goes_trans (M c.args.disk) (below c.in-Ok.archive) (below new) has.goes
     (put_goes it.driven (below c.in-Ok.archive) (below new) (place_of c.in-Ok.archive) _ _
-    it.drove.puts))
+    it.ran_script.puts))
 
 pub returns-in-Ok-clause-disk : goal.returns-in-Ok-clause-disk
 returns-in-Ok-clause-disk g c =

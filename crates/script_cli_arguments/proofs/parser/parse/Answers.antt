@@ -25,7 +25,8 @@ returns-clause-rows c =
     word_is in
     let parse = c.try_get_matches_from in
     IfOk-weaker parse.result _ _ (λ m h. (h (ap is_simple program_is)).0
-    ∙ ap (λ a. matches_of a (map string_bytes c.args.words.now)) program_is) parse.ensures.matches
+    ∙ ap (λ a. matches_of a (map string_bytes c.args.arguments.now)) program_is)
+    parse.ensures.matches
 
 pub returns-clause-fails : goal.returns-clause-fails
 returns-clause-fails c =
@@ -43,5 +44,6 @@ returns-clause-fails c =
     size_is)
     word_is in
     let parse = c.try_get_matches_from in
-    subst (λ a. FailsBy (fault_of a (map string_bytes c.args.words.now)) parse.result) program_is
+    subst (λ a. FailsBy (fault_of a (map string_bytes c.args.arguments.now)) parse.result)
+    program_is
     (parse.ensures.kinds (ap is_simple_and_free program_is))

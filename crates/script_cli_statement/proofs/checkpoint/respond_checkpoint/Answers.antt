@@ -1,11 +1,11 @@
 use Rattle.std.proofs.Common.{length, ap, sym, subst, refl, ◌∙◌, ⊎_elim, [], ◌∷◌, Some, None, Err}
-use Rattle.store_image_spec.specs.Spelling.{image_bytes}
+use Rattle.store_image_spec.specs.Encoding.{image_bytes}
 use Rattle.archive_core.specs.Fields.{standing_of, below, place_of}
 use Rattle.archive_core.specs.Checkpointing.{checkpoint_fault, image_of_archive, checkpoint_of}
 use Rattle.script_cli_statement.specs.Due.{image_due}
 use Rattle.script_cli_statement.specs.Replies.{checkpoint_reply, put_image}
 use Rattle.archive_core_state.specs.ArchiveContents.{RepresentsPast}
-use Rattle.script_cli_statement.specs.Halts.{HaltCounted}
+use Rattle.script_cli_statement.specs.StopReasons.{StopCounted}
 use Rattle.script_cli_statement.specs.Responses.{Responds}
 use Rattle.script_cli_statement.proofs.OnePut.{put_one}
 use Rattle.script_cli_statement.proofs.Responding.{stored_responds, refused_responds}
@@ -13,7 +13,7 @@ use Rattle.script_cli_statement.proofs.Responding.{checkpoint_fault_here, stands
 use Rattle.script_cli_statement.proofs.Responding.{stands_still}
 use Rattle.script_cli_statement.proofs.Responding.{untouched_between, puts_itself, still_takes}
 use Rattle.script_cli_statement.proofs.Responding.{on_ok}
-use Rattle.script_cli_statement.proofs.Responding.{halt_counted}
+use Rattle.script_cli_statement.proofs.Responding.{reason_counted}
 use Rattle.script_cli_statement.proofs.checkpoint.respond_checkpoint.Goals as goal
 
 pub returns-in-Ok-clause-replies : goal.returns-in-Ok-clause-replies
@@ -76,7 +76,7 @@ returns-in-Err-Disk-clause-replies g c = λ limit now represents.
             (image_due now.past) (checkpoint_fault_here a limit now None represents fits);
         its_record = checkpoint_of (standing_of a);
         is_its = is;
-        spelled = is.valid;
+        encoded = is.valid;
         puts_it = c.checkpoint.ensures.puts;
       },
     )
@@ -105,18 +105,18 @@ returns-in-Err-Refused-clause-takes g c =
 
 pub returns-in-Ok-clause-counts : goal.returns-in-Ok-clause-counts
 returns-in-Ok-clause-counts g c =
-    subst (λ r. HaltCounted r (g.K.Sink.faults c.args.sink.now)
+    subst (λ r. StopCounted r (g.K.Sink.faults c.args.sink.now)
     (g.K.Sink.faults c.put_stored.new.sink) (below c.args.archive.now).faults
     (below c.checkpoint.new.self).faults) (sym c.or_write_fault.ensures)
-    (halt_counted c.put_stored.result _ _ _ _ c.put_stored.ensures.cause
+    (reason_counted c.put_stored.result _ _ _ _ c.put_stored.ensures.cause
     (c.checkpoint.ensures.unfailed (λ e. cc (e, c.in-Ok.is))))
 
 pub returns-in-Err-Refused-clause-counts : goal.returns-in-Err-Refused-clause-counts
 returns-in-Err-Refused-clause-counts g c =
-    subst (λ r. HaltCounted r (g.K.Sink.faults c.args.sink.now) (g.K.Sink.faults c.refuse.new.sink)
+    subst (λ r. StopCounted r (g.K.Sink.faults c.args.sink.now) (g.K.Sink.faults c.refuse.new.sink)
     (below c.args.archive.now).faults (below c.checkpoint.new.self).faults)
     (sym c.or_write_fault-in-Err-Refused.ensures)
-    (halt_counted c.refuse.result _ _ _ _ c.refuse.ensures.cause
+    (reason_counted c.refuse.result _ _ _ _ c.refuse.ensures.cause
     (c.checkpoint.ensures.unfailed (λ e. cc
     (e, c.in-Err-Refused.is, c.in-Err-Refused.field-0-is))))
 

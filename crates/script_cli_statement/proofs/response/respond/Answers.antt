@@ -2,7 +2,7 @@ use Rattle.script_parse.specs.Statements.{statement_of}
 use Rattle.prima_base.specs.declared.refusal.Refusal.TheVariants.{Syntax, TooMany}
 use Rattle.script_cli_statement.specs.Replies.{reply}
 use Rattle.script_cli_statement.proofs.Responding.{on_ok, blank_responds, read_responds}
-use Rattle.script_cli_statement.proofs.Responding.{unread_responds, memory_responds, said_halt}
+use Rattle.script_cli_statement.proofs.Responding.{unread_responds, memory_responds, said_reason}
 use Rattle.script_cli_statement.proofs.response.respond.Goals as goal
 
 pub returns-in-Ok-None-clause-replies : goal.returns-in-Ok-None-clause-replies
@@ -53,9 +53,10 @@ pub returns-in-Err-TooMany-clause-takes : goal.returns-in-Err-TooMany-clause-tak
 returns-in-Err-TooMany-clause-takes g c = on_ok _ _ c.requires.takes
 
 pub returns-in-Err-Syntax-clause-counts : goal.returns-in-Err-Syntax-clause-counts
-returns-in-Err-Syntax-clause-counts g c = said_halt c.refuse.result _ _ _ _ c.or_write_fault.ensures
+returns-in-Err-Syntax-clause-counts g c = said_reason c.refuse.result _ _ _ _
+    c.or_write_fault.ensures
     c.refuse.ensures.cause
 
 pub returns-in-Err-TooMany-clause-counts : goal.returns-in-Err-TooMany-clause-counts
-returns-in-Err-TooMany-clause-counts g c = said_halt c.refuse-in-Err-TooMany.result _ _ _ _
+returns-in-Err-TooMany-clause-counts g c = said_reason c.refuse-in-Err-TooMany.result _ _ _ _
     c.or_write_fault-in-Err-TooMany.ensures c.refuse-in-Err-TooMany.ensures.cause

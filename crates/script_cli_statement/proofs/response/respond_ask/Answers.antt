@@ -6,7 +6,7 @@ use Rattle.temporal_lang_spec.specs.Answers.{answer}
 use Rattle.archive_core_state.specs.Asking.{tells_periods}
 use Rattle.answer_text.specs.Texts.{listing_text}
 use Rattle.script_cli_statement.specs.Replies.{query_reply}
-use Rattle.script_cli_statement.specs.Halts.{SaidCounted}
+use Rattle.script_cli_statement.specs.StopReasons.{SaidCounted}
 use Rattle.script_cli_statement.specs.Responses.{Says}
 use Rattle.script_cli_statement.proofs.Responding.{answered_says, refused_says, said_counted}
 use Rattle.script_cli_statement.proofs.response.respond_ask.Goals as goal

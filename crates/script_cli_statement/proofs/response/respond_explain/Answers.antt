@@ -6,7 +6,7 @@ use Rattle.temporal_lang_spec.specs.Accepted.{fault_of_query}
 use Rattle.archive_core_state.specs.Asking.{pieces_told}
 use Rattle.answer_text.specs.Texts.{explain_text}
 use Rattle.script_cli_statement.specs.Replies.{explain_reply}
-use Rattle.script_cli_statement.specs.Halts.{SaidCounted}
+use Rattle.script_cli_statement.specs.StopReasons.{SaidCounted}
 use Rattle.script_cli_statement.specs.Responses.{Says}
 use Rattle.script_cli_statement.proofs.Responding.{accepted_says, refused_says, said_counted}
 use Rattle.script_cli_statement.proofs.response.respond_explain.Goals as goal

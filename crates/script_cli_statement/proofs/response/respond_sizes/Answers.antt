@@ -4,7 +4,7 @@ use Rattle.version_groups.specs.Groups.{Kept}
 use Rattle.version_groups.specs.Representation.{Represents}
 use Rattle.answer_text.specs.Texts.{sizes_text}
 use Rattle.script_cli_statement.specs.Replies.{sizes_reply}
-use Rattle.script_cli_statement.specs.Halts.{SaidCounted}
+use Rattle.script_cli_statement.specs.StopReasons.{SaidCounted}
 use Rattle.script_cli_statement.specs.Responses.{Says}
 use Rattle.script_cli_statement.proofs.Responding.{answered_says, said_counted}
 use Rattle.script_cli_statement.proofs.response.respond_sizes.Goals as goal

@@ -10,7 +10,7 @@ use Rattle.script_cli_statement.specs.Replies.{schema_reply, sizes_reply, statem
 use Rattle.script_cli_statement.specs.Replies.{refused_or}
 use Rattle.script_cli_statement.specs.Replies.{answered}
 use Rattle.script_cli_statement.specs.Responses.{Says, Responds}
-use Rattle.script_cli_statement.proofs.Responding.{says_responds, halt_said, on_ok}
+use Rattle.script_cli_statement.proofs.Responding.{says_responds, reason_said, on_ok}
 use Rattle.script_cli_statement.proofs.response.respond_statement.Goals as goal
 
 no_puts : (fault : Fault) (now : Recorded) (text : List ℕ)
@@ -85,22 +85,23 @@ returns-in-ShowSizes-clause-replies g c = λ limit same now represents.
     (c.respond_sizes.ensures.says now represents.past))
 
 pub returns-in-Ask-clause-counts : goal.returns-in-Ask-clause-counts
-returns-in-Ask-clause-counts g c = halt_said c.respond_ask.result _ _ _ c.respond_ask.ensures.counts
+returns-in-Ask-clause-counts g c = reason_said c.respond_ask.result _ _ _
+    c.respond_ask.ensures.counts
 
 pub returns-in-Explain-clause-counts : goal.returns-in-Explain-clause-counts
-returns-in-Explain-clause-counts g c = halt_said c.respond_explain.result _ _ _
+returns-in-Explain-clause-counts g c = reason_said c.respond_explain.result _ _ _
     c.respond_explain.ensures.counts
 
 pub returns-in-ShowVersions-clause-counts : goal.returns-in-ShowVersions-clause-counts
-returns-in-ShowVersions-clause-counts g c = halt_said c.respond_versions.result _ _ _
+returns-in-ShowVersions-clause-counts g c = reason_said c.respond_versions.result _ _ _
     c.respond_versions.ensures.counts
 
 pub returns-in-ShowSchema-clause-counts : goal.returns-in-ShowSchema-clause-counts
-returns-in-ShowSchema-clause-counts g c = halt_said c.respond_schema.result _ _ _
+returns-in-ShowSchema-clause-counts g c = reason_said c.respond_schema.result _ _ _
     c.respond_schema.ensures.counts
 
 pub returns-in-ShowSizes-clause-counts : goal.returns-in-ShowSizes-clause-counts
-returns-in-ShowSizes-clause-counts g c = halt_said c.respond_sizes.result _ _ _
+returns-in-ShowSizes-clause-counts g c = reason_said c.respond_sizes.result _ _ _
     c.respond_sizes.ensures.counts
 
 pub returns-in-Ask-clause-takes : goal.returns-in-Ask-clause-takes

@@ -5,12 +5,12 @@ use Rattle.archive_core.specs.Fields.{below, place_of}
 use Rattle.archive_core.specs.Committing.{commit_fault}
 use Rattle.script_cli_statement.specs.Due.{command_due}
 use Rattle.script_cli_statement.specs.Replies.{command_reply, put_command}
-use Rattle.script_cli_statement.specs.Halts.{HaltCounted}
+use Rattle.script_cli_statement.specs.StopReasons.{StopCounted}
 use Rattle.script_cli_statement.specs.Responses.{Responds}
 use Rattle.script_cli_statement.proofs.OnePut.{put_one}
 use Rattle.script_cli_statement.proofs.Responding.{done_responds, refused_responds, fault_here}
 use Rattle.script_cli_statement.proofs.Responding.{stands_after, stands_still, untouched_between}
-use Rattle.script_cli_statement.proofs.Responding.{puts_itself, still_takes, on_ok, halt_counted}
+use Rattle.script_cli_statement.proofs.Responding.{puts_itself, still_takes, on_ok, reason_counted}
 use Rattle.script_cli_statement.proofs.response.respond_write.Goals as goal
 
 pub returns-in-Ok-clause-replies : goal.returns-in-Ok-clause-replies
@@ -30,7 +30,7 @@ returns-in-Ok-clause-replies g c = λ limit now represents.
       logged command ∷ [],
       (refl, tt),
       put_one (below a) (below b) (place_of a) (place_of b) (logged command)
-          (g.met.D.Disk.valid a.journal.disk) c.in-Ok.ensures.spelled c.in-Ok.ensures.holds
+          (g.met.D.Disk.valid a.journal.disk) c.in-Ok.ensures.encoded c.in-Ok.ensures.holds
           c.commit.ensures.puts c.in-Ok.ensures.acknowledged,
     )
     c.put_done.ensures.ok c.put_done.ensures.all c.put_done.ensures.part)
@@ -71,7 +71,7 @@ returns-in-Err-Disk-clause-replies g c = λ limit now represents.
             (command_due command) (fault_here a limit now command None represents h.0);
         its_record = logged command;
         is_its = refl;
-        spelled = c.commit.ensures.spelled_so_far
+        encoded = c.commit.ensures.encoded_so_far
             (c.in-Err-Disk.is ∙ ap Err c.in-Err-Disk.field-0-is);
         puts_it = c.commit.ensures.puts;
       },
@@ -101,18 +101,18 @@ returns-in-Err-Refused-clause-takes g c =
 
 pub returns-in-Ok-clause-counts : goal.returns-in-Ok-clause-counts
 returns-in-Ok-clause-counts g c =
-    subst (λ r. HaltCounted r (g.K.Sink.faults c.args.sink.now)
+    subst (λ r. StopCounted r (g.K.Sink.faults c.args.sink.now)
     (g.K.Sink.faults c.put_done.new.sink) (below c.args.archive.now).faults
     (below c.commit.new.self).faults) (sym c.or_write_fault.ensures)
-    (halt_counted c.put_done.result _ _ _ _ c.put_done.ensures.cause
+    (reason_counted c.put_done.result _ _ _ _ c.put_done.ensures.cause
     (c.commit.ensures.unfailed (λ e. cc (e, c.in-Ok.is))))
 
 pub returns-in-Err-Refused-clause-counts : goal.returns-in-Err-Refused-clause-counts
 returns-in-Err-Refused-clause-counts g c =
-    subst (λ r. HaltCounted r (g.K.Sink.faults c.args.sink.now) (g.K.Sink.faults c.refuse.new.sink)
+    subst (λ r. StopCounted r (g.K.Sink.faults c.args.sink.now) (g.K.Sink.faults c.refuse.new.sink)
     (below c.args.archive.now).faults (below c.commit.new.self).faults)
     (sym c.or_write_fault-in-Err-Refused.ensures)
-    (halt_counted c.refuse.result _ _ _ _ c.refuse.ensures.cause
+    (reason_counted c.refuse.result _ _ _ _ c.refuse.ensures.cause
     (c.commit.ensures.unfailed (λ e. cc (e, c.in-Err-Refused.is, c.in-Err-Refused.field-0-is))))
 
 pub returns-in-Err-Broken-clause-counts : goal.returns-in-Err-Broken-clause-counts

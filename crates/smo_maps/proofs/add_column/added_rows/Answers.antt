@@ -11,7 +11,8 @@ pub loop-row-preserved : goal.loop-row-preserved
 loop-row-preserved c = shown_one (λ (row : Row).
     picked_row c.args.sources.now row (value (own_cells c.args.columns.now row)
     (tree c.args.expr.now) ∷ [])) c.args.rows.now c.loop-row.row-index c.row-item.result
-    c.loop-row.added.items c.push.new.self.items c.in_ok-added_row.field-0 c.loop-row-test.true
+    c.loop-row.added_value.items c.push.new.self.items c.in_ok-added_row.field-0
+    c.loop-row-test.true
     c.row-item.is c.loop-row.invariant
     (c.in_ok-added_row.ensures ∙ ap (λ (cs : List Column).
     picked_row c.args.sources.now c.row-item.result

@@ -4,7 +4,7 @@ use Rattle.prima_base.specs.declared.value.ColType.TheVariants.{Int as INT}
 use Rattle.cond_expr.specs.Seen.{tree}
 use Rattle.cond_expr.specs.Values.{value}
 use Rattle.smo_ops_spec.specs.OneRow.{Row, own_cells}
-use Rattle.smo_ops_spec.specs.Making.{with_column, added}
+use Rattle.smo_ops_spec.specs.Making.{with_column, added_value}
 use Rattle.smo_maps.specs.Picking.{source_of}
 use Rattle.smo_maps.proofs.Places.{picked_added, shown_image}
 use Rattle.smo_maps.proofs.add_column.with_value.Goals as goal
@@ -13,7 +13,7 @@ pub returns : goal.returns
 returns c = λ kind. IfOk-weaker c.added_rows.result _ _
     (λ v h. h ∙ shown_image (source_of c.args.columns.now ((c.args.column.now, INT) ∷ []))
     (λ (row : Row). value (own_cells c.args.columns.now row) (tree c.args.expr.now) ∷ [])
-    (added c.args.columns.now c.args.column.now (tree c.args.expr.now))
+    (added_value c.args.columns.now c.args.column.now (tree c.args.expr.now))
     (with_column c.args.column.now kind c.args.columns.now) c.deref-2.result.now
     c.deref.result.now c.args.rows.now
     (c.deref-2.ensures.value ∙ c.in_ok-sources.ensures

@@ -7,7 +7,7 @@ use Rattle.cond_expr.specs.Seen.{tree, test}
 use Rattle.smo_ops_spec.specs.OneRow.{Row, meets}
 use Rattle.smo_ops_spec.specs.Effects.{columns_of}
 use Rattle.smo_ops_spec.specs.Making.{named, without, renamed, with_column, type_of_value, image}
-use Rattle.smo_ops_spec.specs.Making.{added, moved, join_rows}
+use Rattle.smo_ops_spec.specs.Making.{added_value, moved, join_rows}
 use Rattle.smo_maps.proofs.Arms.{arm, if_both}
 use Rattle.smo_maps.proofs.map.carry.Goals as goal
 
@@ -86,7 +86,7 @@ returns-in_ok-with_value-in-AddColumn c =
     c.requires.accepted (
       c.one-in-AddColumn.ensures.first ∙ c.in_ok-with_value-in-AddColumn.ensures kind
           ∙ ap (λ (cs : List Column). image (with_column c.in-AddColumn.column kind cs)
-          (added cs c.in-AddColumn.column (tree c.in-AddColumn.expr)) c.args.first.now)
+          (added_value cs c.in-AddColumn.column (tree c.in-AddColumn.expr)) c.args.first.now)
           c.columns_of-columns-in-AddColumn.ensures.columns,
       c.one-in-AddColumn.ensures.second,
     )

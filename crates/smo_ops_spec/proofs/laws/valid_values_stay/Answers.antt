@@ -1,12 +1,12 @@
 use Rattle.smo_ops_spec.specs.Past.{beginning}
 use Rattle.smo_ops_spec.proofs.PastSteps.{beginning_is_past}
 use Rattle.smo_ops_spec.proofs.HeldValues.{value_valid_in, each_valid}
-use Rattle.smo_ops_spec.proofs.ValueLaws.{carried_values, changes_values, past_stays}
+use Rattle.smo_ops_spec.proofs.ValueLaws.{migrated_values, changes_values, past_stays}
 use Rattle.smo_ops_spec.proofs.ValueLaws.{beginning_holds, history_holds}
 use Rattle.smo_ops_spec.proofs.laws.valid_values_stay.Goals as goal
 
-pub returns-clause-carried : goal.returns-clause-carried
-returns-clause-carried c = carried_values
+pub returns-clause-migrate : goal.returns-clause-migrate
+returns-clause-migrate c = migrated_values
 
 pub returns-clause-changed : goal.returns-clause-changed
 returns-clause-changed c = changes_values

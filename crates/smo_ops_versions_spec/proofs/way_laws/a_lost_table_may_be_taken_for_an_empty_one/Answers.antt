@@ -11,5 +11,5 @@ returns-clause-emptied c = emptied_at
 pub returns-clause-database : goal.returns-clause-database
 returns-clause-database c = whole_database
 
-pub returns-clause-carried : goal.returns-clause-carried
-returns-clause-carried c = λ tables op database e n l. whole_commutes tables op e database n l
+pub returns-clause-migrate : goal.returns-clause-migrate
+returns-clause-migrate c = λ tables op database e n l. whole_commutes tables op e database n l

@@ -7,11 +7,12 @@ use Rattle.lexer_spec.specs.Lexemes.{lexeme}
 use Rattle.lexer_combinators.specs.Reads.{ahead, Fails}
 use Rattle.lexer_combinators.proofs.Places.{length_map, got_fits, got_read, got_found, got_only}
 use Rattle.lexer_combinators.proofs.Places.{got_exact, err_fits, err_found, err_only, err_exact}
-use Rattle.lexer_combinators.proofs.Crossing.{got_crossing, err_crossing, err_fault, counts_read}
-use Rattle.lexer_combinators.proofs.Crossing.{counts_sized}
+use Rattle.lexer_combinators.proofs.OverflowSteps.{got_overflow, err_overflow, err_fault}
+use Rattle.lexer_combinators.proofs.OverflowSteps.{counts_read}
+use Rattle.lexer_combinators.proofs.OverflowSteps.{counts_sized}
 use Rattle.smo_parse.specs.Productions.{IsOperator}
 use Rattle.smo_parse.specs.OperatorReader.{operator, follow_operator}
-use Rattle.smo_parse.specs.OperatorCounts.{operator_counts, operator_crossings}
+use Rattle.smo_parse.specs.OperatorCounts.{operator_counts, operator_overflows}
 use Rattle.smo_parse.proofs.OperatorCorrectness.{operator_correct}
 use Rattle.smo_parse.proofs.OperatorCounted.{operator_counted, operator_length}
 use Rattle.smo_parse.proofs.OperatorLongest.{operator_longest}
@@ -85,23 +86,23 @@ returns-in-Err-clause-longest c = λ o s prefix suffix w h ends.
 
 pub returns-in-Err-clause-fault : goal.returns-in-Err-clause-fault
 returns-in-Err-clause-fault c = err_fault operator IsOperator follow_operator operator_correct
-    operator_crossings (counts_read operator IsOperator operator_counts operator_length
+    operator_overflows (counts_read operator IsOperator operator_counts operator_length
     operator_counted) (counts_sized operator IsOperator operator_counts operator_length)
     c.args.list.now c.args.from c.operator.new.c Op c.requires c.in-Err.stop c.fault_at.result
     (let P : List Token → Type 0 = λ l. Fails (operator 0 (map lexeme l)) c.in-Err.stop
     c.operator.new.c in subst P c.tail.ensures c.in-Err.ensures) c.fault_at.ensures
 
 pub returns-in-Err-clause-over : goal.returns-in-Err-clause-over
-returns-in-Err-clause-over c = err_crossing operator IsOperator follow_operator operator_correct
-    operator_crossings (counts_read operator IsOperator operator_counts operator_length
+returns-in-Err-clause-over c = err_overflow operator IsOperator follow_operator operator_correct
+    operator_overflows (counts_read operator IsOperator operator_counts operator_length
     operator_counted) (counts_sized operator IsOperator operator_counts operator_length)
     c.args.list.now c.args.from c.operator.new.c Op c.in-Err.stop c.fault_at.result
     (let P : List Token → Type 0 = λ l. Fails (operator 0 (map lexeme l)) c.in-Err.stop
     c.operator.new.c in subst P c.tail.ensures c.in-Err.ensures) c.fault_at.ensures
 
 pub returns-in-Ok-clause-over : goal.returns-in-Ok-clause-over
-returns-in-Ok-clause-over c = got_crossing operator IsOperator follow_operator operator_correct
-    operator_crossings (counts_read operator IsOperator operator_counts operator_length
+returns-in-Ok-clause-over c = got_overflow operator IsOperator follow_operator operator_correct
+    operator_overflows (counts_read operator IsOperator operator_counts operator_length
     operator_counted) (counts_sized operator IsOperator operator_counts operator_length)
     c.args.list.now c.args.from (operator_of c.in-Ok.found) c.operator.new.c.nodes
     (ahead c.operator.new.c) (ap (λ l. operator 0 (map lexeme l)) (sym c.tail.ensures)

@@ -1,8 +1,8 @@
 use Rattle.std.proofs.Common.{◌≡◌, ◌<◌, ◌++◌, ℕ, List, drop, get_or}
 use Rattle.std.specs.List.{flat_map}
 use Rattle.history_store_spec.specs.Store.{Cell}
-use Rattle.command_codec_spec.specs.Spelling.{list_bytes}
-use Rattle.store_image_spec.specs.Spelling.{cell_bytes}
+use Rattle.command_codec_spec.specs.Encoding.{list_bytes}
+use Rattle.store_image_spec.specs.Encoding.{cell_bytes}
 use Rattle.store_image.specs.ImageIn.{ColumnHolds}
 use Rattle.store_image.proofs.image_of_store.put_columns.Given as goal
 

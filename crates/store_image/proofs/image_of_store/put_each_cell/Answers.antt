@@ -1,6 +1,6 @@
 use Rattle.std.proofs.Common.{sym, subst, ◌∙◌}
 use Rattle.history_store.specs.Scans.{seen_cell}
-use Rattle.store_image_spec.specs.Spelling.{cell_bytes}
+use Rattle.store_image_spec.specs.Encoding.{cell_bytes}
 use Rattle.store_image.specs.ImageIn.{AreValid}
 use Rattle.store_image.proofs.WrittenParts.{part_more, valid_more}
 use Rattle.store_image.proofs.image_of_store.put_each_cell.Goals as goal

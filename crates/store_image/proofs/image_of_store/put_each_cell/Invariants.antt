@@ -1,6 +1,6 @@
 use Rattle.std.proofs.Common.{◌≡◌, ◌++◌, length}
 use Rattle.std.specs.List.{flat_map}
-use Rattle.store_image_spec.specs.Spelling.{cell_bytes}
+use Rattle.store_image_spec.specs.Encoding.{cell_bytes}
 use Rattle.store_image.specs.ImageIn.{AreValid}
 use Rattle.store_image.proofs.image_of_store.put_each_cell.Given as goal
 

@@ -1,6 +1,6 @@
 use Rattle.std.proofs.Common.{◌≡◌, ◌++◌, length, map}
 use Rattle.std.specs.List.{flat_map}
-use Rattle.store_image_spec.specs.Spelling.{span_bytes}
+use Rattle.store_image_spec.specs.Encoding.{span_bytes}
 use Rattle.store_image.proofs.image_of_store.put_each_key.Given as goal
 
 abbrev pub invariant-keys : goal.invariant-keys

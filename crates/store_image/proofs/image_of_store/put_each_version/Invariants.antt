@@ -2,7 +2,7 @@ use Rattle.std.proofs.Common.{◌≡◌, ◌++◌, map, drop}
 use Rattle.std.specs.List.{flat_map, AllByRecursion}
 use Rattle.smo_ops_types.specs.Commands.{version_of}
 use Rattle.store_image_spec.specs.Images.{VersionsNamed}
-use Rattle.store_image_spec.specs.Spelling.{version_bytes}
+use Rattle.store_image_spec.specs.Encoding.{version_bytes}
 use Rattle.store_image.specs.ImageIn.{CanBeWritten}
 use Rattle.store_image.proofs.image_of_store.put_each_version.Given as goal
 

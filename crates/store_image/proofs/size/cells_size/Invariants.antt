@@ -1,6 +1,6 @@
 use Rattle.std.proofs.Common.{◌≡◌, ◌+◌, ◌≤◌, length, min}
 use Rattle.std.specs.List.{flat_map}
-use Rattle.store_image_spec.specs.Spelling.{cell_bytes}
+use Rattle.store_image_spec.specs.Encoding.{cell_bytes}
 use Rattle.store_image.proofs.size.cells_size.Given as goal
 
 abbrev pub invariant-cells : goal.invariant-cells

@@ -1,6 +1,6 @@
 use Rattle.std.proofs.Common.{◌<◌, length, ap, arith}
 use Rattle.std.specs.List.{flat_map}
-use Rattle.store_image_spec.specs.Spelling.{cell_bytes}
+use Rattle.store_image_spec.specs.Encoding.{cell_bytes}
 use Rattle.store_image.proofs.Lengths.{columns_length}
 use Rattle.store_image.proofs.size.columns_size.Goals as goal
 

@@ -1,7 +1,7 @@
 use Rattle.std.proofs.Common.{◌≡◌, ◌+◌, ◌≤◌, length, min, drop}
 use Rattle.std.specs.List.{flat_map}
-use Rattle.command_codec_spec.specs.Spelling.{list_bytes}
-use Rattle.store_image_spec.specs.Spelling.{cell_bytes}
+use Rattle.command_codec_spec.specs.Encoding.{list_bytes}
+use Rattle.store_image_spec.specs.Encoding.{cell_bytes}
 use Rattle.store_image.proofs.size.columns_size.Given as goal
 
 abbrev pub invariant-loop-column : goal.invariant-loop-column

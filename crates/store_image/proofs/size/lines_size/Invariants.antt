@@ -1,6 +1,6 @@
 use Rattle.std.proofs.Common.{◌≡◌, ◌+◌, ◌≤◌, length, map, min, drop}
 use Rattle.std.specs.List.{flat_map}
-use Rattle.store_image_spec.specs.Spelling.{stored_bytes}
+use Rattle.store_image_spec.specs.Encoding.{stored_bytes}
 use Rattle.store_image.specs.ImageIn.{kept_line}
 use Rattle.store_image.proofs.size.lines_size.Given as goal
 

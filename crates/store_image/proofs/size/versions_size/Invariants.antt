@@ -1,7 +1,7 @@
 use Rattle.std.proofs.Common.{◌≡◌, ◌+◌, ◌≤◌, length, map, min, drop}
 use Rattle.std.specs.List.{flat_map}
 use Rattle.smo_ops_types.specs.Commands.{version_of}
-use Rattle.store_image_spec.specs.Spelling.{version_bytes}
+use Rattle.store_image_spec.specs.Encoding.{version_bytes}
 use Rattle.store_image.proofs.size.versions_size.Given as goal
 
 abbrev pub invariant-loop-version : goal.invariant-loop-version

@@ -1,15 +1,15 @@
 use Rattle.std.proofs.Common.{sym, ap, ◌∙◌}
 use Rattle.relations_spec.specs.Spans.{span}
 use Rattle.command_codec_spec.specs.Reading.{Parsed}
-use Rattle.store_image_spec.specs.Judged.{is_period}
+use Rattle.store_image_spec.specs.ItemChecks.{is_period}
 use Rattle.store_image_spec.specs.Reader.{key, period}
-use Rattle.store_image_reader.proofs.ItemSteps.{judged_got, judged_wrong, judged_fails}
+use Rattle.store_image_reader.proofs.ItemSteps.{checked_got, checked_wrong, checked_fails}
 use Rattle.store_image_reader.proofs.key.key.Goals as goal
 
 pub returns-in-Ok : goal.returns-in-Ok
 unfolding key
 returns-in-Ok c =
-    judged_got period (is_period c.args.last) (span c.in-Ok.start c.in-Ok.end)
+    checked_got period (is_period c.args.last) (span c.in-Ok.start c.in-Ok.end)
     c.args.reader.now.rest.now c.period.new.reader.rest.now c.in-Ok.ensures
     (sym c.if-is_period.ensures)
     ∙ ap (λ p. Parsed p c.period.new.reader.rest.now)
@@ -19,11 +19,11 @@ returns-in-Ok c =
 pub returns-in-Ok-2 : goal.returns-in-Ok-2
 unfolding key
 returns-in-Ok-2 c =
-    judged_wrong period (is_period c.args.last) (span c.in-Ok.start c.in-Ok.end)
+    checked_wrong period (is_period c.args.last) (span c.in-Ok.start c.in-Ok.end)
     c.args.reader.now.rest.now c.period.new.reader.rest.now c.in-Ok.ensures
     (sym c.if-is_period.ensures)
 
 pub returns-in-Err : goal.returns-in-Err
 unfolding key
-returns-in-Err c = judged_fails period (is_period c.args.last) c.in-Err.stop
+returns-in-Err c = checked_fails period (is_period c.args.last) c.in-Err.stop
     c.args.reader.now.rest.now c.period.new.reader.rest.now c.in-Err.ensures

@@ -1,5 +1,5 @@
-use Rattle.store_image_spec.specs.Items.{item, judged}
-use Rattle.store_image_spec.specs.Judged.{is_line}
+use Rattle.store_image_spec.specs.Items.{item, checked}
+use Rattle.store_image_spec.specs.ItemChecks.{is_line}
 use Rattle.store_image_spec.specs.Reader.{line_head, keys}
 use Rattle.store_image_reader.specs.Seen.{line_seen, parts_seen}
 use Rattle.store_image_reader.proofs.LineParts.{parts_read}
@@ -8,7 +8,7 @@ use Rattle.store_image_reader.proofs.line.stored_line.Goals as goal
 pub order_of-requires : goal.order_of-requires
 order_of-requires c =
     let due = line_seen c.args.due.now in
-    let r = parts_read (item (judged (is_line due) line_head)) (keys c.args.last) c.args.last due
+    let r = parts_read (item (checked (is_line due) line_head)) (keys c.args.last) c.args.last due
     c.args.reader.now.rest.now (parts_seen due (c.in_ok-keys.keys, c.in_ok-keys.cells))
     c.parts.new.reader.rest.now c.in_ok-keys.ensures in (
       c.args.last,

@@ -3,10 +3,10 @@ use Rattle.smo_ops_types.specs.Commands.{version_of}
 use Rattle.smo_ops_spec.specs.Past.{no_tables, newest_from}
 use Rattle.command_codec_spec.specs.Reading.{Parsed, and_then, pure, pair}
 use Rattle.command_codec_spec.specs.Reader.{number_64, operator, operators}
-use Rattle.store_image_spec.specs.Judged.{is_version}
+use Rattle.store_image_spec.specs.ItemChecks.{is_version}
 use Rattle.store_image_spec.specs.Reader.{version, evolution, version_after}
 use Rattle.store_image_reader.specs.NextVersion.{newest_stamp, version_read}
-use Rattle.store_image_reader.proofs.ItemSteps.{judged_got, judged_wrong, judged_fails}
+use Rattle.store_image_reader.proofs.ItemSteps.{checked_got, checked_wrong, checked_fails}
 use Rattle.store_image_reader.proofs.ItemSteps.{counted_fails}
 use Rattle.store_image_reader.proofs.version.version.Goals as goal
 
@@ -20,7 +20,7 @@ returns-in-Some c =
     let accepted = rw c.in-Some.is at c.in_ok-version-in-Ok.ensures in
     let got : evolution tables ts ≡ Parsed (version_read tables c.in-Ok.read) rest =
     ap (λ o. and_then o (λ x. pure (version_after tables x))) c.in-Ok.ensures in
-    judged_got (evolution tables) (is_version c.args.last (length c.args.versions.now)
+    checked_got (evolution tables) (is_version c.args.last (length c.args.versions.now)
     (newest_stamp vs) tables) (version_read tables c.in-Ok.read) ts rest got accepted.0
     ∙ ap (λ v. Parsed v rest) (sym accepted.1)
 
@@ -34,7 +34,7 @@ returns-in-None c =
     let refused = rw c.in-None.is at c.in_ok-version-in-Ok.ensures in
     let got : evolution tables ts ≡ Parsed (version_read tables c.in-Ok.read) rest =
     ap (λ o. and_then o (λ x. pure (version_after tables x))) c.in-Ok.ensures in
-    judged_wrong (evolution tables) (is_version c.args.last (length c.args.versions.now)
+    checked_wrong (evolution tables) (is_version c.args.last (length c.args.versions.now)
     (newest_stamp vs) tables) (version_read tables c.in-Ok.read) ts rest got refused
 
 pub returns-in-Err : goal.returns-in-Err
@@ -44,7 +44,7 @@ returns-in-Err c =
     let tables = newest_from no_tables vs in
     let rest = c.evolution.new.reader.rest.now in
     let ts = c.args.reader.now.rest.now in
-    judged_fails (evolution tables) (is_version c.args.last (length c.args.versions.now)
+    checked_fails (evolution tables) (is_version c.args.last (length c.args.versions.now)
     (newest_stamp vs) tables) c.in-Err.stop ts rest
     (counted_fails (pair number_64 (pair operator operators)) (λ x. pure (version_after tables x))
     ts c.in-Err.stop rest c.in-Err.ensures)

@@ -5,8 +5,8 @@ use Rattle.prima_base.specs.Order.{value_cmp, shown}
 use Rattle.store_image_spec.proofs.ReadParts.{reads_columns}
 use Rattle.store_image_rows.specs.Cells.{cell_seen, cells_seen}
 use Rattle.store_image_rows.specs.Showing.{stretch_at, number_alone, alone, stretch_in}
-use Rattle.store_image_rows.proofs.JudgedShowings.{told, some_seen, numbers_same, values_same}
-use Rattle.store_image_rows.proofs.JudgedShowings.{rows_told_apart, rows_told_order}
+use Rattle.store_image_rows.proofs.CheckedShowings.{told, some_seen, numbers_same, values_same}
+use Rattle.store_image_rows.proofs.CheckedShowings.{rows_told_apart, rows_told_order}
 use Rattle.store_image_rows.proofs.order.order_of.Goals as goal
 
 pub returns-in-Some-3-clause-apart : goal.returns-in-Some-3-clause-apart
@@ -84,9 +84,9 @@ returns-clause-apart c =
     let read = ((reads_columns last keys kinds).sound c.requires.2 (cells_seen cells) c.requires.3
     c.requires.4).0 in
     let some = some_seen cells c.in-Some.ensures.item.3.0 in
-    IfOk-weaker c.judge-2.result _ _ (λ verdict j.
+    IfOk-weaker c.check-2.result _ _ (λ verdict j.
     rows_told_apart last keys kinds (cells_seen cells) some read c.in_ok-rows_of.field-0.items
-    (c.in_ok-rows_of.ensures ∙ c.in_ok-stretches.ensures) verdict j) c.judge-2.ensures
+    (c.in_ok-rows_of.ensures ∙ c.in_ok-stretches.ensures) verdict j) c.check-2.ensures
 
 pub returns-clause-order : goal.returns-clause-order
 returns-clause-order c =
@@ -97,6 +97,6 @@ returns-clause-order c =
     let read = ((reads_columns last keys kinds).sound c.requires.2 (cells_seen cells) c.requires.3
     c.requires.4).0 in
     let some = some_seen cells c.in-Some.ensures.item.3.0 in
-    IfOk-weaker c.judge-2.result _ _ (λ verdict j.
+    IfOk-weaker c.check-2.result _ _ (λ verdict j.
     rows_told_order last keys kinds (cells_seen cells) some read c.in_ok-rows_of.field-0.items
-    (c.in_ok-rows_of.ensures ∙ c.in_ok-stretches.ensures) verdict j) c.judge-2.ensures
+    (c.in_ok-rows_of.ensures ∙ c.in_ok-stretches.ensures) verdict j) c.check-2.ensures

@@ -10,7 +10,7 @@ use Rattle.prima_base.specs.Faults.{IsTested}
 use Rattle.temporal_lang_spec.specs.Checking.{item_tests, reference_test, branch_references}
 use Rattle.temporal_lang_spec.specs.Checking.{branch_names}
 use Rattle.cond_expr.specs.References.{borrowed}
-use Rattle.temporal_lang.proofs.CrossingLaws.{passed_on}
+use Rattle.temporal_lang.proofs.OverflowLaws.{passed_on}
 use Rattle.temporal_lang.proofs.name.check_branch_names.Goals as goal
 
 pub returns-in_err-check_items : goal.returns-in_err-check_items

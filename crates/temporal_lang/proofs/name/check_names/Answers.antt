@@ -4,7 +4,7 @@ use Rattle.smo_ops_spec.specs.First.{first_refusal}
 use Rattle.smo_ops_spec.proofs.Firsts.{tests_more, tests_stop}
 use Rattle.temporal_lang_types.specs.Branches.{branch_of, branches_of}
 use Rattle.temporal_lang_spec.specs.Checking.{branch_names, names_tests}
-use Rattle.temporal_lang.proofs.CrossingLaws.{passed_on}
+use Rattle.temporal_lang.proofs.OverflowLaws.{passed_on}
 use Rattle.temporal_lang.proofs.name.check_names.Goals as goal
 
 pub returns-in_err-check_branch_names : goal.returns-in_err-check_branch_names

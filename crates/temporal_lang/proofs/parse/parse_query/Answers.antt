@@ -1,6 +1,7 @@
 use Rattle.std.proofs.Common.{sym, ap, ◌∙◌, subst, map, length, List}
 use Rattle.lexer_combinators.specs.Found.{lexemes_from}
-use Rattle.lexer_combinators.proofs.Crossing.{got_crossing, err_crossing, err_fault, back_reads}
+use Rattle.lexer_combinators.proofs.OverflowSteps.{got_overflow, err_overflow, err_fault}
+use Rattle.lexer_combinators.proofs.OverflowSteps.{back_reads}
 use Rattle.temporal_lang_types.specs.declared.query.Query.{Query}
 use Rattle.temporal_lang_types.specs.Queries.{query_of}
 use Rattle.lexer_spec.specs.declared.token.Token.{Token}
@@ -11,7 +12,7 @@ use Rattle.lexer_combinators.proofs.Places.{got_exact, err_fits, err_found, err_
 use Rattle.temporal_lang_grammar_spec.specs.QueryGrammar.{IsAsk}
 use Rattle.temporal_lang_grammar_spec.specs.QueryReader.{ask, follow_ask}
 use Rattle.temporal_lang_grammar_spec.proofs.QueryCorrectness.{ask_correct}
-use Rattle.temporal_lang_grammar_spec.specs.QueryCrossings.{ask_crossings}
+use Rattle.temporal_lang_grammar_spec.specs.QueryOverflows.{ask_overflows}
 use Rattle.temporal_lang_grammar_spec.proofs.QueryAlong.{ask_whole, ask_sized}
 use Rattle.temporal_lang_grammar_spec.proofs.QueryLongest.{ask_longest}
 use Rattle.temporal_lang.proofs.parse.parse_query.Goals as goal
@@ -82,19 +83,19 @@ returns-in-Err-clause-fault c =
     let fails : Fails (ask 0 (lexemes_from c.args.list.now c.args.from)) c.in-Err.stop c.ask.new.c =
     (let P : List Token → Type 0 = λ l. Fails (ask 0 (map lexeme l)) c.in-Err.stop
     c.ask.new.c in subst P c.tail.ensures c.in-Err.ensures) in
-    err_fault ask IsAsk follow_ask ask_correct ask_crossings
-    (back_reads ask IsAsk ask_crossings ask_whole) ask_sized c.args.list.now c.args.from
+    err_fault ask IsAsk follow_ask ask_correct ask_overflows
+    (back_reads ask IsAsk ask_overflows ask_whole) ask_sized c.args.list.now c.args.from
     c.ask.new.c Query c.requires c.in-Err.stop c.fault_at.result fails c.fault_at.ensures
 
 pub returns-in-Err-clause-over : goal.returns-in-Err-clause-over
-returns-in-Err-clause-over c = err_crossing ask IsAsk follow_ask ask_correct ask_crossings
-    (back_reads ask IsAsk ask_crossings ask_whole) ask_sized c.args.list.now c.args.from c.ask.new.c
+returns-in-Err-clause-over c = err_overflow ask IsAsk follow_ask ask_correct ask_overflows
+    (back_reads ask IsAsk ask_overflows ask_whole) ask_sized c.args.list.now c.args.from c.ask.new.c
     Query c.in-Err.stop c.fault_at.result (let P : List Token
     → Type 0 = λ l. Fails (ask 0 (map lexeme l)) c.in-Err.stop c.ask.new.c in
     subst P c.tail.ensures c.in-Err.ensures) c.fault_at.ensures
 
 pub returns-in-Ok-clause-over : goal.returns-in-Ok-clause-over
-returns-in-Ok-clause-over c = got_crossing ask IsAsk follow_ask ask_correct ask_crossings
-    (back_reads ask IsAsk ask_crossings ask_whole) ask_sized c.args.list.now c.args.from
+returns-in-Ok-clause-over c = got_overflow ask IsAsk follow_ask ask_correct ask_overflows
+    (back_reads ask IsAsk ask_overflows ask_whole) ask_sized c.args.list.now c.args.from
     (query_of c.in-Ok.found) c.ask.new.c.nodes (ahead c.ask.new.c)
     (ap (λ l. ask 0 (map lexeme l)) (sym c.tail.ensures) ∙ c.in-Ok.ensures)

@@ -9,14 +9,15 @@ use Rattle.prima_base.specs.Groups.{group_shown, groups_shown}
 use Rattle.time_aggregate.specs.Turns.{rows_shown, row_at}
 use Rattle.time_aggregate.proofs.JoinedGroups.{map_join}
 use Rattle.time_aggregate.proofs.Grouping.{apart_more}
-use Rattle.time_aggregate.proofs.GroupSteps.{Told, none_told, told_more, told_all, part_in, in_part}
+use Rattle.time_aggregate.proofs.GroupSteps.{BothKnown, none_told, told_more, told_all, part_in}
+use Rattle.time_aggregate.proofs.GroupSteps.{in_part}
 use Rattle.time_aggregate.proofs.group.aggregate.Goals as goal
 
 pub groups-init : goal.groups-init
 groups-init c = (
   omega arith,
   λ i j a b w. absurd (omega arith),
-  subst (λ (w : List AggRow). Told c.args.group c.args.items.now [] (groups_shown w))
+  subst (λ (w : List AggRow). BothKnown c.args.group c.args.items.now [] (groups_shown w))
       (sym c.new-listed.ensures.items) (none_told c.args.group c.args.items.now),
 )
 
@@ -51,7 +52,7 @@ groups-preserved c =
       apart_more c.args.group rows c.groups.start c.group_end-end.result c.requires.ascending inv.1
           c.group_end-end.ensures.within.0 c.group_end-end.ensures.same
           c.group_end-end.ensures.other,
-      subst (λ (v : List (Entry Group)). Told c.args.group c.args.items.now
+      subst (λ (v : List (Entry Group)). BothKnown c.args.group c.args.items.now
           (take c.group_end-end.result rows) v) (sym e) told,
     )
 

@@ -2,7 +2,7 @@ use Rattle.std.proofs.Common.{ℕ, List, ap, sym, subst}
 use Rattle.std.proofs.lemmas.Result.{IfOk-weaker}
 use Rattle.std.specs.FinMap.{get}
 use Rattle.schema_catalog.specs.Tables.{Tables}
-use Rattle.smo_ops_spec.specs.After.{IsValid, carried}
+use Rattle.smo_ops_spec.specs.After.{IsValid, migrate}
 use Rattle.smo_ops_spec.specs.Effects.{rows_under}
 use Rattle.smo_ops_spec.specs.Touching.{makes}
 use Rattle.smo_ops_types.specs.Commands.{PlainVersion}
@@ -10,7 +10,7 @@ use Rattle.smo_ops_types.specs.Operators.{Operator, operator_of, operators_of}
 use Rattle.version_groups_tables.specs.Evolving.{AreNext}
 use Rattle.version_groups_tables.specs.MadeRows.{made_rows}
 use Rattle.version_groups_tables.specs.Places.{at_places}
-use Rattle.version_groups_tables.proofs.CarriedTables.{fit_after, others_after, next_evolved}
+use Rattle.version_groups_tables.proofs.MigratedTables.{fit_after, others_after, next_evolved}
 use Rattle.version_groups_tables.proofs.evolution.begin_version.Goals as goal
 
 abbrev a_version : ℕ → Operator → List Operator → Tables → PlainVersion
@@ -22,8 +22,8 @@ a_version stamp op inverse tables = record {
       tables;
 }
 
-pub carry_rows-requires-clause-stored : goal.carry_rows-requires-clause-stored
-carry_rows-requires-clause-stored c = (
+pub migrate_rows-requires-clause-stored : goal.migrate_rows-requires-clause-stored
+migrate_rows-requires-clause-stored c = (
   c.args.version.now.stamp,
   c.requires.valid,
   c.requires.stored.0,
@@ -69,7 +69,7 @@ returns c = λ database whole stored.
       version = ap (a_version v.stamp op (operators_of v.inverse.items)) c.requires.next;
       tables = subst (λ (next : Tables). AreNext c.args.tables.now c.args.places.now c.args.number
           v.stamp (makes c.args.before.now op)
-          (λ name. rows_under (get (carried c.args.before.now op database) name)) next
+          (λ name. rows_under (get (migrate c.args.before.now op database) name)) next
           t.begun.items t.places.items)
           c.requires.next
           (next_evolved c.args.before.now op database v.stamp group c.requires.schema.schema

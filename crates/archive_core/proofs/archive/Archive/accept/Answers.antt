@@ -2,7 +2,7 @@ use Rattle.std.proofs.Common.{◌≡◌, sym, subst}
 use Rattle.std.proofs.lemmas.Result.{err_from_is_err_and}
 use Rattle.smo_ops_types.specs.Commands.{PlainCommand}
 use Rattle.smo_ops_spec.specs.Past.{Past}
-use Rattle.version_groups.specs.Judged.{judged_command}
+use Rattle.version_groups.specs.CheckedCommands.{checked_command}
 use Rattle.version_groups.specs.Steps.{Prepares}
 use Rattle.archive_core_state.specs.ArchiveContents.{RepresentsPast}
 use Rattle.archive_core.proofs.archive.Archive.accept.Goals as goal
@@ -13,13 +13,13 @@ returns-in_err-put-clause-untouched g c =
     c.from_residual-in_err-put.ensures.1 in
     rw (f.1, f.2) c.in_err-put.ensures.untouched
 
-pub carry_out-requires : goal.carry_out-requires
-carry_out-requires g c =
+pub apply-requires : goal.apply-requires
+apply-requires g c =
     let some = c.requires.accepted in
     subst (λ s. (x : Past) × (command : PlainCommand) × RepresentsPast s x
     × Prepares s.groups x command c.in_ok-prepared.prepared) (sym c.in_ok-put.ensures.same) (
       some.0,
-      judged_command c.args.judged,
+      checked_command c.args.checked,
       c.prepare.ensures.represents some.0 some.1,
       c.in_ok-prepared.ensures.prepared some.0 some.1 some.2,
     )

@@ -5,20 +5,20 @@ use Rattle.smo_ops_types.specs.declared.change.Change.{Change}
 use Rattle.version_groups.specs.Steps.{a_command}
 use Rattle.archive_core_file_spec.specs.LogRecords.{logged, record_of}
 use Rattle.archive_core_state.specs.AcceptedCommands.{accepted_command, IsAcceptedAfter}
-use Rattle.archive_core_state.proofs.Judging.{borrowed}
+use Rattle.archive_core_state.proofs.Checking.{borrowed}
 use Rattle.archive_core.specs.Fields.{standing_of, place_of, limit_of}
 use Rattle.archive_core.specs.Committing.{Commits}
 use Rattle.archive_core.proofs.archive.Archive.commit.Goals as goal
 
 pub accept-requires-clause-accepted : goal.accept-requires-clause-accepted
 accept-requires-clause-accepted g c =
-    let some = c.judge_and_seal.ensures.represents in (
+    let some = c.check_and_seal.ensures.represents in (
       some.0,
       some.1,
       borrowed some.0 c.in-Changes.stamp c.in-Changes.changes c.in-Changes.places c.deref.result
           c.deref.ensures.value
           (subst (IsAcceptedAfter some.0) c.in-Changes.is
-          (c.in_ok-accepted.ensures.judged some.0 some.1)),
+          (c.in_ok-accepted.ensures.checked some.0 some.1)),
     )
 
 pub accept-requires-clause-sealed : goal.accept-requires-clause-sealed
@@ -30,11 +30,11 @@ accept-requires-clause-sealed g c = c.in_ok-accepted.ensures.sealed
 
 pub accept-requires-in-Evolve-clause-accepted : goal.accept-requires-in-Evolve-clause-accepted
 accept-requires-in-Evolve-clause-accepted g c =
-    let some = c.judge_and_seal.ensures.represents in (
+    let some = c.check_and_seal.ensures.represents in (
       some.0,
       some.1,
       subst (IsAcceptedAfter some.0) c.in-Evolve.is
-          (c.in_ok-accepted.ensures.judged some.0 some.1),
+          (c.in_ok-accepted.ensures.checked some.0 some.1),
     )
 
 pub accept-requires-in-Evolve-clause-sealed : goal.accept-requires-in-Evolve-clause-sealed
@@ -54,7 +54,7 @@ returns-in-Changes-clause-commits g c past represents =
     (borrowed past c.in-Changes.stamp c.in-Changes.changes c.in-Changes.places c.deref.result
     c.deref.ensures.value
     (subst (IsAcceptedAfter past) c.in-Changes.is
-    (c.in_ok-accepted.ensures.judged past represents))))
+    (c.in_ok-accepted.ensures.checked past represents))))
 
 pub returns-clause-commits : goal.returns-clause-commits
 returns-clause-commits g c past represents =
@@ -64,4 +64,4 @@ returns-clause-commits g c past represents =
     (ap accepted_command (sym c.in-Evolve.is) ∙ c.in_ok-accepted.ensures.same)
     (c.accept-in-Evolve.ensures.commits past represents
     (subst (IsAcceptedAfter past) c.in-Evolve.is
-    (c.in_ok-accepted.ensures.judged past represents)))
+    (c.in_ok-accepted.ensures.checked past represents)))

@@ -41,40 +41,40 @@ given : (others lost : List ℕ) (next n count : ℕ) (gained : List (List Value
 given others lost next n count gained a b c = ap (λ ids. ids_handed ids next count) a
     ∙ ap (λ m. ids_handed lost m count) b ∙ ap (ids_handed lost n) c ∙ ids_are_handed lost n gained
 
-pub carry_out-requires-clause-wide : goal.carry_out-requires-clause-wide
-carry_out-requires-clause-wide c =
+pub apply-requires-clause-wide : goal.apply-requires-clause-wide
+apply-requires-clause-wide c =
     let f = rw (← c.self.view_is, ← c.prepared.view_is) at c.requires.fits in
     subst (λ n. AllWidth n c.prepared.inside.gained.items)
     (sym c.self.invariant.kept.width ∙ length-cells_of c.self.inside.logs.items ∙ search rules)
     f.hands.wide
 
-pub carry_out-requires-clause-typed : goal.carry_out-requires-clause-typed
-carry_out-requires-clause-typed c =
+pub apply-requires-clause-typed : goal.apply-requires-clause-typed
+apply-requires-clause-typed c =
     let a = c.self.inside in
     let f = rw (← c.self.view_is, ← c.prepared.view_is) at c.requires.fits in
     subst (λ ks. AreRowsOf ks c.prepared.inside.gained.items) (sym c.self.invariant.kinds)
     (gained_typed a.columns.items a.keys.items (cells_of a.logs.items) a.live.ids _
     c.self.invariant.kept _ f)
 
-pub carry_out-requires-clause-known : goal.carry_out-requires-clause-known
-carry_out-requires-clause-known c =
+pub apply-requires-clause-known : goal.apply-requires-clause-known
+apply-requires-clause-known c =
     let f = rw (← c.self.view_is, ← c.prepared.view_is) at c.requires.fits in
     known c.deref-3.result.now c.prepared.inside.lost.items c.self.inside.keys.items _
     c.deref-3.ensures.value (search rules) f.hands.lost_open
 
-pub carry_out-requires-clause-later : goal.carry_out-requires-clause-later
-carry_out-requires-clause-later c = λ k h.
+pub apply-requires-clause-later : goal.apply-requires-clause-later
+apply-requires-clause-later c = λ k h.
     let f = rw (← c.self.view_is, ← c.prepared.view_is) at c.requires.fits in
     (key_before c.prepared.inside.stamp c.self.inside.keys.items f.before.keys k (search rules)).0
 
-pub carry_out-requires-clause-room : goal.carry_out-requires-clause-room
-carry_out-requires-clause-room c =
+pub apply-requires-clause-room : goal.apply-requires-clause-room
+apply-requires-clause-room c =
     let f = rw (← c.self.view_is, ← c.prepared.view_is) at c.requires.fits in
     spare_each (rows_room c.prepared.inside.gained.items) _ c.self.inside.logs.items
     (le_trans f.room (min-le_left _ _))
 
-pub carry_out-requires-clause-key_room : goal.carry_out-requires-clause-key_room
-carry_out-requires-clause-key_room c =
+pub apply-requires-clause-key_room : goal.apply-requires-clause-key_room
+apply-requires-clause-key_room c =
     let r = le_trans (rw (← c.self.view_is, ← c.prepared.view_is) at c.requires.room)
     (min-le_left _ _) in
     let s = spare_least (length c.prepared.inside.gained.items) _ c.self.inside.logs.items r in
@@ -119,27 +119,27 @@ invariant_of-self c =
     let ids = given c.deref-5.result.now c.prepared.inside.lost.items c.len-next.result
     (length a.keys.items) c.len-count.result c.prepared.inside.gained.items
     c.deref-5.ensures.value next count in
-    let e = rw c.deref-3.ensures.value at c.carry_out.ensures.cells in
+    let e = rw c.deref-3.ensures.value at c.apply.ensures.cells in
     let long : length c.gain_each.new.others.items ≡ length c.lose_each.new.others.items =
     grind (arith, common_steps) in
     let each = rw (c.deref-4.ensures.value, ids) at c.gain_each.ensures.each in
     record {
       kept = rw (
-        c.carry_out.ensures.keys,
-        c.carry_out.ensures.cells,
+        c.apply.ensures.keys,
+        c.apply.ensures.cells,
         c.deref-3.ensures.value,
         c.change_index.ensures,
       ) (prepared_kept a.columns.items a.keys.items (cells_of a.logs.items)
           a.live.ids _ c.self.invariant.kept _ f);
-      ids = λ k d b. c.carry_out.ensures.ids k d b ∙ search rules;
-      kinds = c.carry_out.ensures.kinds ∙ c.self.invariant.kinds;
-      counted = rw (c.carry_out.ensures.cells, c.deref-3.ensures.value)
+      ids = λ k d b. c.apply.ensures.ids k d b ∙ search rules;
+      kinds = c.apply.ensures.kinds ∙ c.self.invariant.kinds;
+      counted = rw (c.apply.ensures.cells, c.deref-3.ensures.value)
           (still_counted (handed c.prepared.inside.lost.items (length a.keys.items)
           c.prepared.inside.gained.items) c.prepared.inside.gained.items c.prepared.inside.stamp
           (cells_of a.logs.items) c.self.invariant.counted r);
-      others = rw (c.carry_out.ensures.cells, c.deref-3.ensures.value, c.change_index.ensures)
+      others = rw (c.apply.ensures.cells, c.deref-3.ensures.value, c.change_index.ensures)
           (all_indexed a.columns.items a.keys.items (cells_of a.logs.items) a.live.ids _
-          c.self.invariant.kept _ f c.carry_out.new.columns.items c.lose_each.new.others.items
+          c.self.invariant.kept _ f c.apply.new.columns.items c.lose_each.new.others.items
           c.gain_each.new.others.items e l long
           (λ k d h. (let b : k < vec_len c.lose_each.new.others = grind (arith, common_steps) in
           each k d b)));
@@ -177,15 +177,15 @@ gain_each-requires-clause-ready c =
     let f = rw (← c.self.view_is, ← c.prepared.view_is) at c.requires.fits in
     let l = (rw (c.deref.ensures.value, c.deref-2.ensures.value) at c.lose_each.ensures.indexed)
     a.live.ids c.self.invariant.others in
-    let e = rw c.deref-3.ensures.value at c.carry_out.ensures.cells in
+    let e = rw c.deref-3.ensures.value at c.apply.ensures.cells in
     let n = key_count a.keys.items c.prepared.inside.lost.items c.prepared.inside.gained.items
     c.prepared.inside.stamp in
-    let m : vec_len c.carry_out.new.keys ≡ length
+    let m : vec_len c.apply.new.keys ≡ length
     (keys_handed a.keys.items c.prepared.inside.lost.items c.prepared.inside.gained.items
     c.prepared.inside.stamp) = first_of (search rules, grind (arith, common_steps)) in
     rw c.deref-4.ensures.value (all_ready a.columns.items a.keys.items (cells_of a.logs.items)
-    a.live.ids _ c.self.invariant.kept _ f c.carry_out.new.columns.items
-    (vec_len c.carry_out.new.keys) e c.carry_out.ensures.ids (omega (arith, n, m))
+    a.live.ids _ c.self.invariant.kept _ f c.apply.new.columns.items
+    (vec_len c.apply.new.keys) e c.apply.ensures.ids (omega (arith, n, m))
     c.lose_each.new.others.items l)
 
 pub gain_each-requires-clause-new : goal.gain_each-requires-clause-new
@@ -199,13 +199,13 @@ gain_each-requires-clause-new c = λ q j d i h.
     c.deref-5.ensures.value next count in
     let n = key_count a.keys.items c.prepared.inside.lost.items c.prepared.inside.gained.items
     c.prepared.inside.stamp in
-    let m : vec_len c.carry_out.new.keys ≡ length
+    let m : vec_len c.apply.new.keys ≡ length
     (keys_handed a.keys.items c.prepared.inside.lost.items c.prepared.inside.gained.items
     c.prepared.inside.stamp) = first_of (search rules, grind (arith, common_steps)) in
     let b = subst (λ cs. j < length cs) c.deref-4.ensures.value h in
     rw c.deref-4.ensures.value (all_new a.columns.items a.keys.items (cells_of a.logs.items)
-    a.live.ids _ c.self.invariant.kept _ f c.carry_out.new.columns.items
-    (vec_len c.carry_out.new.keys) (m ∙ n) c.carry_out.ensures.ids q j d (subst (In q) ids i) b)
+    a.live.ids _ c.self.invariant.kept _ f c.apply.new.columns.items
+    (vec_len c.apply.new.keys) (m ∙ n) c.apply.ensures.ids q j d (subst (In q) ids i) b)
 
 pub gain_each-requires-clause-fresh : goal.gain_each-requires-clause-fresh
 gain_each-requires-clause-fresh c = λ j d h q i.
@@ -238,8 +238,8 @@ returns-clause-cells c =
     let a = c.self.inside in
     let f = rw (← c.self.view_is, ← c.prepared.view_is) at c.requires.fits in
     rw (
-      c.carry_out.ensures.keys,
-      c.carry_out.ensures.cells,
+      c.apply.ensures.keys,
+      c.apply.ensures.cells,
       c.deref-3.ensures.value,
       ← c.self.view_is,
       ← c.prepared.view_is,
@@ -253,8 +253,8 @@ returns-clause-before c m h =
     let f = rw (← c.self.view_is, ← c.prepared.view_is) at c.requires.fits in
     let b = rw (← c.prepared.view_is) at h in
     rw (
-      c.carry_out.ensures.keys,
-      c.carry_out.ensures.cells,
+      c.apply.ensures.keys,
+      c.apply.ensures.cells,
       c.deref-3.ensures.value,
       ← c.self.view_is,
     ) (prepared_before a.columns.items a.keys.items (cells_of a.logs.items)
@@ -266,8 +266,8 @@ returns-clause-from c m h l =
     let f = rw (← c.self.view_is, ← c.prepared.view_is) at c.requires.fits in
     let b = rw (← c.prepared.view_is) at h in
     rw (
-      c.carry_out.ensures.keys,
-      c.carry_out.ensures.cells,
+      c.apply.ensures.keys,
+      c.apply.ensures.cells,
       c.deref-3.ensures.value,
       ← c.self.view_is,
       ← c.prepared.view_is,
@@ -280,14 +280,14 @@ returns-clause-later c m h =
     let a = c.self.inside in
     let f = rw (← c.self.view_is, ← c.prepared.view_is) at c.requires.fits in
     let b = rw (← c.prepared.view_is) at h in
-    rw (c.carry_out.ensures.keys, c.carry_out.ensures.cells, c.deref-3.ensures.value)
+    rw (c.apply.ensures.keys, c.apply.ensures.cells, c.deref-3.ensures.value)
     (prepared_later a.columns.items a.keys.items (cells_of a.logs.items) a.live.ids _
     c.self.invariant.kept _ f _ m b)
 
 pub returns-clause-key_count : goal.returns-clause-key_count
 returns-clause-key_count c =
     let a = c.self.inside in
-    rw (c.carry_out.ensures.keys, c.deref-3.ensures.value, ← c.self.view_is, ← c.prepared.view_is)
+    rw (c.apply.ensures.keys, c.deref-3.ensures.value, ← c.self.view_is, ← c.prepared.view_is)
     (key_count a.keys.items c.prepared.inside.lost.items c.prepared.inside.gained.items
     c.prepared.inside.stamp)
 
@@ -297,8 +297,8 @@ returns-clause-written c g k h =
     let f = rw (← c.self.view_is, ← c.prepared.view_is) at c.requires.fits in
     let b = rw (← c.self.view_is) at h in
     rw (
-      c.carry_out.ensures.keys,
-      c.carry_out.ensures.cells,
+      c.apply.ensures.keys,
+      c.apply.ensures.cells,
       c.deref-3.ensures.value,
       ← c.self.view_is,
       ← c.prepared.view_is,
@@ -310,7 +310,7 @@ pub returns-clause-valid : goal.returns-clause-valid
 returns-clause-valid c =
     let a = c.self.inside in
     let f = rw (← c.self.view_is, ← c.prepared.view_is) at c.requires.fits in
-    rw (c.carry_out.ensures.keys, c.carry_out.ensures.cells, c.deref-3.ensures.value)
+    rw (c.apply.ensures.keys, c.apply.ensures.cells, c.deref-3.ensures.value)
     (is_store a.columns.items _ _ _ _ (prepared_kept a.columns.items a.keys.items
     (cells_of a.logs.items) a.live.ids _ c.self.invariant.kept _ f))
 

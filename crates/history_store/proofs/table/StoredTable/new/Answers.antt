@@ -12,7 +12,7 @@ use Rattle.history_store_writes.specs.ValueIndexes.{indexed_after}
 use Rattle.history_store_writes.proofs.Others.{none_after}
 use Rattle.history_store_row_order.proofs.Cells.{length-cells_of}
 use Rattle.history_store_change_spec.proofs.CellCounts.{none_counted}
-use Rattle.history_store_change_spec.proofs.CarriedOut.{length-new_keys}
+use Rattle.history_store_change_spec.proofs.Applied.{length-new_keys}
 use Rattle.history_store_change_spec.proofs.Beginning.{none_kept, none_before, none_now, all_gained}
 use Rattle.history_store_change_spec.proofs.Beginning.{no_lost}
 use Rattle.history_store_change_spec.proofs.Beginning.{first_keys, first_cells, none_weight}

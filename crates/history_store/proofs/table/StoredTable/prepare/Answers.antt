@@ -35,8 +35,8 @@ returns-clause-fits c =
     let lost = rw c.deref.ensures.value at c.in_ok-lost.ensures.lost in
     let gained = rw c.deref.ensures.value at c.in_ok-lost.ensures.gained in
     let after = rw (c.deref.ensures.value, n) at c.in_ok-lost.ensures.after in
-    let e : c.make_ready.new.self ≡ store_of a.columns.items a.keys.items (cells_of a.logs.items)
-    c.make_ready.new.self.spare (indexed_columns a.others.items) =
+    let e : c.prepare_parts.new.self ≡ store_of a.columns.items a.keys.items (cells_of a.logs.items)
+    c.prepare_parts.new.self.spare (indexed_columns a.others.items) =
     rw (← c.self.view_is) at c.in_ok-prepared.ensures.same in
     let room = rw gained at c.in_ok-prepared.ensures.room in
     rw (c.in_ok-prepared.ensures.made, e, lost, gained, after)
@@ -57,8 +57,8 @@ returns-clause-leads c =
     let lost = rw c.deref.ensures.value at c.in_ok-lost.ensures.lost in
     let gained = rw c.deref.ensures.value at c.in_ok-lost.ensures.gained in
     let after = rw (c.deref.ensures.value, n) at c.in_ok-lost.ensures.after in
-    let e : c.make_ready.new.self ≡ store_of a.columns.items a.keys.items (cells_of a.logs.items)
-    c.make_ready.new.self.spare (indexed_columns a.others.items) =
+    let e : c.prepare_parts.new.self ≡ store_of a.columns.items a.keys.items (cells_of a.logs.items)
+    c.prepare_parts.new.self.spare (indexed_columns a.others.items) =
     rw (← c.self.view_is) at c.in_ok-prepared.ensures.same in
     rw (c.in_ok-prepared.ensures.made, e, lost, gained, after)
     (made_leads a.columns.items a.keys.items (cells_of a.logs.items) a.live.ids _

@@ -67,8 +67,8 @@ returns-clause-fits c =
     c.in_ok-found.ensures.spliced in
     let p = c.in_ok-found.ensures.placed in
     let m = rw c.deref-2.ensures.value at c.in_ok-found.ensures.more in
-    let e : c.make_ready.new.self ≡ store_of a.columns.items a.keys.items (cells_of a.logs.items)
-    c.make_ready.new.self.spare (indexed_columns a.others.items) =
+    let e : c.prepare_parts.new.self ≡ store_of a.columns.items a.keys.items (cells_of a.logs.items)
+    c.prepare_parts.new.self.spare (indexed_columns a.others.items) =
     rw (← c.self.view_is) at c.in_ok-prepared.ensures.same in
     rw (c.in_ok-prepared.ensures.made, e) (change_fits a.columns.items a.keys.items
     (cells_of a.logs.items) a.live.ids _ c.self.invariant.kept c.args.stamp b c.requires.valid
@@ -91,8 +91,8 @@ returns-clause-leads c =
     c.in_ok-found.ensures.spliced in
     let p = c.in_ok-found.ensures.placed in
     let m = rw c.deref-2.ensures.value at c.in_ok-found.ensures.more in
-    let e : c.make_ready.new.self ≡ store_of a.columns.items a.keys.items (cells_of a.logs.items)
-    c.make_ready.new.self.spare (indexed_columns a.others.items) =
+    let e : c.prepare_parts.new.self ≡ store_of a.columns.items a.keys.items (cells_of a.logs.items)
+    c.prepare_parts.new.self.spare (indexed_columns a.others.items) =
     rw (← c.self.view_is) at c.in_ok-prepared.ensures.same in
     rw (← c.self.view_is, c.in_ok-prepared.ensures.made, e)
     (change_leads a.columns.items a.keys.items (cells_of a.logs.items) a.live.ids _

@@ -41,8 +41,8 @@ returns-clause-fits c =
     subst (IsRelation a.columns.items) (sym f)
     (only_relation a.columns.items c.args.rows.items _ r) in
     let s = rw (c.deref.ensures.value, n) at c.in_ok-gained.ensures.spliced in
-    let e : c.make_ready.new.self ≡ store_of a.columns.items a.keys.items (cells_of a.logs.items)
-    c.make_ready.new.self.spare (indexed_columns a.others.items) =
+    let e : c.prepare_parts.new.self ≡ store_of a.columns.items a.keys.items (cells_of a.logs.items)
+    c.prepare_parts.new.self.spare (indexed_columns a.others.items) =
     rw (← c.self.view_is) at c.in_ok-prepared.ensures.same in
     rw (c.in_ok-prepared.ensures.made, e, c.new-lost.ensures.items)
     (change_fits a.columns.items a.keys.items (cells_of a.logs.items) a.live.ids _
@@ -80,8 +80,8 @@ returns-clause-leads c =
     subst (IsRelation a.columns.items) (sym f)
     (only_relation a.columns.items c.args.rows.items _ r) in
     let s = rw (c.deref.ensures.value, n) at c.in_ok-gained.ensures.spliced in
-    let e : c.make_ready.new.self ≡ store_of a.columns.items a.keys.items (cells_of a.logs.items)
-    c.make_ready.new.self.spare (indexed_columns a.others.items) =
+    let e : c.prepare_parts.new.self ≡ store_of a.columns.items a.keys.items (cells_of a.logs.items)
+    c.prepare_parts.new.self.spare (indexed_columns a.others.items) =
     rw (← c.self.view_is) at c.in_ok-prepared.ensures.same in
     rw (← c.self.view_is, c.in_ok-prepared.ensures.made, e, c.new-lost.ensures.items)
     (change_leads a.columns.items a.keys.items (cells_of a.logs.items) a.live.ids _

@@ -1,6 +1,6 @@
 use Rattle.std.proofs.Common.{ap, sym, ◌∙◌, length-take-le}
-use Rattle.lexer_spec.specs.declared.scanned.Scanned.TheVariants.{Of}
-use Rattle.lexer_spec.proofs.Whole.{again}
+use Rattle.lexer_spec.specs.declared.scan_of.Scanned.TheVariants.{Of}
+use Rattle.lexer_spec.proofs.WholeTokens.{again}
 use Rattle.lexer_spec.proofs.token.Token.first.Goals as goal
 
 pub invariant_of-result : goal.invariant_of-result

@@ -7,4 +7,4 @@ use Rattle.rewrite_rules_book.proofs.book.RuleBook.new.Goals as goal
 pub returns-clause-each : goal.returns-clause-each
 returns-clause-each g c =
     has_each _ c.args.rules.items (subst (λ rs. first_missing (map g.R.Rule.handles rs) ≡ None)
-    c.deref.ensures.value c.in_ok-judge_rules.ensures.each)
+    c.deref.ensures.value c.in_ok-check_rules.ensures.each)

@@ -3,16 +3,16 @@ use Rattle.piece_ir_spec.specs.Books.{book_of}
 use Rattle.archive_core.specs.Fields.{below}
 use Rattle.script_cli_statement.specs.Given.{Given}
 use Rattle.script_cli_statement.specs.Replies.{Recorded}
-use Rattle.script_cli.specs.Taking.{Took}
+use Rattle.script_cli.specs.Taking.{Fed}
 use Rattle.script_cli_statement.specs.Responses.{RepresentsAt, TakesRecords}
 use Rattle.script_cli.proofs.script_run.ScriptRun.feed.Given as goal
 
 abbrev pub invariant-turns : goal.invariant-turns
 invariant-turns g l = record {
-  took : (limit : Given) → limit.book ≡ book_of
+  fed : (limit : Given) → limit.book ≡ book_of
       g.R.Rule.handles g.R.Rule.answers l.book.rules.items
       → (now : Recorded) → RepresentsAt l.initial.archive limit now
-      → Took limit now l.initial.self l.self l.initial.archive l.archive l.chunk l.rest
+      → Fed limit now l.initial.self l.self l.initial.archive l.archive l.chunk l.rest
       (g.K.Sink.written l.initial.sink) (g.K.Sink.written l.sink);
   ready : l.self.splitter.spent ≡ false;
   takes : TakesRecords l.archive;

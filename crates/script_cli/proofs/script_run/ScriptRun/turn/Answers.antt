@@ -2,7 +2,7 @@ use Rattle.std.proofs.Common.{◌≡◌, ◌+◌, ℕ, Bool, true, false, ap, re
 use Rattle.std.specs.Prelude.{◌||◌}
 use Rattle.script_parse.specs.Script.{Whole, Skipped}
 use Rattle.script_parse.specs.Splitting.{found}
-use Rattle.script_cli_statement.specs.declared.halt.Halt.TheVariants.{WriteFault}
+use Rattle.script_cli_statement.specs.declared.stop_reason.StopReason.TheVariants.{WriteFault}
 use Rattle.script_cli_statement.proofs.OnePut.{nothing_between}
 use Rattle.script_cli.proofs.Taking.{took_all, took_answer, halted_answer, halted_memory, all_taken}
 use Rattle.script_cli.proofs.script_run.ScriptRun.turn.Goals as goal
@@ -14,8 +14,8 @@ or_true false = refl
 plus_none : (n : ℕ) → n ≡ n + 0
 plus_none n = omega arith
 
-pub returns-in-More-clause-took : goal.returns-in-More-clause-took
-returns-in-More-clause-took g c = λ limit same now represents.
+pub returns-in-More-clause-fed : goal.returns-in-More-clause-fed
+returns-in-More-clause-fed g c = λ limit same now represents.
     took_all limit now c.args.self.now _ c.feed.new.self c.args.archive.now c.args.archive.now
     c.args.bytes.now c.in-Ok.rest.now (g.K.Sink.written c.args.sink.now)
     (g.K.Sink.written c.args.sink.now) c.in-Ok.cut c.in-Ok.ensures.statements
@@ -23,8 +23,8 @@ returns-in-More-clause-took g c = λ limit same now represents.
     c.in-More.is (all_taken _ _ _ c.in-More.is c.in-Ok.ensures.settled)
     (g.met.D.Disk.valid c.args.archive.now.journal.disk) represents refl refl
 
-pub returns-in-Ok-answer-clause-took : goal.returns-in-Ok-answer-clause-took
-returns-in-Ok-answer-clause-took g c = λ limit same now represents.
+pub returns-in-Ok-answer-clause-fed : goal.returns-in-Ok-answer-clause-fed
+returns-in-Ok-answer-clause-fed g c = λ limit same now represents.
     let answered = c.in-Ok-answer.ensures.answered limit same now represents in
     let text = c.deref.ensures.value in
     took_answer limit now c.args.self.now c.answer.new.self c.feed.new.self c.args.archive.now
@@ -39,12 +39,12 @@ returns-in-Text-clause-halted g c = λ limit same now represents.
     halted_answer limit now c.args.self.now c.answer.new.self c.feed.new.self c.args.archive.now
     c.answer.new.archive c.args.bytes.now c.in-Ok.rest.now _ _ c.in-Ok.cut
     c.in-Ok.ensures.statements c.in-Ok.ensures.tail c.answer.ensures.splitter
-    c.in-Err-answer.halt (Whole c.in-Text.text.items) (ap found c.in-Text.is)
+    c.in-Err-answer.reason (Whole c.in-Text.text.items) (ap found c.in-Text.is)
     (g.met.D.Disk.valid c.args.archive.now.journal.disk)
     (rw c.deref.ensures.value at (c.in-Err-answer.ensures.stopped limit same now represents))
 
-pub returns-in-Ok-refuse_long-clause-took : goal.returns-in-Ok-refuse_long-clause-took
-returns-in-Ok-refuse_long-clause-took g c = λ limit same now represents.
+pub returns-in-Ok-refuse_long-clause-fed : goal.returns-in-Ok-refuse_long-clause-fed
+returns-in-Ok-refuse_long-clause-fed g c = λ limit same now represents.
     let a = c.args.archive.now in
     took_answer limit now c.args.self.now c.refuse_long.new.self c.feed.new.self a a
     c.args.bytes.now c.in-Ok.rest.now _ _ c.in-Ok.cut c.in-Ok.ensures.statements

@@ -5,8 +5,8 @@ use Rattle.smo_ops_types.specs.Commands.{version_of}
 use Rattle.version_groups.specs.Steps.{changed, evolved, step_of, IsStep}
 use Rattle.version_groups.specs.Groups.{versions_in, table_in}
 use Rattle.version_groups.specs.Installing.{HasStep}
-use Rattle.version_groups.proofs.CarriedOut.{changes_made, changes_leave, version_made, have_room}
-use Rattle.version_groups.proofs.CarriedOut.{is_room, table_stays}
+use Rattle.version_groups.proofs.Applied.{changes_made, changes_leave, version_made, have_room}
+use Rattle.version_groups.proofs.Applied.{is_room, table_stays}
 use Rattle.version_groups.proofs.groups.Groups.install_step.Goals as goal
 
 pub install_changes-requires : goal.install_changes-requires

@@ -1,6 +1,6 @@
 use Rattle.std.proofs.Common.{ap, ◌∷◌, [], ◌∙◌}
 use Rattle.version_groups.specs.GroupFields.{all_places, items_of}
-use Rattle.version_groups.proofs.CommandsReady.{new_represents}
+use Rattle.version_groups.proofs.PreparedCommands.{new_represents}
 use Rattle.version_groups.proofs.groups.Groups.new.Goals as goal
 
 pub returns : goal.returns

@@ -1,6 +1,6 @@
 use Rattle.std.proofs.Common.{ap, ◌∙◌}
 use Rattle.version_groups.specs.Groups.{Kept}
-use Rattle.version_groups.proofs.CommandsReady.{schema_is}
+use Rattle.version_groups.proofs.PreparedCommands.{schema_is}
 use Rattle.version_groups.proofs.groups.Groups.newest_schema.Goals as goal
 
 pub returns : goal.returns

@@ -7,7 +7,8 @@ use Rattle.smo_ops.specs.TablePlaces.{StandAt}
 use Rattle.version_groups_tables.specs.declared.made_table.MadeTable.{MadeTable}
 use Rattle.version_groups_tables.specs.Stored.{stored_names}
 use Rattle.std.specs.Prelude.{List, length}
-use Rattle.version_groups_tables.specs.Changing.{AreChangeable, AreOfSchema, AreReady, all_gained}
+use Rattle.version_groups_tables.specs.Changing.{AreChangeable, AreOfSchema, ArePrepared}
+use Rattle.version_groups_tables.specs.Changing.{all_gained}
 use Rattle.version_groups_tables.specs.Changing.{all_lost}
 use Rattle.version_groups_tables.specs.Places.{at_places, AreWithin}
 use Rattle.version_groups.specs.declared.groups.Groups.TheInside.{Inside}
@@ -16,8 +17,8 @@ use Rattle.version_groups.specs.GroupFields.{groups_view}
 use Rattle.version_groups.specs.Room.{IsSame}
 use Rattle.version_groups.proofs.GroupPlaces.{newest_is, view_same, are_groups, names_kept}
 use Rattle.version_groups.proofs.GroupPlaces.{lines_kept}
-use Rattle.version_groups.proofs.CommandsReady.{schema_is, of_newest_schema, changeable_now}
-use Rattle.version_groups.proofs.CommandsReady.{changes_ready}
+use Rattle.version_groups.proofs.PreparedCommands.{schema_is, of_newest_schema, changeable_now}
+use Rattle.version_groups.proofs.PreparedCommands.{changes_ready}
 use Rattle.version_groups.proofs.groups.Groups.prepare_changes.Goals as goal
 
 pub prepare_tables-requires-clause-there : goal.prepare_tables-requires-clause-there
@@ -112,7 +113,8 @@ returns-clause-prepared c = λ past represents accepted.
     ∙ ap (at_places b.stored.items) (sym c.deref.ensures.value) in
     changes_ready c.args.self.now past c.args.stamp its represents c.requires.valid accepted ordered
     c.requires.constants (groups_view b) same c.in_ok-made.made.prepared.items
-    (subst (λ (ts : List MadeTable). AreReady c.args.stamp its ts c.in_ok-made.made.prepared.items)
+    (subst (λ (ts : List MadeTable). ArePrepared c.args.stamp its ts
+    c.in_ok-made.made.prepared.items)
     (sym now) c.in_ok-made.ensures.ready) _ refl refl
     (c.in_ok-made.ensures.gained ∙ ap (all_gained c.args.stamp its) (sym group))
     (c.in_ok-made.ensures.lost ∙ ap (all_lost c.args.stamp its) (sym group))

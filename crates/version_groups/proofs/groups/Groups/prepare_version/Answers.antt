@@ -12,10 +12,10 @@ use Rattle.version_groups_tables.specs.Evolving.{IsEvolved}
 use Rattle.version_groups_tables.specs.NewestTables.{AreStored}
 use Rattle.version_groups_tables.specs.Places.{at_places, AreWithin}
 use Rattle.version_groups.specs.Groups.{Kept, newest_places, newest_group}
-use Rattle.version_groups.proofs.CarriedOut.{as_many}
+use Rattle.version_groups.proofs.Applied.{as_many}
 use Rattle.version_groups.proofs.GroupPlaces.{newest_places_are, newest_is}
-use Rattle.version_groups.proofs.CommandsReady.{schema_is, op_accepted, few_versions, stored_now}
-use Rattle.version_groups.proofs.CommandsReady.{operator_ready, is_same}
+use Rattle.version_groups.proofs.PreparedCommands.{schema_is, op_accepted, few_versions, stored_now}
+use Rattle.version_groups.proofs.PreparedCommands.{operator_ready, is_same}
 use Rattle.version_groups.proofs.groups.Groups.prepare_version.Goals as goal
 
 pub overflow_add-number : goal.overflow_add-number
@@ -103,7 +103,7 @@ pub returns-in_err-tables-clause-same : goal.returns-in_err-tables-clause-same
 returns-in_err-tables-clause-same c = is_same c.args.self.now
 
 pub returns-clause-prepared : goal.returns-clause-prepared
-returns-clause-prepared c = λ past represents judged.
+returns-clause-prepared c = λ past represents checked.
     let a = c.self.inside in
     let version = c.args.version in
     let stamp = version.stamp in
@@ -119,7 +119,7 @@ returns-clause-prepared c = λ past represents judged.
     let stored = subst (λ (t : Tables). AreStored t (newest_database past) stamp
     (at_places c.deref.result.now c.deref-2.result.now)) (sym schema)
     (subst (AreStored (newest_tables past) (newest_database past) stamp) group
-    (stored_now c.args.self.now past stamp op inverse represents judged.stamp judged.accepted)) in
+    (stored_now c.args.self.now past stamp op inverse represents checked.stamp checked.accepted)) in
     let made = c.in_ok-tables.ensures (newest_database past)
     (subst (λ (t : Tables). IsDatabase t (newest_database past)) (sym schema)
     represents.valid.database) stored in
@@ -131,8 +131,8 @@ returns-clause-prepared c = λ past represents judged.
     ap (λ n. n + 1) c.newest-number.ensures in
     let begun = c.in_ok-tables.tables.begun.items in
     let places = c.in_ok-tables.tables.places.items in
-    operator_ready c.args.self.now past stamp op inverse represents judged.stamp judged.accepted
-    judged.constants c.reserve_version.new.self c.reserve_version.ensures.same
+    operator_ready c.args.self.now past stamp op inverse represents checked.stamp checked.accepted
+    checked.constants c.reserve_version.new.self c.reserve_version.ensures.same
     c.reserve_version.ensures.stored
     c.in_ok-reserve_version.ensures.room version begun places
     (let n = c.len.ensures in let b = c.in_ok-reserve_version.ensures.beginnings in

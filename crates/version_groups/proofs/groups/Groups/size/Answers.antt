@@ -4,7 +4,7 @@ use Rattle.smo_ops_spec.specs.Sizes.{Size}
 use Rattle.version_groups_tables.specs.declared.made_table.MadeTable.{MadeTable}
 use Rattle.version_groups.specs.Groups.{Kept}
 use Rattle.version_groups.specs.Sizes.{HasSize}
-use Rattle.version_groups.proofs.CarriedOut.{as_many}
+use Rattle.version_groups.proofs.Applied.{as_many}
 use Rattle.version_groups.proofs.SizeLines.{all_cells}
 use Rattle.version_groups.proofs.groups.Groups.size.Goals as goal
 

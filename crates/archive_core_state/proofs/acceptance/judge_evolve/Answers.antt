@@ -1,8 +1,0 @@
-use Rattle.smo_ops_types.specs.Operators.{operator_of}
-use Rattle.archive_core_state.proofs.Judging.{few_operators}
-use Rattle.archive_core_state.proofs.acceptance.judge_evolve.Goals as goal
-
--- src/acceptance.rt:132:5
-pub judge_inverse-requires-clause-few : goal.judge_inverse-requires-clause-few
-judge_inverse-requires-clause-few c = few_operators (operator_of c.args.op.now) c.args.inverse.now
-    c.requires.counted

@@ -1,0 +1,119 @@
+-- At which tokens of a statement a count passes its limit: in each expression and condition counts
+-- begin anew, an inverse has eight operators at most, a query has its own counts, and at each other
+-- token nothing is counted.
+use Rattle.std.specs.Prelude.{false, [], ◌∷◌, codes}
+use Rattle.prima_base.specs.declared.refusal.What.TheVariants.{Inverse}
+use Rattle.cond_expr.specs.Trees.{always}
+use Rattle.smo_ops_types.specs.Changes.{deletion, update}
+use Rattle.smo_ops_types.specs.Commands.{changing, evolving}
+use Rattle.lexer_spec.specs.Lexemes.{word, sign}
+use Rattle.lexer_combinators.specs.Grammar.{AreMore, so_wide}
+use Rattle.lexer_combinators.specs.Grammar as grammar
+use Rattle.lexer_trees_spec.specs.Grammar.{IsExpr, IsCond}
+use Rattle.lexer_trees_spec.specs.Constants.{name_grammar, moment_grammar}
+use Rattle.lexer_trees_spec.specs.TreeCounts.{expr_counts, cond_counts}
+use Rattle.lexer_trees_spec.specs.Where.{IsFreshWhere, where_overflows}
+use Rattle.lexer_combinators.specs.ListOverflows.{Overflow, none_overflow, fresh_overflow}
+use Rattle.lexer_combinators.specs.ListOverflows.{lead_overflow, map_overflow, bind_overflow}
+use Rattle.lexer_combinators.specs.ListOverflows.{option_overflow, either_overflow, list_overflow}
+use Rattle.lexer_combinators.specs.ListOverflows.{counted_overflow}
+use Rattle.smo_parse.specs.Productions.{IsOperator}
+use Rattle.smo_parse.specs.OperatorCounts.{operator_counts}
+use Rattle.temporal_lang_grammar_spec.specs.QueryGrammar.{IsAsk}
+use Rattle.temporal_lang_grammar_spec.specs.QueryOverflows.{ask_overflows}
+use Rattle.script_parse.specs.Statements.{write, ask, explain}
+use Rattle.script_parse.specs.Productions.{IsInsert, IsDelete, IsSetting, IsUpdate, IsChange, IsOp}
+use Rattle.script_parse.specs.Productions.{AreOps, IsInverse, IsEvolve, AreChanges, IsBody, IsWrite}
+use Rattle.script_parse.specs.Productions.{IsQuery, IsExplain, IsShowVersions, IsShowSchema}
+use Rattle.script_parse.specs.Productions.{IsShowSizes, IsShow, IsCheckpoint, IsStatement}
+
+-- ---- changes
+
+abbrev pub setting_overflows : Overflow IsSetting
+setting_overflows = bind_overflow name_grammar
+    (λ column. grammar.lead (sign (codes "="))
+    (grammar.map (λ e. (column, e)) (grammar.fresh (IsExpr false)))) (none_overflow name_grammar)
+    (λ column. lead_overflow (sign (codes "="))
+    (grammar.map (λ e. (column, e)) (grammar.fresh (IsExpr false)))
+    (map_overflow (λ e. (column, e)) (grammar.fresh (IsExpr false))
+    (fresh_overflow (IsExpr false) (expr_counts false))))
+
+abbrev pub delete_overflows : Overflow IsDelete
+delete_overflows = lead_overflow (word (codes "DELETE")) _
+    (lead_overflow (word (codes "FROM")) _ (bind_overflow name_grammar
+    (λ table. grammar.map (λ c. deletion table c) (IsFreshWhere false)) (none_overflow name_grammar)
+    (λ table. map_overflow (λ c. deletion table c) (IsFreshWhere false) (where_overflows false))))
+
+abbrev pub update_overflows : Overflow IsUpdate
+update_overflows = lead_overflow (word (codes "UPDATE")) _
+    (bind_overflow name_grammar (λ table. grammar.lead (word (codes "SET"))
+    (grammar.seq (grammar.list (sign (codes ",")) IsSetting)
+    (λ sets. grammar.map (λ c. update table sets c) (IsFreshWhere false))))
+    (none_overflow name_grammar)
+    (λ table. lead_overflow (word (codes "SET")) _
+    (bind_overflow (grammar.list (sign (codes ",")) IsSetting)
+    (λ sets. grammar.map (λ c. update table sets c) (IsFreshWhere false))
+    (list_overflow (sign (codes ",")) IsSetting setting_overflows)
+    (λ sets. map_overflow (λ c. update table sets c) (IsFreshWhere false)
+    (where_overflows false)))))
+
+abbrev pub change_overflows : Overflow IsChange
+change_overflows = either_overflow IsInsert (grammar.alt IsDelete IsUpdate) (none_overflow IsInsert)
+    (either_overflow IsDelete IsUpdate delete_overflows update_overflows)
+
+abbrev pub changes_overflows : Overflow AreChanges
+changes_overflows = map_overflow (λ l. changing l) (grammar.list (word (codes "THEN")) IsChange)
+    (list_overflow (word (codes "THEN")) IsChange change_overflows)
+
+-- ---- operators
+
+abbrev pub op_overflows : Overflow IsOp
+op_overflows = fresh_overflow IsOperator operator_counts
+
+-- the first of an inverse is before its first THEN
+abbrev pub ops_overflows : Overflow AreOps
+ops_overflows = bind_overflow IsOp (λ op. grammar.map (λ l. op ∷ l)
+    (AreMore (word (codes "THEN")) (so_wide Inverse) IsOp 1)) op_overflows
+    (λ op. map_overflow (λ l. op ∷ l) (AreMore (word (codes "THEN")) (so_wide Inverse) IsOp 1)
+    (counted_overflow Inverse (word (codes "THEN")) IsOp op_overflows 1))
+
+abbrev pub inverse_overflows : Overflow IsInverse
+inverse_overflows = option_overflow [] (word (codes "INVERSE")) AreOps ops_overflows
+
+abbrev pub evolve_overflows : Overflow IsEvolve
+evolve_overflows = lead_overflow (word (codes "EVOLVE")) _
+    (bind_overflow IsOp (λ op. grammar.map (λ inverse. evolving op inverse) IsInverse) op_overflows
+    (λ op. map_overflow (λ inverse. evolving op inverse) IsInverse inverse_overflows))
+
+-- ---- statements
+
+abbrev pub body_overflows : Overflow IsBody
+body_overflows = either_overflow IsEvolve AreChanges evolve_overflows changes_overflows
+
+abbrev pub write_overflows : Overflow IsWrite
+write_overflows = lead_overflow (word (codes "AT")) _
+    (bind_overflow moment_grammar (λ stamp. grammar.map
+    (λ body. write (record { stamp = stamp; body = body })) IsBody) (none_overflow moment_grammar)
+    (λ stamp. map_overflow (λ body. write (record { stamp = stamp; body = body })) IsBody
+    body_overflows))
+
+abbrev pub query_overflows : Overflow IsQuery
+query_overflows = lead_overflow (word (codes "QUERY")) _
+    (map_overflow (λ q. ask q) IsAsk ask_overflows)
+
+abbrev pub explain_overflows : Overflow IsExplain
+explain_overflows = lead_overflow (word (codes "EXPLAIN")) _
+    (lead_overflow (word (codes "QUERY")) _ (map_overflow (λ q. explain q) IsAsk ask_overflows))
+
+abbrev pub show_overflows : Overflow IsShow
+show_overflows = either_overflow IsShowVersions (grammar.alt IsShowSchema IsShowSizes)
+    (none_overflow IsShowVersions) (either_overflow IsShowSchema IsShowSizes
+    (none_overflow IsShowSchema) (none_overflow IsShowSizes))
+
+abbrev pub statement_overflows : Overflow IsStatement
+statement_overflows = either_overflow IsWrite
+    (grammar.alt IsQuery (grammar.alt IsExplain (grammar.alt IsShow IsCheckpoint))) write_overflows
+    (either_overflow IsQuery (grammar.alt IsExplain (grammar.alt IsShow IsCheckpoint))
+    query_overflows
+    (either_overflow IsExplain (grammar.alt IsShow IsCheckpoint) explain_overflows
+    (either_overflow IsShow IsCheckpoint show_overflows (none_overflow IsCheckpoint))))

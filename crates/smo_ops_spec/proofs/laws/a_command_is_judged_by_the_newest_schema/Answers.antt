@@ -1,5 +1,0 @@
-use Rattle.smo_ops_spec.proofs.Judging.{same_fault}
-use Rattle.smo_ops_spec.proofs.laws.a_command_is_judged_by_the_newest_schema.Goals as goal
-
-pub returns : goal.returns
-returns c = same_fault
