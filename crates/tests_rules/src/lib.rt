@@ -9,8 +9,6 @@ mod expression;
 #[cfg(test)]
 mod inverse;
 #[cfg(test)]
-mod meaning;
-#[cfg(test)]
 mod operator;
 #[cfg(test)]
 mod piece;

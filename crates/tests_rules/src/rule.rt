@@ -6,11 +6,10 @@ ghost use Rattle.smo_ops_spec.specs.After.{op_fault, schema_after, IsValid};
 ghost use Rattle.piece_ir_spec.specs.Typed.{IsTyped};
 ghost use Rattle.piece_ir.specs.Shown.{piece_of};
 
-use crate::meaning::{PlainTable, push_choices};
-use crate::operator::{next, nothing, operator, two_tables, with};
+use crate::operator::{next, operator, two_tables};
 use cond_expr::Cond;
 use piece_ir::Piece;
-use prima_base::{ColType, Name, NoMemory, OpKind, Txt, Value};
+use prima_base::{Name, NoMemory, OpKind};
 use rewrite_rules::{BookFault, NopRule, Rule, RuleBook, push_every_rule};
 use schema_catalog::Schema;
 use smo_ops::Op;
@@ -173,112 +172,6 @@ fn each_rule_answers(rt: HostRuntime) -> Result<(), Fail> {
         let answer = names_answered(alloc, &before, text, table)?;
         assert_eq!(rt; answer.as_slice(), names);
     }
-    Ok(())
-}
-
-// The rows of the database that stand for the rows of a table after the operator of this text: what
-// the answer to the piece on the table means, one choice after the other.
-fn meaning(
-    alloc: Global,
-    before: &Schema,
-    text: &[u8],
-    table: &[u8],
-    database: &[PlainTable],
-) -> Result<Vec<Value>, Fail>
-    requires { IsValid before.now }
-{
-    let Some(op) = operator(alloc, text) else {
-        return Err(Fail::new("each text is an operator"));
-    };
-    let table = Name::new(alloc, table)?;
-    let Some(pieces) = answered(alloc, before, &op, &table)? else {
-        return Err(Fail::new("each operator is accepted, and makes the table"));
-    };
-    let mut values = Vec::new(alloc);
-    for piece in &pieces {
-        push_choices(alloc, piece, database, &mut values)?;
-    }
-    Ok(values)
-}
-
-// A table of the database.
-macro_rules! a_table {
-    ($alloc:expr, $name:expr, $columns:expr, $rows:expr) => {
-        PlainTable {
-            name: Name::new($alloc, $name)?,
-            columns: $columns,
-            rows: $rows,
-        }
-    };
-}
-
-fn pairs(
-    alloc: Global,
-    first: &[u8],
-    second: &[u8],
-    kind: ColType,
-) -> Result<Vec<(Name, ColType)>, Fail> {
-    let mut columns = Vec::new(alloc);
-    columns.push((Name::new(alloc, first)?, ColType::Int))?;
-    columns.push((Name::new(alloc, second)?, kind))?;
-    Ok(columns)
-}
-
-fn row_of(alloc: Global, first: i64, second: Value) -> Result<Vec<Value>, NoMemory> {
-    let mut row = Vec::new(alloc);
-    row.push(Value::Int(first))?;
-    row.push(second)?;
-    Ok(row)
-}
-
-#[test]
-fn a_partition_shows_the_rows_of_its_condition(rt: HostRuntime) -> Result<(), Fail> {
-    let alloc = rt.alloc();
-    let Some(before) = with(alloc, &nothing(alloc), b"CREATE TABLE t (a INT)") else {
-        return Err(Fail::new("a table is made"));
-    };
-    let mut columns = Vec::new(alloc);
-    columns.push((Name::new(alloc, b"a")?, ColType::Int))?;
-    let mut rows = Vec::new(alloc);
-    for number in [5, 20] {
-        let mut row = Vec::new(alloc);
-        row.push(Value::Int(number))?;
-        rows.push(row)?;
-    }
-    let mut database = Vec::new(alloc);
-    database.push(a_table!(alloc, b"t", columns, rows))?;
-    let partition = b"PARTITION TABLE t INTO low WITH a < 10, high";
-    let low = meaning(alloc, &before, partition, b"low", &database)?;
-    // The one row 5.
-    assert!(rt; low.len() == 1 && low.first() == Some(&Value::Int(5)));
-    Ok(())
-}
-
-#[test]
-fn a_join_shows_the_rows_that_agree(rt: HostRuntime) -> Result<(), Fail> {
-    let alloc = rt.alloc();
-    let Some(one) = with(alloc, &nothing(alloc), b"CREATE TABLE r (k INT, x TEXT)") else {
-        return Err(Fail::new("a table is made"));
-    };
-    let Some(before) = with(alloc, &one, b"CREATE TABLE s (k INT, y INT)") else {
-        return Err(Fail::new("a second table is made"));
-    };
-    let mut of_r = Vec::new(alloc);
-    of_r.push(row_of(alloc, 1, Value::Text(Txt::new(alloc, b"a")?))?)?;
-    of_r.push(row_of(alloc, 2, Value::Text(Txt::new(alloc, b"b")?))?)?;
-    let mut of_s = Vec::new(alloc);
-    of_s.push(row_of(alloc, 1, Value::Int(5))?)?;
-    let mut database = Vec::new(alloc);
-    let r_columns = pairs(alloc, b"k", b"x", ColType::Text)?;
-    database.push(a_table!(alloc, b"r", r_columns, of_r))?;
-    let s_columns = pairs(alloc, b"k", b"y", ColType::Int)?;
-    database.push(a_table!(alloc, b"s", s_columns, of_s))?;
-    let join = b"JOIN TABLE r, s INTO t WHERE y > 0";
-    let joined = meaning(alloc, &before, join, b"t", &database)?;
-    // The one row 'a': k and x of r, and k and y of s.
-    let a = Value::Text(Txt::new(alloc, b"a")?);
-    assert!(rt; joined.len() == 4 && joined.first() == Some(&Value::Int(1)));
-    assert!(rt; joined.get(1) == Some(&a) && joined.last() == Some(&Value::Int(5)));
     Ok(())
 }
 
