@@ -104,6 +104,8 @@ number_of (refusal.Begun session) = 52
 number_of (refusal.NotBegun session) = 53
 number_of (refusal.CursorOpen session cursor) = 54
 number_of (refusal.NoCursor session cursor) = 55
+number_of (refusal.NoOutput place outputs) = 56
+number_of (refusal.NotANumber place) = 57
 
 abbrev pub kept_of : Refusal → List Kept
 kept_of (refusal.Syntax place) = number place ∷ []
@@ -136,6 +138,8 @@ kept_of (refusal.Begun session) = number session ∷ []
 kept_of (refusal.NotBegun session) = number session ∷ []
 kept_of (refusal.CursorOpen session cursor) = number session ∷ word cursor ∷ []
 kept_of (refusal.NoCursor session cursor) = number session ∷ word cursor ∷ []
+kept_of (refusal.NoOutput place outputs) = number place ∷ number outputs ∷ []
+kept_of (refusal.NotANumber place) = number place ∷ []
 
 -- `error`, the number and the kept values
 unfoldable pub refusal_text : Refusal → List ℕ

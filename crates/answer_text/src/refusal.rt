@@ -112,6 +112,8 @@ fn number_of(refusal: &Refusal) -> u64
         Refusal::NotBegun(_) => 53,
         Refusal::CursorOpen(_, _) => 54,
         Refusal::NoCursor(_, _) => 55,
+        Refusal::NoOutput(_, _) => 56,
+        Refusal::NotANumber(_) => 57,
     }
 }
 
@@ -146,7 +148,8 @@ fn values_of<'a>(refusal: &'a Refusal) -> (Kept<'a>, Kept<'a>, Kept<'a>, Kept<'a
         | Refusal::WrongType(number)
         | Refusal::Arity(number)
         | Refusal::Begun(number)
-        | Refusal::NotBegun(number) => (Kept::Number(u64::from(*number)), none, none, none),
+        | Refusal::NotBegun(number)
+        | Refusal::NotANumber(number) => (Kept::Number(u64::from(*number)), none, none, none),
         Refusal::NoTable(name)
         | Refusal::NoColumn(name)
         | Refusal::Ambiguous(name)
@@ -165,7 +168,9 @@ fn values_of<'a>(refusal: &'a Refusal) -> (Kept<'a>, Kept<'a>, Kept<'a>, Kept<'a
         | Refusal::TooLongStamp(first, second) => {
             (Kept::Number(*first), Kept::Number(*second), none, none)
         }
-        Refusal::NoVersion(first, second) | Refusal::SchemaMoved(first, second) => (
+        Refusal::NoVersion(first, second)
+        | Refusal::SchemaMoved(first, second)
+        | Refusal::NoOutput(first, second) => (
             Kept::Number(u64::from(*first)),
             Kept::Number(u64::from(*second)),
             none,

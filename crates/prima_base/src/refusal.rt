@@ -133,4 +133,8 @@ pub enum Refusal {
     CursorOpen(u32, Name),
     /// 55: the session, and the cursor, which is not open.
     NoCursor(u32, Name),
+    /// 56: the place of an output that is not there, and how many there are.
+    NoOutput(u32, u32),
+    /// 57: the place of the output to be summed, which is a TEXT.
+    NotANumber(u32),
 }
