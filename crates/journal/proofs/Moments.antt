@@ -1,5 +1,5 @@
 -- What a crash leaves of the two parts of a mount.
-use Rattle.std.proofs.Common.{◌≡◌, inl, inr, ℕ, ◌≤◌, List, ◌∙◌, subst, IsTrue, length}
+use Rattle.std.proofs.Common.{◌≡◌, inl, ℕ, List, ◌∙◌, subst, IsTrue}
 use Rattle.std.specs.Prelude.{Some}
 use Rattle.disk_model.specs.Meaning.{Meaning, Only, IfKnown}
 use Rattle.disk_model.specs.Moments.{GoesOn, Leaves, Turns}
@@ -8,19 +8,17 @@ use Rattle.disk_model.specs.MomentLaws.{still_honest, then_leaves, reads_only, r
 use Rattle.disk_model.specs.MomentLaws.{synced_turns}
 use Rattle.journal.specs.Mounting.{SameOrNine}
 
--- a file of at most nine bytes is read and then written over
+-- a file of at most nine bytes is read, and then written over unless it is the empty journal
 pub short_leaves : (old mid new : Meaning) (file : List ℕ) → IsTrue old.is_honest
-    → old.seen ≡ Some file → Only file old.may_leave → length file ≤ 9 → Reads old mid
-    → GoesOn mid new
+    → old.seen ≡ Some file → Only file old.may_leave → Reads old mid → GoesOn mid new
     → (IsTrue mid.is_honest → mid.seen ≡ Some file → Only file mid.may_leave
-    → Leaves mid new (λ c. length c ≤ 9))
+    → Leaves mid new (SameOrNine file))
     → Leaves old new (SameOrNine file)
-short_leaves old mid new file honest seen only short reads goes nine =
+short_leaves old mid new file honest seen only reads goes after =
     let only_mid = reads_only old mid file honest only reads in
-    let still = still_honest old mid reads.goes honest in
     then_leaves old mid new (SameOrNine file)
     (λ c left. inl (reads_leaves old mid file honest only reads c left)) reads.goes goes
-    (λ c left. inr (short, nine still (reads.seen ∙ seen) only_mid c left))
+    (after (still_honest old mid reads.goes honest) (reads.seen ∙ seen) only_mid)
 
 -- the first sync has succeeded, and what comes after it keeps to the file
 module _ (old mid new : Meaning) (file : List ℕ) (honest : IsTrue old.is_honest)

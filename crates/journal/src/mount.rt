@@ -29,9 +29,9 @@ fn begin<D: Disk>(disk: &mut D, len: u64) -> Result<(), Failed>
     requires short { len ≤ 9 }
     requires len { IfKnown (D.meaning disk.old).seen (λ file. len ≡ length file) }
     ensures goes { GoesOn (D.meaning disk.old) (D.meaning disk.new) }
-    ensures nine { (file : List ℕ) → IsTrue (D.meaning disk.old).is_honest
+    ensures same_or_nine { (file : List ℕ) → IsTrue (D.meaning disk.old).is_honest
         → (D.meaning disk.old).seen ≡ Some file → Only file (D.meaning disk.old).may_leave
-        → Leaves (D.meaning disk.old) (D.meaning disk.new) (λ c. length c ≤ 9) }
+        → Leaves (D.meaning disk.old) (D.meaning disk.new) (SameOrNine file) }
     ensures stands { OnOk result ((file : List ℕ) → IsTrue (D.meaning disk.old).is_honest
         → (D.meaning disk.old).seen ≡ Some file → Only file (D.meaning disk.old).may_leave
         → Stands (D.meaning disk.new) 8 []) }
@@ -108,10 +108,10 @@ impl<D: Disk> Journal<D> {
     ghost use Rattle.journal.specs.Fields.{below, place_of, limit_of};
 
     /// Opens the journal that the file on a disk holds: its records, in order. It begins with a
-    /// sync. A file of at most nine bytes is made the empty journal; any other is read alone. A
-    /// limit of `u64::MAX` bytes counts as one less. `Disk` comes only where the disk's count of
-    /// faults rose, and `Damaged` exactly where the file leaves the grammar of journals, with the
-    /// place; a fault hands the disk back as it then stands.
+    /// sync. A file of at most nine bytes is made the empty journal, unless it is one: that and any
+    /// longer file are read alone. A limit of `u64::MAX` bytes counts as one less. `Disk` comes
+    /// only where the disk's count of faults rose, and `Damaged` exactly where the file leaves the
+    /// grammar of journals, with the place; a fault hands the disk back as it then stands.
     pub fn mount(
         alloc: Global,
         disk: D,
