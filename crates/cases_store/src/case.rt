@@ -5,7 +5,7 @@ use crate::comparison::Difference;
 use crate::line::{Line, read_line};
 use crate::pair::Pair;
 use crate::word::read_row;
-use cases_store_tables::add_copies;
+use cases_store_tables::{add_copies, current};
 use cases_text::{LinePlayer, first_word, play_lines, read_number, with_number, write_number};
 use prima_base::{ColType, Name, NameFault, NoMemory, Row};
 use std::alloc::{AllocError, Global};
@@ -252,7 +252,7 @@ impl Case {
         let Some(table) = self.pair.stored() else {
             return Ok(());
         };
-        let rows = table.current()?.len();
+        let rows = current(table)?.len();
         self.answers.extend_from_slice(&self.name)?;
         self.answers.extend_from_slice(b": rows ")?;
         write_number(rows as u64, &mut self.answers)?;

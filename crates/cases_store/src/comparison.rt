@@ -1,12 +1,16 @@
 //! A stored table and a plain one side by side: what each call shows, compared.
 
+ghost use Rattle.std.specs.Prelude.{◌≡◌, ◌<◌};
+
 use cases_store_tables::{
-    NOW, PlainCell, PlainRow, PlainTable, Scanned, are_of, between, rows_shown, scan,
+    NOW, PlainCell, PlainRow, PlainTable, Scanned, are_of, between, current, rows_shown, scan,
 };
 use history_store::{BorrowedRows, Cell, Cut, GivenRow, StoredTable};
-use prima_base::{ColType, Name, NoMemory, Period, Row, Val, Value};
+use prima_base::{ColType, Name, NoMemory, Period, Row, Steps, Val, Value};
 use std::alloc::Global;
 use std::cmp::Ordering;
+use std::marker::Brand;
+use std::sync::ledger::{Blank, Ledger};
 
 /// In what two tables differ.
 #[derive(Clone, Copy)]
@@ -51,19 +55,26 @@ fn are_same(values: &[Val<'_>], others: &[Val<'_>]) -> bool {
     true
 }
 
-// Whether the borrowed rows are those at these places, in their order.
-fn are_borrowed(
+// Whether the borrowed rows are those at these places, in their order, looked at with a counter of
+// the ledger.
+fn are_borrowed<L: Ledger>(
     alloc: Global,
     mut borrowed: BorrowedRows<'_>,
     rows: &[Vec<Val<'_>>],
     places: &[usize],
-) -> Result<bool, NoMemory> {
+    blank: Blank,
+) -> Result<bool, NoMemory>
+    requires name { blank.name ≡ L.name }
+    requires parts { blank.parts ≡ L.parts }
+    requires some { 0 < blank.parts }
+{
+    let mut steps: Steps<L> = Steps::new(blank);
     let mut values = Vec::new(alloc);
     for (at, place) in places.iter().enumerate() {
         if at >= borrowed.len() {
             return Ok(false);
         }
-        borrowed.lend(at, &mut values)?;
+        borrowed.lend(at, &mut values, &mut steps)?;
         match rows.get(*place) {
             Some(row) => {
                 if !are_same(&values, row) {
@@ -147,7 +158,7 @@ impl<'a> Sides<'a> {
 
     // Whether the copies of the current rows are the plain table's.
     fn same_rows(self, rows: &[Vec<Val<'_>>]) -> Result<bool, NoMemory> {
-        let copies = self.stored.current()?;
+        let copies = current(self.stored)?;
         if copies.len() != rows.len() {
             return Ok(false);
         }
@@ -187,7 +198,9 @@ impl<'a> Sides<'a> {
             }
         }
         match between(self.stored, &from.cut, &to.cut) {
-            Some(borrowed) => are_borrowed(self.alloc, borrowed, rows, &places),
+            Some(borrowed) => {
+                are_borrowed::<Brand>(self.alloc, borrowed, rows, &places, Blank::new(1))
+            }
             None => Ok(false),
         }
     }
@@ -224,7 +237,7 @@ impl<'a> Sides<'a> {
                 places.push(place)?;
             }
         }
-        are_borrowed(self.alloc, borrowed, rows, &places)
+        are_borrowed::<Brand>(self.alloc, borrowed, rows, &places, Blank::new(1))
     }
 
     // The same for each value of the row, each column, and one column too many.

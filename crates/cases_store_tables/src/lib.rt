@@ -12,4 +12,4 @@ pub use moment::rows_shown;
 pub use plain_table::{PlainCell, PlainRow, PlainTable, are_of};
 pub use row::add_copies;
 pub use row_comparison::NOW;
-pub use tested_table::{Scanned, TestedTable, between, scan};
+pub use tested_table::{Scanned, TestedTable, between, current, scan};

@@ -174,6 +174,21 @@ fn given_rows<'a>(alloc: Global, rows: &'a [Row]) -> Result<Vec<GivenRow<'a>>, N
     Ok(given)
 }
 
+// Copies of the current rows, made with a counter of the ledger.
+fn current_counted<L: Ledger>(stored: &StoredTable, blank: Blank) -> Result<Vec<Row>, NoMemory>
+    requires name { blank.name ≡ L.name }
+    requires parts { blank.parts ≡ L.parts }
+    requires some { 0 < blank.parts }
+{
+    let mut steps: Steps<L> = Steps::new(blank);
+    stored.current(&mut steps)
+}
+
+/// Copies of the current rows of a stored table.
+pub fn current(stored: &StoredTable) -> Result<Vec<Row>, NoMemory> {
+    current_counted::<Brand>(stored, Blank::new(1))
+}
+
 // Makes the change that gains these rows, given beside some that are there.
 #[tactic(auto, using(crate::proofs::TestedLaws::still_before))]
 fn unite(
@@ -189,7 +204,7 @@ fn unite(
     ensures same { stored.new.columns ≡ columns.now }
     ensures later { (m : ℕ) → stamp < m → AllBefore stored.new m }
 {
-    let mut rows = stored.current()?;
+    let mut rows = current(stored)?;
     rows.truncate(HELD_ROWS);
     add_copies(&mut rows, gained)?;
     if !become_relation(columns, &mut rows) {

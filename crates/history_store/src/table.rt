@@ -11,10 +11,11 @@ use history_store_writes::{
     ValueIndex, apply, count_cells, empty_columns, gain_each, index_of, lose_each, reserve_rows,
     rows_room,
 };
-use prima_base::{ColType, Name, NoMemory, Period, Row, Value, copy_columns};
+use prima_base::{ColType, Name, NoMemory, Period, Row, Steps, Value, copy_columns};
 use prima_base_rows::GivenRow;
 use std::alloc::Global;
 use std::marker::Model;
+use std::sync::ledger::Ledger;
 
 /// The history of one table. An id is a place among the keys; `live` has the ids of the current
 /// rows in the order of their rows, and each of `others` has them in the order of the values of a
@@ -391,13 +392,15 @@ impl StoredTable {
         change_index(&mut self.live, after);
     }
 
-    /// Copies of the current rows, ascending. The one error is `NoMemory`, where memory runs out.
-    pub fn current(&self) -> Result<Vec<Row>, NoMemory>
+    /// Copies of the current rows, ascending. Each row is one step. The one error is `NoMemory`,
+    /// where memory runs out.
+    pub fn current<L: Ledger>(&self, steps: &mut Steps<L>) -> Result<Vec<Row>, NoMemory>
         ensures rows { (m : ℕ) → m < forever → AllBefore self.now (m + 1)
             → IfOk result (λ rows. rows.items ≡ relation_at self.now m) }
         ensures relation { IfOk result (λ rows. IsRelation self.now.columns rows.items) }
+        ensures cost { IfOk result (λ rows. steps.new ≡ steps.old + length rows.items) }
     {
-        copy_rows(self.alloc, &self.logs, &self.live.copy()?)
+        copy_rows(self.alloc, &self.logs, &self.live.copy()?, steps)
     }
 
     /// What the table has now is a relation of its columns.
@@ -427,7 +430,8 @@ impl StoredTable {
 
     /// The current rows from the one cut to the other, borrowed, ascending. They are found by
     /// binary search: for any number of rows in a table of n it takes in the order of log n
-    /// comparisons. What the table has now it has from its last stamp on. It takes no memory.
+    /// comparisons; each value that is looked at is one step. What the table has now it has from
+    /// its last stamp on. It takes no memory.
     pub fn between(&self, from: &Cut, to: &Cut) -> BorrowedRows<'_>
         requires from { length from.now.values ≤ length self.now.columns }
         requires to { length to.now.values ≤ length self.now.columns }

@@ -13,10 +13,11 @@ ghost use Rattle.history_store_row_order.specs.Rows.{row_now, rows_of};
 use crate::walk::compare_lead;
 use history_store_columns::Column;
 use history_store_index::RowIndex;
-use prima_base::{NoMemory, Val, Value};
+use prima_base::{NoMemory, Steps, Val, Value};
 use prima_base_rows::{GivenRow, compare_prefix};
 use std::cmp::Ordering;
 use std::marker::Model;
+use std::sync::ledger::Ledger;
 
 /// A cut in the order of rows: before all rows that begin with its values, or after all of them.
 #[derive(Drop)]
@@ -119,21 +120,30 @@ pub fn count_before(columns: &[Column], live: &RowIndex, cut: &Cut) -> usize
     low
 }
 
-// Puts the values of the newest row of the id into `row`, borrowed, in place of what it had.
-fn lend_now<'a>(columns: &'a [Column], id: usize, row: &mut Vec<Val<'a>>) -> Result<(), NoMemory>
+// Puts the values of the newest row of the id into `row`, borrowed, in place of what it had. Each
+// value is one step.
+fn lend_now<'a, L: Ledger>(
+    columns: &'a [Column],
+    id: usize,
+    row: &mut Vec<Val<'a>>,
+    steps: &mut Steps<L>,
+) -> Result<(), NoMemory>
     requires { All (λ c. id < c.ids) columns.now }
     ensures values { OnOk result (map shown row.new.items ≡ row_now id (cells_of columns.now)) }
     ensures valid { OnOk result (All (λ v. IsValid (shown v)) row.new.items) }
     ensures borrowed { OnOk result (All IsBorrowed row.new.items) }
+    ensures cost { OnOk result (steps.new ≡ steps.old + length row.new.items) }
 {
     row.clear();
     for column in columns {
+        steps.tick();
         row.push(column.newest(id))?;
     }
     Ok(())
 }
 
-/// Current rows of a table, ascending. Each can be looked at where it is.
+/// Current rows of a table, ascending. Each can be looked at where it is; each value that is handed
+/// out is one step, as an entry of a scan is.
 #[derive(Drop)]
 pub struct BorrowedRows<'a> {
     columns: &'a [Column],
@@ -158,7 +168,8 @@ impl<'a> Model for BorrowedRows<'a> {
 
 impl<'a> BorrowedRows<'a> {
     ghost use Rattle.std.specs.Prelude.{◌≡◌, ◌-◌, ◌<◌, ◌≤◌, ℕ, [], take, drop, map, option_map};
-    ghost use Rattle.std.specs.Prelude.{length, All, IfSome, OnOk, slice_get, slice_index_or};
+    ghost use Rattle.std.specs.Prelude.{◌+◌, length, All, IfSome, OnOk, slice_get, slice_index_or};
+    ghost use Rattle.std.specs.Prelude.{option_to_list};
     ghost use Rattle.relations_spec.specs.Sets.{In};
     ghost use Rattle.prima_base.specs.Order.{shown, IsBorrowed};
     ghost use Rattle.prima_base.specs.Columns.{IsValid};
@@ -200,32 +211,45 @@ impl<'a> BorrowedRows<'a> {
 
     /// Puts the values of the row at this place into `row`, borrowed, in place of what it had; a
     /// text among them has at most 4,096 bytes and no control byte. Rows that are looked at one
-    /// after the other are found at once. Where `row` has the room it takes no memory. The one
-    /// error is `NoMemory`, where memory runs out.
-    pub fn lend(&mut self, at: usize, row: &mut Vec<Val<'a>>) -> Result<(), NoMemory>
+    /// after the other are found at once. Each value is one step. Where `row` has the room it takes
+    /// no memory. The one error is `NoMemory`, where memory runs out.
+    pub fn lend<L: Ledger>(
+        &mut self,
+        at: usize,
+        row: &mut Vec<Val<'a>>,
+        steps: &mut Steps<L>,
+    ) -> Result<(), NoMemory>
         requires within { at < length self.old }
         ensures same { self.new ≡ self.old }
         ensures values { OnOk result (map shown row.new.items ≡ slice_index_or self.old at []) }
         ensures valid { OnOk result (All (λ v. IsValid (shown v)) row.new.items) }
         ensures borrowed { OnOk result (All IsBorrowed row.new.items) }
+        ensures cost { OnOk result (steps.new ≡ steps.old + length row.new.items) }
     {
         let id = self.index.id_near(self.start + at, &mut self.near);
-        lend_now(self.columns, id, row)
+        lend_now(self.columns, id, row, steps)
     }
 
     /// The value in this column of the row at this place, borrowed as `lend` gives it: `None`
-    /// exactly where the row has no such column. It takes no memory.
-    pub fn value(&mut self, at: usize, column: usize) -> Option<Val<'a>>
+    /// exactly where the row has no such column. A value is one step. It takes no memory.
+    pub fn value<L: Ledger>(
+        &mut self,
+        at: usize,
+        column: usize,
+        steps: &mut Steps<L>,
+    ) -> Option<Val<'a>>
         requires within { at < length self.old }
         ensures same { self.new ≡ self.old }
         ensures value { option_map shown result ≡ slice_get (slice_index_or self.old at []) column }
         ensures valid { IfSome result (λ v. IsValid (shown v)) }
         ensures borrowed { IfSome result IsBorrowed }
+        ensures cost { steps.new ≡ steps.old + length (option_to_list result) }
     {
         let columns = self.columns;
         if column >= columns.len() {
             return None;
         }
+        steps.tick();
         let id = self.index.id_near(self.start + at, &mut self.near);
         Some(columns[column].newest(id))
     }

@@ -13,10 +13,11 @@ ghost use Rattle.history_store_row_order.specs.Rows.{AllWidth};
 
 use history_store_columns::Column;
 use history_store_index::RowIndex;
-use prima_base::{NoMemory, Row};
+use prima_base::{NoMemory, Row, Steps};
 use prima_base_rows::GivenRow;
 use std::alloc::Global;
 use std::cmp::Ordering;
+use std::sync::ledger::Ledger;
 
 /// Compares what the newest row of the id begins with with these values.
 pub fn compare_lead(columns: &[Column], id: usize, lead: &GivenRow<'_>) -> Ordering
@@ -196,14 +197,21 @@ fn copy_now(alloc: Global, columns: &[Column], id: usize) -> Result<Row, NoMemor
     Ok(Row::new(alloc, values))
 }
 
-/// The newest rows of these ids.
-pub fn copy_rows(alloc: Global, columns: &[Column], live: &[usize]) -> Result<Vec<Row>, NoMemory>
+/// The newest rows of these ids. Each row is one step.
+pub fn copy_rows<L: Ledger>(
+    alloc: Global,
+    columns: &[Column],
+    live: &[usize],
+    steps: &mut Steps<L>,
+) -> Result<Vec<Row>, NoMemory>
     requires { (id : _) → (k : _) (d : Log) → id < length live.now → k < length columns.now
         → slice_index_or live.now id 0 < (slice_index_or columns.now k d).ids }
-    ensures { IfOk result (λ rows. rows.items ≡ rows_of live.now (cells_of columns.now)) }
+    ensures rows { IfOk result (λ rows. rows.items ≡ rows_of live.now (cells_of columns.now)) }
+    ensures cost { IfOk result (λ rows. steps.new ≡ steps.old + length rows.items) }
 {
     let mut rows = Vec::with_capacity(alloc, live.len())?;
     for id in live {
+        steps.tick();
         rows.push(copy_now(alloc, columns, *id)?)?;
     }
     Ok(rows)

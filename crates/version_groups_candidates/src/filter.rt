@@ -16,9 +16,10 @@ ghost use Rattle.version_groups_candidates.specs.Filters.{IsFilter};
 
 use cond_expr::{CmpOp, Column, Cond, decide, pinned};
 use history_store::BorrowedRows;
-use prima_base::{NoMemory, Value};
+use prima_base::{NoMemory, Steps, Value};
 use std::alloc::Global;
 use std::marker::Model;
+use std::sync::ledger::Ledger;
 
 /// How many rows are looked at whole at once: a filter of their condition would cost more than it
 /// saves.
@@ -42,12 +43,12 @@ impl<'c> Model for ColumnTest<'c> {
 
 impl<'c> ColumnTest<'c> {
     // Whether the row at this place passes the test.
-    fn lets(&self, rows: &mut BorrowedRows<'_>, at: usize) -> bool
+    fn lets<L: Ledger>(&self, rows: &mut BorrowedRows<'_>, at: usize, steps: &mut Steps<L>) -> bool
         requires { at < length rows.old }
         ensures same { rows.new ≡ rows.old }
         ensures lets { result ≡ lets self.now (slice_index_or rows.old at []) }
     {
-        match rows.value(at, self.column) {
+        match rows.value(at, self.column, steps) {
             Some(value) => decide(self.op, value.compare(&self.constant.lend())),
             None => true,
         }
@@ -116,14 +117,20 @@ pub fn filter_for<'c>(
     Ok(filter)
 }
 
-/// Whether the row at this place passes all the tests. It takes no memory.
-pub fn passes(filter: &[ColumnTest<'_>], rows: &mut BorrowedRows<'_>, at: usize) -> bool
+/// Whether the row at this place passes all the tests. Each value that is looked at is one step. It
+/// takes no memory.
+pub fn passes<L: Ledger>(
+    filter: &[ColumnTest<'_>],
+    rows: &mut BorrowedRows<'_>,
+    at: usize,
+    steps: &mut Steps<L>,
+) -> bool
     requires { at < length rows.old }
     ensures same { rows.new ≡ rows.old }
     ensures passes { result ≡ passes filter.now (slice_index_or rows.old at []) }
 {
     for one in filter {
-        if !one.lets(rows, at) {
+        if !one.lets(rows, at, steps) {
             return false;
         }
     }

@@ -34,9 +34,11 @@ use crate::pending_row::PendingRows;
 use crate::row_value::copy_values;
 use cond_expr::{CmpOp, Cond, Expr, pinned};
 use history_store::{BorrowedRows, GivenRow, StoredTable};
-use prima_base::{ColType, Name, NoMemory, Row, Val, Value};
+use prima_base::{ColType, Name, NoMemory, Row, Steps, Val, Value};
 use smo_ops::{Change, OwnColumns, inserted_row, row_meets, row_with_sets};
 use std::alloc::Global;
+use std::marker::Brand;
+use std::sync::ledger::{Blank, Ledger};
 use version_groups_candidates::{
     filter_for, high_cut, hits_are_between_the_cuts, hits_have_pinned_values, hits_pass_filters,
     lend_rows, low_cut, passes,
@@ -82,13 +84,14 @@ fn put_stored<'a>(
 
 // Puts copies of those of the stored rows that meet the condition and that no change has lost after
 // the hits. A row is looked at whole where it passes a filter of the condition.
-fn put_stored_hits<'a>(
+fn put_stored_hits<'a, L: Ledger>(
     alloc: Global,
     rows: &mut BorrowedRows<'_>,
     pending: &PendingRows<'a>,
     own: &OwnColumns<'_>,
     cond: &Cond,
     hits: &mut Vec<GivenRow<'a>>,
+    steps: &mut Steps<L>,
 ) -> Result<(), NoMemory>
     requires columns { AreColumns own.now }
     ensures { ((row : OneRow) → In row rows.old → IsRow own.now row)
@@ -100,25 +103,30 @@ fn put_stored_hits<'a>(
     let tests = filter_for(alloc, cond, own.atoms(), rows.len())?;
     let mut values = Vec::with_capacity(alloc, own.columns().len())?;
     for at in 0..rows.len() {
-        if !passes(&tests, rows, at) {
+        if !passes(&tests, rows, at, steps) {
             continue;
         }
-        rows.lend(at, &mut values)?;
+        rows.lend(at, &mut values, steps)?;
         put_stored(alloc, pending, own, cond, &values, hits)?;
     }
     Ok(())
 }
 
-// The rows that the table has now and that meet the condition, in any order.
-fn find_hits<'a>(
+// The rows that the table has now and that meet the condition, in any order. What is looked at for
+// it is counted by a counter of the ledger, which nobody asks.
+fn find_hits<'a, L: Ledger>(
     alloc: Global,
     store: &StoredTable,
     pending: &PendingRows<'a>,
     own: &OwnColumns<'_>,
     cond: &Cond,
+    blank: Blank,
 ) -> Result<Vec<GivenRow<'a>>, NoMemory>
     requires columns { AreColumns own.now }
     requires same { store.now.columns ≡ own.now }
+    requires name { blank.name ≡ L.name }
+    requires parts { blank.parts ≡ L.parts }
+    requires some { 0 < blank.parts }
     ensures { (m : ℕ) (now : Relation) → m < forever → AllBefore store.now (m + 1)
         → IsRelation own.now now → LeadsTo pending.now (relation_at store.now m) now
         → IfOk result (λ v. AreHits (meets own.now (test cond.now)) now v.items) }
@@ -130,7 +138,8 @@ fn find_hits<'a>(
     let to = high_cut(alloc, cond, own.atoms())?;
     let mut rows = lend_rows(store, own, cond, &from, &to);
     let mut hits = pending.hits(alloc, own, cond, from, to)?;
-    put_stored_hits(alloc, &mut rows, pending, own, cond, &mut hits)?;
+    let mut steps: Steps<L> = Steps::new(blank);
+    put_stored_hits(alloc, &mut rows, pending, own, cond, &mut hits, &mut steps)?;
     Ok(hits)
 }
 
@@ -226,11 +235,11 @@ fn apply<'a>(
             set_row(store, pending, row, true)
         }
         Change::Delete { cond, .. } => {
-            let lost = find_hits(alloc, store, pending, own, cond)?;
+            let lost = find_hits::<Brand>(alloc, store, pending, own, cond, Blank::new(1))?;
             set_each(store, pending, lost, false)
         }
         Change::Update { sets, cond, .. } => {
-            let lost = find_hits(alloc, store, pending, own, cond)?;
+            let lost = find_hits::<Brand>(alloc, store, pending, own, cond, Blank::new(1))?;
             let gained = images(alloc, own, sets, &lost)?;
             set_each(store, pending, lost, false)?;
             set_each(store, pending, gained, true)

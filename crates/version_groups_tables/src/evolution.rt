@@ -31,11 +31,13 @@ ghost use Rattle.version_groups_tables.specs.Evolving.{IsBegun, Comes, IsEvolved
 
 use crate::made_table::{MadeTable, find_stored, kept_table};
 use history_store::StoredTable;
-use prima_base::{Name, NoMemory, Row};
+use prima_base::{Name, NoMemory, Row, Steps};
 use schema_catalog::{Schema, Table};
 use smo_maps::{Carried, carry};
 use smo_ops::{Made, Op, Version, made, made_of, next_schema_is_valid};
 use std::alloc::Global;
+use std::marker::Brand;
+use std::sync::ledger::{Blank, Ledger};
 
 /// Tables that begin, and the places of a version's own among all that are stored and those.
 #[derive(Drop)]
@@ -44,12 +46,14 @@ pub struct NextTables {
     pub places: Vec<usize>,
 }
 
-// The rows that are stored under the name now; none where there is no such table.
-fn current_rows(
+// The rows that are stored under the name now; none where there is no such table. Each row is one
+// step.
+fn current_rows<L: Ledger>(
     alloc: Global,
     tables: &[MadeTable],
     places: &[usize],
     name: Option<&Name>,
+    steps: &mut Steps<L>,
 ) -> Result<Vec<Row>, NoMemory>
     ensures { (stamp : ℕ) → stamp < forever → AreEarlier stamp (at_places tables.now places.now)
         → IfOk result (λ rows. rows.items ≡ rows_named stamp (option_copied name.entry)
@@ -59,7 +63,7 @@ fn current_rows(
         return Ok(Vec::new(alloc));
     };
     match find_stored(tables, places, name) {
-        Some(store) => store.current(),
+        Some(store) => store.current(steps),
         None => Ok(Vec::new(alloc)),
     }
 }
@@ -216,27 +220,33 @@ fn next_tables(
     Ok(NextTables { begun, places: own })
 }
 
-// The rows that the operator makes of those that are stored now.
-fn migrate_rows(
+// The rows that the operator makes of those that are stored now. What is read for it is counted by
+// a counter of the ledger, which nobody asks.
+fn migrate_rows<L: Ledger>(
     alloc: Global,
     before: &Schema,
     tables: &[MadeTable],
     places: &[usize],
     op: &Op,
+    blank: Blank,
 ) -> Result<Carried, NoMemory>
     requires schema { IsValid before.now }
     requires accepted { op_fault before.now (operator_of op.now) ≡ None }
     requires stored { (stamp : ℕ) × (stamp < forever) × (database : Database)
         × IsDatabase before.now database × AreStored before.now database stamp
         (at_places tables.now places.now) }
+    requires name { blank.name ≡ L.name }
+    requires parts { blank.parts ≡ L.parts }
+    requires some { 0 < blank.parts }
     ensures { (stamp : ℕ) → stamp < forever → (database : Database) → IsDatabase before.now database
         → AreStored before.now database stamp (at_places tables.now places.now)
         → IfOk result (λ c. Has (made_names (line before.now (operator_of op.now)).made)
         (migrate before.now (operator_of op.now) database) c.first.items c.second.items) }
 {
     let given = made_of(op);
-    let first = current_rows(alloc, tables, places, given.first)?;
-    let second = current_rows(alloc, tables, places, given.second)?;
+    let mut steps: Steps<L> = Steps::new(blank);
+    let first = current_rows(alloc, tables, places, given.first, &mut steps)?;
+    let second = current_rows(alloc, tables, places, given.second, &mut steps)?;
     carry(alloc, op, before, &first, &second)
 }
 
@@ -267,7 +277,7 @@ pub fn begin_version(
         (version_of version.now) t.begun.items t.places.items) }
 {
     next_schema_is_valid();
-    let rows = migrate_rows(alloc, before, tables, places, &version.op)?;
+    let rows = migrate_rows::<Brand>(alloc, before, tables, places, &version.op, Blank::new(1))?;
     next_tables(
         alloc,
         number,

@@ -17,7 +17,7 @@ use Rattle.version_groups_changes.proofs.PendingLaws.{as_ascends, has_now, hits_
 use Rattle.version_groups_changes.proofs.pending_changes.find_hits.Goals as goal
 
 pub returns : goal.returns
-returns c = λ m now l h r e.
+returns g c = λ m now l h r e.
     let its = c.args.own.now in
     let t = test c.args.cond.now in
     let stored = relation_at c.args.store.now m in

@@ -16,13 +16,13 @@ use Rattle.version_groups_changes.proofs.PendingSteps.{all_valid, passed_more, i
 use Rattle.version_groups_changes.proofs.pending_changes.put_stored_hits.Goals as goal
 
 pub put_stored-requires : goal.put_stored-requires
-put_stored-requires c = subst (λ (vs : List Val). AreValid vs)
+put_stored-requires g c = subst (λ (vs : List Val). AreValid vs)
     (sym c.deref-in-loop-at.ensures.value) (all_valid c.lend.new.row.items
     c.in_ok-lend.ensures.valid)
 
 -- a row that fails a test does not meet the condition
 pub loop-at-preserved-then-not-passes : goal.loop-at-preserved-then-not-passes
-loop-at-preserved-then-not-passes c =
+loop-at-preserved-then-not-passes g c =
     let its = c.args.own.now in
     let t = test c.args.cond.now in
     let rows = c.args.rows.now in
@@ -50,7 +50,7 @@ loop-at-preserved-then-not-passes c =
     }
 
 pub loop-at-preserved : goal.loop-at-preserved
-loop-at-preserved c =
+loop-at-preserved g c =
     let rows = c.args.rows.now in
     let row = map shown c.deref-in-loop-at.result.now in
     let same = c.passes.ensures.same ∙ c.loop-at.invariant.same in

@@ -9,7 +9,7 @@ use Rattle.version_groups_changes.specs.PendingChanges.{is_kept}
 use Rattle.version_groups_changes.proofs.pending_changes.put_stored_hits.Given as goal
 
 abbrev pub invariant-loop-at : goal.invariant-loop-at
-invariant-loop-at l = record {
+invariant-loop-at g l = record {
   same : l.rows ≡ l.fn.rows;
   hits : ((row : Row) → In row l.fn.rows → IsRow l.own row)
       → l.hits.items ≡ l.fn.hits.items ++ filter

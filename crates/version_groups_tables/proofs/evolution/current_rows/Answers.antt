@@ -11,7 +11,7 @@ use Rattle.version_groups_changes.proofs.Applying.{all_later}
 use Rattle.version_groups_tables.proofs.evolution.current_rows.Goals as goal
 
 pub returns-in-Some-find_stored : goal.returns-in-Some-find_stored
-returns-in-Some-find_stored c = λ stamp valid earlier.
+returns-in-Some-find_stored g c = λ stamp valid earlier.
     let s = c.in-Some-find_stored.store.now in
     let group = at_places c.args.tables.now c.args.places.now in
     let under : Some s ≡ stored_as c.in-Some.name.now group = c.in-Some-find_stored.ensures in

@@ -8,7 +8,7 @@ use Rattle.version_groups_tables.proofs.GivenTables.{given_there, are_earlier, h
 use Rattle.version_groups_tables.proofs.evolution.migrate_rows.Goals as goal
 
 pub returns : goal.returns
-returns c = λ stamp valid database whole stored.
+returns g c = λ stamp valid database whole stored.
     let op = operator_of c.args.op.now in
     let earlier = are_earlier c.args.before.now database stamp
     (at_places c.args.tables.now c.args.places.now) stored in

@@ -9,14 +9,14 @@ use Rattle.history_store_change_spec.proofs.Showing.{relation_now, current_relat
 use Rattle.history_store.proofs.table.StoredTable.current.Goals as goal
 
 pub copy_rows-requires : goal.copy_rows-requires
-copy_rows-requires c =
+copy_rows-requires g c =
     let a = c.self.inside in
     all_known a.live.ids c.deref-2.result.now a.keys.items a.logs.items c.deref.result.now
     (c.deref-2.ensures.value ∙ c.in_ok-copy.ensures) c.deref.ensures.value
     c.self.invariant.kept.stored.are_open c.self.invariant.ids
 
 pub returns-clause-rows : goal.returns-clause-rows
-returns-clause-rows c m l h =
+returns-clause-rows g c m l h =
     let a = c.self.inside in
     let b = rw (← c.self.view_is) at h in
     let e = relation_now a.columns.items a.keys.items (cells_of a.logs.items) a.live.ids _ m
@@ -25,10 +25,10 @@ returns-clause-rows c m l h =
       c.deref.ensures.value,
       c.deref-2.ensures.value,
       c.in_ok-copy.ensures,
-    ) at c.copy_rows.ensures)
+    ) at c.copy_rows.ensures.rows)
 
 pub returns-clause-relation : goal.returns-clause-relation
-returns-clause-relation c =
+returns-clause-relation g c =
     let a = c.self.inside in
     let r = current_relation a.columns.items a.keys.items (cells_of a.logs.items) a.live.ids
     c.self.invariant.kept in
@@ -37,4 +37,4 @@ returns-clause-relation c =
     (λ v. IsRelation a.columns.items v.items)
     (λ v e. subst (λ (rs : List (List Value)). IsRelation a.columns.items rs) (sym e) r)
     (rw (c.deref.ensures.value, c.deref-2.ensures.value, c.in_ok-copy.ensures) at
-    c.copy_rows.ensures))
+    c.copy_rows.ensures.rows))

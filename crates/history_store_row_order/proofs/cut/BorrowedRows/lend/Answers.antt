@@ -6,7 +6,7 @@ use Rattle.history_store_row_order.proofs.Cutting.{length-part, get_or-part}
 use Rattle.history_store_row_order.proofs.cut.BorrowedRows.lend.Goals as goal
 
 pub overflow_add-self-inside : goal.overflow_add-self-inside
-overflow_add-self-inside c =
+overflow_add-self-inside g c =
     let a = c.self.inside in
     let b : c.args.at < a.end - a.start = subst (λ n. c.args.at < n)
     (ap length (sym c.self.view_is) ∙ length-part a.index.now.ids a.start a.end
@@ -15,7 +15,7 @@ overflow_add-self-inside c =
     omega (arith, b)
 
 pub id_near-id-requires : goal.id_near-id-requires
-id_near-id-requires c =
+id_near-id-requires g c =
     let a = c.self.inside in
     let b : c.args.at < a.end - a.start = subst (λ n. c.args.at < n)
     (ap length (sym c.self.view_is) ∙ length-part a.index.now.ids a.start a.end
@@ -24,7 +24,7 @@ id_near-id-requires c =
     omega (arith, b, c.self.invariant.order, c.self.invariant.within)
 
 pub lend_now-requires : goal.lend_now-requires
-lend_now-requires c = λ k d h.
+lend_now-requires g c = λ k d h.
     let a = c.self.inside in
     let b : c.args.at < a.end - a.start = subst (λ n. c.args.at < n)
     (ap length (sym c.self.view_is) ∙ length-part a.index.now.ids a.start a.end
@@ -35,7 +35,7 @@ lend_now-requires c = λ k d h.
     (omega (arith, b, c.self.invariant.order, c.self.invariant.within))) k d h)
 
 pub returns-clause-values : goal.returns-clause-values
-returns-clause-values c =
+returns-clause-values g c =
     let a = c.self.inside in
     let b : c.args.at < a.end - a.start = subst (λ n. c.args.at < n)
     (ap length (sym c.self.view_is) ∙ length-part a.index.now.ids a.start a.end

@@ -12,7 +12,7 @@ use Rattle.history_store_row_order.proofs.Cells.{length-cells_of, cells_at}
 use Rattle.history_store_row_order.proofs.cut.BorrowedRows.value.Goals as goal
 
 pub overflow_add-self-inside : goal.overflow_add-self-inside
-overflow_add-self-inside c =
+overflow_add-self-inside g c =
     let a = c.self.inside in
     let b : c.args.at < a.end - a.start = subst (λ n. c.args.at < n)
     (ap length (sym c.self.view_is) ∙ length-part a.index.now.ids a.start a.end
@@ -21,7 +21,7 @@ overflow_add-self-inside c =
     omega (arith, b)
 
 pub id_near-id-requires : goal.id_near-id-requires
-id_near-id-requires c =
+id_near-id-requires g c =
     let a = c.self.inside in
     let b : c.args.at < a.end - a.start = subst (λ n. c.args.at < n)
     (ap length (sym c.self.view_is) ∙ length-part a.index.now.ids a.start a.end
@@ -30,7 +30,7 @@ id_near-id-requires c =
     omega (arith, b, c.self.invariant.order, c.self.invariant.within)
 
 pub returns-then-column-columns-clause-value : goal.returns-then-column-columns-clause-value
-returns-then-column-columns-clause-value c =
+returns-then-column-columns-clause-value g c =
     let a = c.self.inside in
     let b : c.args.at < a.end - a.start = subst (λ n. c.args.at < n)
     (ap length (sym c.self.view_is) ∙ length-part a.index.now.ids a.start a.end
@@ -47,7 +47,7 @@ returns-then-column-columns-clause-value c =
     (cells_of a.columns.now) past)
 
 pub newest-requires : goal.newest-requires
-newest-requires c =
+newest-requires g c =
     let a = c.self.inside in
     let b : c.args.at < a.end - a.start = subst (λ n. c.args.at < n)
     (ap length (sym c.self.view_is) ∙ length-part a.index.now.ids a.start a.end
@@ -62,7 +62,7 @@ newest-requires c =
     (c.self.invariant.known id there c.args.column one inside))
 
 pub returns-clause-value : goal.returns-clause-value
-returns-clause-value c =
+returns-clause-value g c =
     let a = c.self.inside in
     let b : c.args.at < a.end - a.start = subst (λ n. c.args.at < n)
     (ap length (sym c.self.view_is) ∙ length-part a.index.now.ids a.start a.end
