@@ -17,7 +17,7 @@ use Rattle.schema_catalog.specs.Tables.{Tables}
 use Rattle.schema_catalog.specs.Databases.{cell, Rows, Database}
 use Rattle.cond_expr.specs.declared.expr.CmpOp.TheVariants.{Eq, Lt, Gt}
 use Rattle.cond_expr.specs.Trees.{Tree, length_of, joined, choose, a_tree, no_trees, Test, compared}
-use Rattle.cond_expr.specs.Trees.{fails}
+use Rattle.cond_expr.specs.Trees.{fails, always}
 use Rattle.smo_ops_types.specs.Operators.{nop, create_table, drop_table, rename_table, copy_table}
 use Rattle.smo_ops_types.specs.Operators.{merge_table, partition_table, decompose_table, join_table}
 use Rattle.smo_ops_types.specs.Operators.{add_column, drop_column, rename_column}
@@ -432,3 +432,73 @@ join_twice_means : together_mean to_join (unfoldings ((t, paired r ab s ac above
     (greater t)) ≡ texts (xy ∷ [])
 unfolding set_of
 join_twice_means = refl
+
+-- ---- two rules, by meaning: each over a database of the tables before its operator
+
+-- PARTITION TABLE t INTO low WITH a < 10, high: what stands for `SELECT a = t0.a FROM low WHERE
+-- TRUE` means over a table t with 5 and 20 the one row 5
+abbrev low : List ℕ
+low = 108 ∷ 111 ∷ 119 ∷ []
+
+abbrev high : List ℕ
+high = 104 ∷ 105 ∷ 103 ∷ 104 ∷ []
+
+abbrev five_and_twenty : List Table
+five_and_twenty = table t ((a, INT) ∷ []) (ints (5 ∷ 20 ∷ [])) ∷ []
+
+abbrev all_low : PlainPiece
+all_low = a_piece (low ∷ []) always ((a, at 0 a) ∷ [])
+
+abbrev low_pieces : Tables → List PlainPiece
+low_pieces tables = unfoldings (operator_views tables (partition_table t low below_ten high))
+    all_low
+
+low_pieces_mean : (tables : Tables) → together_mean five_and_twenty (low_pieces tables)
+    ≡ ints (5 ∷ [])
+unfolding set_of
+low_pieces_mean tables = refl
+
+low_is_five : all_mean (tables_in five_and_twenty) (database_in five_and_twenty)
+    (low_pieces (tables_in five_and_twenty)) ≡ ints (5 ∷ [])
+low_is_five = meanings_there five_and_twenty (low_pieces (tables_in five_and_twenty))
+    ∙ low_pieces_mean (tables_in five_and_twenty)
+
+-- JOIN TABLE r, s INTO t WHERE y > 0: what stands for `SELECT x = t0.x FROM t WHERE TRUE` means,
+-- over a table r (k, x) with (1, 'a') and (2, 'b') and a table s (k, y) with (1, 5), the one row
+-- 'a'
+abbrev k : List ℕ
+k = 107 ∷ []
+
+abbrev kx : List Column
+kx = (k, INT) ∷ (x, TEXT) ∷ []
+
+abbrev ky : List Column
+ky = (k, INT) ∷ (y, INT) ∷ []
+
+abbrev keyed : List Table
+keyed = table r kx (row 1 a ∷ row 2 b ∷ []) ∷ table s ky ((int 1 ∷ int 5 ∷ []) ∷ []) ∷ []
+
+abbrev above_zero : Test
+above_zero = compared Gt (at 0 y) (number 0)
+
+abbrev all_x : PlainPiece
+all_x = a_piece (t ∷ []) always ((x, at 0 x) ∷ [])
+
+abbrev x_pieces : List PlainPiece
+x_pieces = unfoldings (operator_views (tables_in keyed) (join_table r s t above_zero)) all_x
+
+keyed_views : operator_views (tables_in keyed) (join_table r s t above_zero)
+    ≡ (t, paired r kx s ky above_zero ∷ []) ∷ []
+keyed_views = ap (λ cs. (t, paired r cs s (columns_of (tables_in keyed) s) above_zero ∷ []) ∷ [])
+    (columns_there keyed r) ∙ ap (λ cs. (t, paired r kx s cs above_zero ∷ []) ∷ [])
+    (columns_there keyed s)
+
+keyed_pieces_mean : together_mean keyed (unfoldings ((t, paired r kx s ky above_zero ∷ []) ∷ [])
+    all_x) ≡ texts (a ∷ [])
+unfolding set_of
+keyed_pieces_mean = refl
+
+joined_is_a : all_mean (tables_in keyed) (database_in keyed) x_pieces ≡ texts (a ∷ [])
+joined_is_a = meanings_there keyed x_pieces
+    ∙ ap (λ (views : Views). together_mean keyed (unfoldings views all_x)) keyed_views
+    ∙ keyed_pieces_mean
