@@ -110,32 +110,50 @@ fn first_values(alloc: Global, row: &Row, len: usize) -> Result<Vec<Value>, NoMe
     Ok(values)
 }
 
-// A cut, and whether it is after the rows that begin with its values.
+// How many of the rows, which ascend, are before the cut at these values.
+fn count_before(rows: &[Vec<Val<'_>>], values: &[Value], after: bool) -> usize {
+    let mut count: usize = 0;
+    for row in rows {
+        if is_before(row, values, after) {
+            count = count.wrapping_add(1);
+        }
+    }
+    count
+}
+
+// A cut, and how many rows are before it.
 #[derive(Drop)]
 struct PlainCut {
     cut: Cut,
-    after: bool,
+    before: usize,
 }
 
-impl PlainCut {
-    fn has_before(&self, row: &[Val<'_>]) -> bool {
-        is_before(row, self.cut.values(), self.after)
-    }
+// The cut before, or with `after` behind, what begins with the first values of the row, so many of
+// them.
+fn cut_at(
+    alloc: Global,
+    rows: &[Vec<Val<'_>>],
+    row: &Row,
+    len: usize,
+    after: bool,
+) -> Result<PlainCut, NoMemory> {
+    let values = first_values(alloc, row, len)?;
+    let before = count_before(rows, &values, after);
+    let cut = if after {
+        Cut::after(values)
+    } else {
+        Cut::before(values)
+    };
+    Ok(PlainCut { cut, before })
 }
 
 // The cuts at the row: before and after what begins with none of its values, with the first of
 // them, and so on.
-fn cuts_at(alloc: Global, row: &Row) -> Result<Vec<PlainCut>, NoMemory> {
+fn cuts_at(alloc: Global, rows: &[Vec<Val<'_>>], row: &Row) -> Result<Vec<PlainCut>, NoMemory> {
     let mut cuts = Vec::new(alloc);
     for len in 0..=row.values().len() {
-        cuts.push(PlainCut {
-            cut: Cut::before(first_values(alloc, row, len)?),
-            after: false,
-        })?;
-        cuts.push(PlainCut {
-            cut: Cut::after(first_values(alloc, row, len)?),
-            after: true,
-        })?;
+        cuts.push(cut_at(alloc, rows, row, len, false)?)?;
+        cuts.push(cut_at(alloc, rows, row, len, true)?)?;
     }
     Ok(cuts)
 }
@@ -192,10 +210,8 @@ impl<'a> Sides<'a> {
         to: &PlainCut,
     ) -> Result<bool, NoMemory> {
         let mut places = Vec::new(self.alloc);
-        for (place, row) in rows.iter().enumerate() {
-            if !from.has_before(row) && to.has_before(row) {
-                places.push(place)?;
-            }
+        for place in from.before..to.before {
+            places.push(place)?;
         }
         match between(self.stored, &from.cut, &to.cut) {
             Some(borrowed) => {
@@ -207,7 +223,7 @@ impl<'a> Sides<'a> {
 
     // The same for each two cuts at the row.
     fn same_cuts(self, rows: &[Vec<Val<'_>>], row: &Row) -> Result<bool, NoMemory> {
-        let cuts = cuts_at(self.alloc, row)?;
+        let cuts = cuts_at(self.alloc, rows, row)?;
         for from in &cuts {
             for to in &cuts {
                 if !self.same_between(rows, from, to)? {

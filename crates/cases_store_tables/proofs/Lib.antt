@@ -1,3 +1,4 @@
 pub mod TestedLaws
 pub mod ScannedLaws
 pub mod RowOrderLaws
+pub mod HalvedCells

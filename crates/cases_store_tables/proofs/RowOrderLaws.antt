@@ -1,12 +1,12 @@
 -- Rows in order, and the values of one row at a moment.
 use Rattle.std.specs.Prelude.{◌≡◌, ℕ, zero, suc, ◌+◌, ◌<◌, ◌&&◌, ◌==◌, Bool, true, false, List, []}
-use Rattle.std.specs.Prelude.{◌∷◌, ◌++◌, length, slice_index_or, if◌then◌else◌, All}
+use Rattle.std.specs.Prelude.{◌∷◌, ◌++◌, length, slice_index_or, if◌then◌else◌}
 use Rattle.std.proofs.Common.{refl, sym, ap, subst, ◌∙◌, inl, inr, append_assoc, arith}
 use Rattle.std.specs.List.Sorted.{IsPermutation}
 use Rattle.std.proofs.lemmas.List.Sorted.{All-permutation, IsPermutation-sym}
 use Rattle.std.specs.declared.cmp.Ordering.{Ordering}
 use Rattle.std.specs.declared.cmp.Ordering.TheVariants.{Less}
-use Rattle.relations_spec.specs.Sets.{In, Same, BeforeAll, Ascends, IsExact}
+use Rattle.relations_spec.specs.Sets.{In, Same, Ascends, IsExact}
 use Rattle.relations_spec.specs.Spans.{covers}
 use Rattle.relations_spec.proofs.SetLaws.{before_in, below_each}
 use Rattle.prima_base.specs.declared.value.Value.{Value}
@@ -29,12 +29,14 @@ adjacent_ascend cmp o (x ∷ (y ∷ ys)) h =
       rest,
     )
 
--- ids that are moved about
-in_get : (ids : List ℕ) (k d : ℕ) → k < length ids → In (slice_index_or ids k d) ids
+-- what stands at a place is in the list
+pub in_get : {X : Type 0} (xs : List X) (k : ℕ) (d : X) → k < length xs
+    → In (slice_index_or xs k d) xs
 in_get [] k d l = absurd (omega (arith, l))
-in_get (x ∷ ids) zero d l = inl refl
-in_get (x ∷ ids) (suc k) d l = inr (in_get ids k d (omega (arith, l)))
+in_get (x ∷ xs) zero d l = inl refl
+in_get (x ∷ xs) (suc k) d l = inr (in_get xs k d (omega (arith, l)))
 
+-- ids that are moved about
 pub same_sorted : (ids sorted : List ℕ) → IsPermutation ids sorted → Same ids sorted
 same_sorted ids sorted p = record {
   there = λ q i. in_all (λ x. In x sorted) q ids
@@ -45,7 +47,7 @@ same_sorted ids sorted p = record {
 }
 
 -- what the first cell shows, and the others
-shown_first : (id m : ℕ) (c : Cell) (rest : List Cell)
+pub shown_first : (id m : ℕ) (c : Cell) (rest : List Cell)
     → shown_at id m (c ∷ rest) ≡ shown_at id m (c ∷ []) ++ shown_at id m rest
 shown_first id m c rest = step (c.id == id && covers c.period m)
   where

@@ -7,7 +7,7 @@ ghost use Rattle.relations_spec.specs.Sets.{Same, Ascends};
 ghost use Rattle.relations_spec.specs.Spans.{forever};
 ghost use Rattle.prima_base.specs.Order.{row_cmp, shown};
 ghost use Rattle.prima_base.specs.Columns.{IsValid};
-ghost use Rattle.history_store.specs.Store.{shown_at, row_at};
+ghost use Rattle.history_store.specs.Store.{shown_at, row_at, cell_cmp};
 ghost use Rattle.history_store.specs.Change.{ids_from, rows_along};
 ghost use Rattle.history_store.specs.Restoring.{cell_of, entries_of, IsInOrder};
 
@@ -78,23 +78,37 @@ fn add_value<'a>(cell: &Cell<'a>, id: usize, values: &mut Vec<Val<'a>>) -> Resul
     Ok(())
 }
 
-// Puts what the row with this id has in the column now after its other values.
+// Puts what the row with this id has in the column now after its other values. The cells ascend by
+// id, and are halved until those of this id alone are left.
 fn add_values<'a>(cells: &[Cell<'a>], id: usize, values: &mut Vec<Val<'a>>) -> Result<(), NoMemory>
     requires cells { All (λ c. IsValid c.value) (map cell_of cells.now) }
+    requires ascending { Ascends cell_cmp (map cell_of cells.now) }
     requires values { All (λ v. IsValid (shown v)) values.old.items }
     ensures values { OnOk result (map shown values.new.items ≡ map shown values.old.items
         ++ shown_at id (forever - 1) (map cell_of cells.now)) }
     ensures valid { OnOk result (All (λ v. IsValid (shown v)) values.new.items) }
 {
-    for cell in cells {
-        add_value(cell, id, values)?;
+    match cells {
+        [] => Ok(()),
+        [cell] => add_value(cell, id, values),
+        _ => {
+            let (left, right) = cells.split_at(cells.len() / 2);
+            match right[0].id.cmp(&(id as u64)) {
+                Ordering::Less => add_values(right, id, values),
+                Ordering::Greater => add_values(left, id, values),
+                Ordering::Equal => {
+                    add_values(left, id, values)?;
+                    add_values(right, id, values)
+                }
+            }
+        }
     }
-    Ok(())
 }
 
 // The row with this id, as it is now.
 fn row_of<'a>(alloc: Global, columns: &[Vec<Cell<'a>>], id: usize) -> Result<GivenRow<'a>, NoMemory>
-    requires { All (All (λ c. IsValid c.value)) (entries_of columns.now) }
+    requires values { All (All (λ c. IsValid c.value)) (entries_of columns.now) }
+    requires ascending { All (Ascends cell_cmp) (entries_of columns.now) }
     ensures { IfOk result (λ row. row ≡ row_at id (forever - 1) (entries_of columns.now)) }
 {
     let mut values = Vec::new(alloc);
@@ -110,7 +124,8 @@ fn rows_of<'a>(
     columns: &[Vec<Cell<'a>>],
     ids: &[usize],
 ) -> Result<Vec<GivenRow<'a>>, NoMemory>
-    requires { All (All (λ c. IsValid c.value)) (entries_of columns.now) }
+    requires values { All (All (λ c. IsValid c.value)) (entries_of columns.now) }
+    requires ascending { All (Ascends cell_cmp) (entries_of columns.now) }
     ensures { IfOk result (λ v. v.items
         ≡ rows_along ids.now (forever - 1) (entries_of columns.now)) }
 {
@@ -141,7 +156,8 @@ pub(crate) fn are_in_order(
     columns: &[Vec<Cell<'_>>],
     ids: &[usize],
 ) -> Result<bool, NoMemory>
-    requires { All (All (λ c. IsValid c.value)) (entries_of columns.now) }
+    requires values { All (All (λ c. IsValid c.value)) (entries_of columns.now) }
+    requires ascending { All (Ascends cell_cmp) (entries_of columns.now) }
     ensures { IfOk result (λ b. b ≡ true → IsInOrder keys.now (entries_of columns.now) ids.now) }
 {
     if !are_open(alloc, keys, ids)? {
