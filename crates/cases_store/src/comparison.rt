@@ -57,7 +57,7 @@ fn are_same(values: &[Val<'_>], others: &[Val<'_>]) -> bool {
 
 // Whether the borrowed rows are those at these places, in their order, looked at with a counter of
 // the ledger.
-fn are_borrowed<L: Ledger>(
+fn are_borrowed_counted<L: Ledger>(
     alloc: Global,
     mut borrowed: BorrowedRows<'_>,
     rows: &[Vec<Val<'_>>],
@@ -85,6 +85,16 @@ fn are_borrowed<L: Ledger>(
         }
     }
     Ok(borrowed.len() == places.len())
+}
+
+// The same; nobody asks the counter.
+fn are_borrowed(
+    alloc: Global,
+    borrowed: BorrowedRows<'_>,
+    rows: &[Vec<Val<'_>>],
+    places: &[usize],
+) -> Result<bool, NoMemory> {
+    are_borrowed_counted::<Brand>(alloc, borrowed, rows, places, Blank::new(1))
 }
 
 // Whether the row is before those that begin with these values, or, with `after`, not after them.
@@ -214,9 +224,7 @@ impl<'a> Sides<'a> {
             places.push(place)?;
         }
         match between(self.stored, &from.cut, &to.cut) {
-            Some(borrowed) => {
-                are_borrowed::<Brand>(self.alloc, borrowed, rows, &places, Blank::new(1))
-            }
+            Some(borrowed) => are_borrowed(self.alloc, borrowed, rows, &places),
             None => Ok(false),
         }
     }
@@ -253,7 +261,7 @@ impl<'a> Sides<'a> {
                 places.push(place)?;
             }
         }
-        are_borrowed::<Brand>(self.alloc, borrowed, rows, &places, Blank::new(1))
+        are_borrowed(self.alloc, borrowed, rows, &places)
     }
 
     // The same for each value of the row, each column, and one column too many.

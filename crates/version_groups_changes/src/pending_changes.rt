@@ -113,8 +113,8 @@ fn put_stored_hits<'a, L: Ledger>(
 }
 
 // The rows that the table has now and that meet the condition, in any order. What is looked at for
-// it is counted by a counter of the ledger, which nobody asks.
-fn find_hits<'a, L: Ledger>(
+// it is counted by a counter of the ledger.
+fn find_hits_counted<'a, L: Ledger>(
     alloc: Global,
     store: &StoredTable,
     pending: &PendingRows<'a>,
@@ -141,6 +141,23 @@ fn find_hits<'a, L: Ledger>(
     let mut steps: Steps<L> = Steps::new(blank);
     put_stored_hits(alloc, &mut rows, pending, own, cond, &mut hits, &mut steps)?;
     Ok(hits)
+}
+
+// The same; nobody asks the counter.
+fn find_hits<'a>(
+    alloc: Global,
+    store: &StoredTable,
+    pending: &PendingRows<'a>,
+    own: &OwnColumns<'_>,
+    cond: &Cond,
+) -> Result<Vec<GivenRow<'a>>, NoMemory>
+    requires columns { AreColumns own.now }
+    requires same { store.now.columns ≡ own.now }
+    ensures { (m : ℕ) (now : Relation) → m < forever → AllBefore store.now (m + 1)
+        → IsRelation own.now now → LeadsTo pending.now (relation_at store.now m) now
+        → IfOk result (λ v. AreHits (meets own.now (test cond.now)) now v.items) }
+{
+    find_hits_counted::<Brand>(alloc, store, pending, own, cond, Blank::new(1))
 }
 
 /// The row that an INSERT of these cells gives, its texts borrowed from them. The one error is
@@ -235,11 +252,11 @@ fn apply<'a>(
             set_row(store, pending, row, true)
         }
         Change::Delete { cond, .. } => {
-            let lost = find_hits::<Brand>(alloc, store, pending, own, cond, Blank::new(1))?;
+            let lost = find_hits(alloc, store, pending, own, cond)?;
             set_each(store, pending, lost, false)
         }
         Change::Update { sets, cond, .. } => {
-            let lost = find_hits::<Brand>(alloc, store, pending, own, cond, Blank::new(1))?;
+            let lost = find_hits(alloc, store, pending, own, cond)?;
             let gained = images(alloc, own, sets, &lost)?;
             set_each(store, pending, lost, false)?;
             set_each(store, pending, gained, true)

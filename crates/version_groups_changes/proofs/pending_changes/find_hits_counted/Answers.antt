@@ -14,7 +14,7 @@ use Rattle.smo_ops_spec.specs.OneRow.{Row, Relation, meets}
 use Rattle.version_groups_changes.specs.PendingChanges.{AreHits, CanBeHits}
 use Rattle.version_groups_candidates.specs.Ranges.{low_cut, high_cut}
 use Rattle.version_groups_changes.proofs.PendingLaws.{as_ascends, has_now, hits_are}
-use Rattle.version_groups_changes.proofs.pending_changes.find_hits.Goals as goal
+use Rattle.version_groups_changes.proofs.pending_changes.find_hits_counted.Goals as goal
 
 pub returns : goal.returns
 returns g c = λ m now l h r e.
