@@ -37,21 +37,15 @@ fn open_ids(alloc: Global, keys: &[Period]) -> Result<Vec<usize>, NoMemory>
 fn are_equal(ids: &[usize], others: &[usize]) -> bool
     ensures { result ≡ true → ids.now ≡ others.now }
 {
-    match ids {
-        [] => match others {
-            [] => true,
-            _ => false,
-        },
-        [id, ids @ ..] => match others {
-            [] => false,
-            [other, others @ ..] => {
-                if *id != *other {
-                    return false;
-                }
-                are_equal(ids, others)
-            }
-        },
+    if ids.len() != others.len() {
+        return false;
     }
+    for place in 0..ids.len() {
+        if ids[place] != others[place] {
+            return false;
+        }
+    }
+    true
 }
 
 // Whether the ids are those of the keys that go on.
