@@ -126,8 +126,6 @@ pub struct RuleBook<R: Rule> {
     pub rules: Vec<R>,
     // no kind of operator is without a rule
     pub ghost each: { missing (map R.handles rules.items) ≡ None },
-    // together they are a valid book
-    pub ghost valid: { IsValidBook (book_of R.handles R.answers rules.items) },
 }
 
 impl<R: Rule> RuleBook<R> {
@@ -143,14 +141,15 @@ impl<R: Rule> RuleBook<R> {
         ensures fault { IfErr result (λ fault. IsFault (map R.handles rules.items) fault) }
     {
         check_rules(alloc, &rules)?;
-        known(&rules);
         Ok(RuleBook { rules })
     }
 
     /// Nothing is done: the book is valid.
     pub fn known(&self)
         ensures { IsValidBook (book_of R.handles R.answers self.now.rules.items) }
-    {}
+    {
+        known(&self.rules);
+    }
 
     /// What the rule of the operator's kind answers. The operator is accepted on the valid schema
     /// before it, and the piece is well-typed over the schema after it. The one error is
