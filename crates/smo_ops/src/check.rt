@@ -177,8 +177,8 @@ fn check_in_table(
     }
 }
 
-/// Whether a change is accepted over a schema, and else its first refusal in order of precedence:
-/// its table (22); of the columns of an INSERT or the set columns of an UPDATE, in written order, for
+/// Whether a change is accepted over a schema, and else its first refusal in the one order: its
+/// table (22); of the columns of an INSERT or the set columns of an UPDATE, in written order, for
 /// each whether it stood before (27) and whether it is unknown (23); of an INSERT the first missing
 /// column in name order (35); the references of its expressions and its condition, in written order
 /// (23); its types (25). Places count nodes from `first_node` on, which is below 2^31; of an INSERT

@@ -1,4 +1,4 @@
--- Whether a command is accepted after a past: the first refusal in order of precedence.
+-- Whether a command is accepted after a past: the first refusal in the one order.
 use Rattle.std.specs.Prelude.{ℕ, List, ◌∷◌, length, nat_lt, Option, Some, None}
 use Rattle.std.specs.Option.{option_map}
 use Rattle.prima_base.specs.declared.refusal.What.TheVariants.{Versions}
