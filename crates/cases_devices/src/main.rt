@@ -12,7 +12,7 @@
 //! - `run` runs the script over the file, keeps the file that is left, and forgets the script;
 //! - `ends` does the same, and tells no bytes of the file;
 //! - `opens` mounts the archive of the file, and tells how many commands it counts, and how many of
-//!   them it carries out again;
+//!   them it applies again;
 //! - `later TEXT` puts a line after those of the script that is run afterwards over the file that
 //!   is left;
 //! - `chunk N`: the source hands out at most N bytes a call;

@@ -68,15 +68,6 @@ module _ {A X : Type 0} (view : X → A) (p : Parser A) (count i : ℕ) (start t
       ∙ ap (λ k. prepend k (items p (count - (i + 1)) rest))
       (sym (ap (map view) pushed ∙ map-append view l (x ∷ [])))
 
--- the same, where the items are kept as they are
-pub one_more_item : {A : Type 0} (p : Parser A) (count i : ℕ) (start ts : List ℕ) (l : List A)
-    → SoMany p count (count - i) start ts l → (more : List A) (a : A) (rest : List ℕ)
-    → more ≡ l ++ a ∷ [] → i < count → p ts ≡ Parsed a rest
-    → SoMany p count (count - (i + 1)) start rest more
-one_more_item p count i start ts l so more a rest pushed h e =
-    one_item p count i start ts l so a rest h e
-    ∙ ap (λ k. prepend k (items p (count - (i + 1)) rest)) (sym pushed)
-
 -- the same with the count in prefix
 module _ {A : Type 0} (p : Parser A) (k most count i : ℕ) (start us ts : List ℕ) (l : List A)
     (counted : digits most k 0 start ≡ Parsed count us)

@@ -7,6 +7,7 @@ ghost use Rattle.command_codec_spec.specs.Reader as spec;
 ghost use Rattle.command_codec.specs.Reads.{Reads};
 
 use crate::field::{name, value};
+use crate::list::{Listed, read_list};
 use crate::operator_reader::{op, ops};
 use crate::reader::{ReadStop, Reader};
 use crate::tree_reader::{outer_cond, outer_expr};
@@ -25,17 +26,24 @@ fn cell(alloc: Global, reader: &mut Reader<'_>) -> Result<(Name, Value), ReadSto
     Ok((column, value))
 }
 
+// A column's name and its value, in a list.
+impl Listed for (Name, Value) {
+    ghost use Rattle.command_codec_spec.specs.Reader as spec;
+    ghost use Rattle.command_codec.specs.Items.{item_of};
+
+    ghost item = { item_of spec.cell (λ c. c) };
+
+    fn read(alloc: Global, reader: &mut Reader<'_>) -> Result<(Name, Value), ReadStop> {
+        cell(alloc, reader)
+    }
+}
+
 // Cells, with their count before them.
 #[tactic(auto, unfolding(command_codec_spec::specs::Reader::cells))]
 fn cells(alloc: Global, reader: &mut Reader<'_>) -> Result<Vec<(Name, Value)>, ReadStop>
     ensures { Reads (λ v. v.items) (spec.cells reader.old.rest.now) result reader.new.rest.now }
 {
-    let count = reader.number(4, 0xFFFF_FFFF)?;
-    let mut list = Vec::new(alloc);
-    for _ in 0..count {
-        list.push(cell(alloc, reader)?)?;
-    }
-    Ok(list)
+    read_list(alloc, reader, 4, 0xFFFF_FFFF)
 }
 
 // A column's name and what it is set to.
@@ -48,18 +56,26 @@ fn set(alloc: Global, reader: &mut Reader<'_>) -> Result<(Name, Expr), ReadStop>
     Ok((column, expr))
 }
 
+// A column's name and what it is set to, in a list.
+impl Listed for (Name, Expr) {
+    ghost use Rattle.smo_ops_types.specs.Changes.{set_of_expr};
+    ghost use Rattle.command_codec_spec.specs.Reader as spec;
+    ghost use Rattle.command_codec.specs.Items.{item_of};
+
+    ghost item = { item_of spec.set set_of_expr };
+
+    fn read(alloc: Global, reader: &mut Reader<'_>) -> Result<(Name, Expr), ReadStop> {
+        set(alloc, reader)
+    }
+}
+
 // What columns are set to, with their count before them.
 #[tactic(auto, unfolding(command_codec_spec::specs::Reader::sets))]
 fn sets(alloc: Global, reader: &mut Reader<'_>) -> Result<Vec<(Name, Expr)>, ReadStop>
     ensures { Reads (λ v. sets_of v.items) (spec.sets reader.old.rest.now) result
         reader.new.rest.now }
 {
-    let count = reader.number(4, 0xFFFF_FFFF)?;
-    let mut list = Vec::new(alloc);
-    for _ in 0..count {
-        list.push(set(alloc, reader)?)?;
-    }
-    Ok(list)
+    read_list(alloc, reader, 4, 0xFFFF_FFFF)
 }
 
 // What stands after the tag of INSERT.
@@ -106,18 +122,26 @@ fn change(alloc: Global, reader: &mut Reader<'_>) -> Result<Change, ReadStop>
     }
 }
 
+// A change, in a list.
+impl Listed for Change {
+    ghost use Rattle.smo_ops_types.specs.Changes.{change_of};
+    ghost use Rattle.command_codec_spec.specs.Reader as spec;
+    ghost use Rattle.command_codec.specs.Items.{item_of};
+
+    ghost item = { item_of spec.change change_of };
+
+    fn read(alloc: Global, reader: &mut Reader<'_>) -> Result<Change, ReadStop> {
+        change(alloc, reader)
+    }
+}
+
 // Changes, with their count before them.
 #[tactic(auto, unfolding(command_codec_spec::specs::Reader::changes))]
 fn changes(alloc: Global, reader: &mut Reader<'_>) -> Result<Vec<Change>, ReadStop>
     ensures { Reads (λ v. changes_of v.items) (spec.changes reader.old.rest.now) result
         reader.new.rest.now }
 {
-    let count = reader.number(4, 0xFFFF_FFFF)?;
-    let mut list = Vec::new(alloc);
-    for _ in 0..count {
-        list.push(change(alloc, reader)?)?;
-    }
-    Ok(list)
+    read_list(alloc, reader, 4, 0xFFFF_FFFF)
 }
 
 // What a command does.

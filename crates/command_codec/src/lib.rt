@@ -10,6 +10,7 @@ mod command_reader;
 mod decoder;
 mod fault;
 mod field;
+mod list;
 mod operator_reader;
 mod part;
 mod reader;

@@ -6,6 +6,7 @@ ghost use Rattle.command_codec_spec.specs.Reader as spec;
 ghost use Rattle.command_codec.specs.Reads.{Reads};
 
 use crate::field::{column_type, name};
+use crate::list::{Listed, read_list};
 use crate::reader::{ReadStop, Reader};
 use crate::tree_reader::{outer_cond, outer_expr};
 use prima_base::{ColType, Name};
@@ -22,17 +23,36 @@ fn column(alloc: Global, reader: &mut Reader<'_>) -> Result<(Name, ColType), Rea
     Ok((column, kind))
 }
 
+// A column's name and its type, in a list.
+impl Listed for (Name, ColType) {
+    ghost use Rattle.command_codec_spec.specs.Reader as spec;
+    ghost use Rattle.command_codec.specs.Items.{item_of};
+
+    ghost item = { item_of spec.column_of (λ c. c) };
+
+    fn read(alloc: Global, reader: &mut Reader<'_>) -> Result<(Name, ColType), ReadStop> {
+        column(alloc, reader)
+    }
+}
+
 // Columns, with their count before them.
 #[tactic(auto, unfolding(command_codec_spec::specs::Reader::columns))]
 fn columns(alloc: Global, reader: &mut Reader<'_>) -> Result<Vec<(Name, ColType)>, ReadStop>
     ensures { Reads (λ v. v.items) (spec.columns reader.old.rest.now) result reader.new.rest.now }
 {
-    let count = reader.number(1, 0xFF)?;
-    let mut list = Vec::new(alloc);
-    for _ in 0..count {
-        list.push(column(alloc, reader)?)?;
+    read_list(alloc, reader, 1, 0xFF)
+}
+
+// A name, in a list.
+impl Listed for Name {
+    ghost use Rattle.command_codec_spec.specs.Reader as spec;
+    ghost use Rattle.command_codec.specs.Items.{item_of};
+
+    ghost item = { item_of spec.name (λ n. n) };
+
+    fn read(alloc: Global, reader: &mut Reader<'_>) -> Result<Name, ReadStop> {
+        name(alloc, reader)
     }
-    Ok(list)
 }
 
 // Names, with their count before them.
@@ -40,12 +60,7 @@ fn columns(alloc: Global, reader: &mut Reader<'_>) -> Result<Vec<(Name, ColType)
 fn names(alloc: Global, reader: &mut Reader<'_>) -> Result<Vec<Name>, ReadStop>
     ensures { Reads (λ v. v.items) (spec.names reader.old.rest.now) result reader.new.rest.now }
 {
-    let count = reader.number(1, 0xFF)?;
-    let mut list = Vec::new(alloc);
-    for _ in 0..count {
-        list.push(name(alloc, reader)?)?;
-    }
-    Ok(list)
+    read_list(alloc, reader, 1, 0xFF)
 }
 
 // Two names.
@@ -194,16 +209,24 @@ pub fn op(alloc: Global, reader: &mut Reader<'_>) -> Result<Op, ReadStop>
     }
 }
 
+// An operator, in a list.
+impl Listed for Op {
+    ghost use Rattle.smo_ops_types.specs.Operators.{operator_of};
+    ghost use Rattle.command_codec_spec.specs.Reader as spec;
+    ghost use Rattle.command_codec.specs.Items.{item_of};
+
+    ghost item = { item_of spec.operator operator_of };
+
+    fn read(alloc: Global, reader: &mut Reader<'_>) -> Result<Op, ReadStop> {
+        op(alloc, reader)
+    }
+}
+
 /// Operators, with their count before them.
 #[tactic(auto, unfolding(command_codec_spec::specs::Reader::operators))]
 pub fn ops(alloc: Global, reader: &mut Reader<'_>) -> Result<Vec<Op>, ReadStop>
     ensures { Reads (λ v. operators_of v.items) (spec.operators reader.old.rest.now) result
         reader.new.rest.now }
 {
-    let count = reader.number(4, 0xFFFF_FFFF)?;
-    let mut list = Vec::new(alloc);
-    for _ in 0..count {
-        list.push(op(alloc, reader)?)?;
-    }
-    Ok(list)
+    read_list(alloc, reader, 4, 0xFFFF_FFFF)
 }

@@ -5,6 +5,7 @@ ghost use Rattle.command_codec_spec.specs.Reader as spec;
 ghost use Rattle.command_codec.specs.Reads.{Recognizes};
 
 use crate::field::{check_name, check_value};
+use crate::list::{Listed, check_list};
 use crate::operator::{check_op, check_ops};
 use crate::tree::{check_outer_cond, check_outer_expr};
 use command_codec::{Reader, Unexpected};
@@ -19,16 +20,26 @@ fn check_cell(reader: &mut Reader<'_>) -> Result<(), Unexpected>
     check_value(reader)
 }
 
+// A column's name and its value.
+struct Cell;
+
+impl Listed for Cell {
+    ghost use Rattle.command_codec_spec.specs.Reader as spec;
+    ghost use Rattle.command_codec_checker.specs.Productions.{production_of};
+
+    ghost production = { λ _. production_of spec.cell };
+
+    fn check(&self, reader: &mut Reader<'_>) -> Result<(), Unexpected> {
+        check_cell(reader)
+    }
+}
+
 // Goes over cells, with their count before them.
 #[tactic(auto, unfolding(command_codec_spec::specs::Reader::cells))]
 fn check_cells(reader: &mut Reader<'_>) -> Result<(), Unexpected>
     ensures { Recognizes (spec.cells reader.old.rest.now) result reader.new.rest.now }
 {
-    let count = reader.number(4, 0xFFFF_FFFF)?;
-    for _ in 0..count {
-        check_cell(reader)?;
-    }
-    Ok(())
+    check_list(&Cell, reader, 4, 0xFFFF_FFFF)
 }
 
 // Goes over a column's name and what it is set to.
@@ -40,16 +51,26 @@ fn check_set(reader: &mut Reader<'_>) -> Result<(), Unexpected>
     check_outer_expr(reader)
 }
 
+// A column's name and what it is set to.
+struct Setting;
+
+impl Listed for Setting {
+    ghost use Rattle.command_codec_spec.specs.Reader as spec;
+    ghost use Rattle.command_codec_checker.specs.Productions.{production_of};
+
+    ghost production = { λ _. production_of spec.set };
+
+    fn check(&self, reader: &mut Reader<'_>) -> Result<(), Unexpected> {
+        check_set(reader)
+    }
+}
+
 // Goes over what columns are set to, with their count before them.
 #[tactic(auto, unfolding(command_codec_spec::specs::Reader::sets))]
 fn check_sets(reader: &mut Reader<'_>) -> Result<(), Unexpected>
     ensures { Recognizes (spec.sets reader.old.rest.now) result reader.new.rest.now }
 {
-    let count = reader.number(4, 0xFFFF_FFFF)?;
-    for _ in 0..count {
-        check_set(reader)?;
-    }
-    Ok(())
+    check_list(&Setting, reader, 4, 0xFFFF_FFFF)
 }
 
 // Goes over what stands after the tag of INSERT.
@@ -93,16 +114,26 @@ fn check_change(reader: &mut Reader<'_>) -> Result<(), Unexpected>
     }
 }
 
+// A change.
+struct Change;
+
+impl Listed for Change {
+    ghost use Rattle.command_codec_spec.specs.Reader as spec;
+    ghost use Rattle.command_codec_checker.specs.Productions.{production_of};
+
+    ghost production = { λ _. production_of spec.change };
+
+    fn check(&self, reader: &mut Reader<'_>) -> Result<(), Unexpected> {
+        check_change(reader)
+    }
+}
+
 // Goes over changes, with their count before them.
 #[tactic(auto, unfolding(command_codec_spec::specs::Reader::changes))]
 fn check_changes(reader: &mut Reader<'_>) -> Result<(), Unexpected>
     ensures { Recognizes (spec.changes reader.old.rest.now) result reader.new.rest.now }
 {
-    let count = reader.number(4, 0xFFFF_FFFF)?;
-    for _ in 0..count {
-        check_change(reader)?;
-    }
-    Ok(())
+    check_list(&Change, reader, 4, 0xFFFF_FFFF)
 }
 
 // Goes over an operator and those of its inverse.

@@ -10,6 +10,7 @@ mod checker;
 mod command;
 mod fault;
 mod field;
+mod list;
 mod operator;
 mod tree;
 

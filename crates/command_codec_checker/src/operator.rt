@@ -5,6 +5,7 @@ ghost use Rattle.command_codec_spec.specs.Reader as spec;
 ghost use Rattle.command_codec.specs.Reads.{Recognizes};
 
 use crate::field::{check_column_type, check_name};
+use crate::list::{Listed, check_list};
 use crate::tree::{check_outer_cond, check_outer_expr};
 use command_codec::{Reader, Unexpected};
 
@@ -17,16 +18,40 @@ fn check_column(reader: &mut Reader<'_>) -> Result<(), Unexpected>
     check_column_type(reader)
 }
 
+// A column's name and its type.
+struct Column;
+
+impl Listed for Column {
+    ghost use Rattle.command_codec_spec.specs.Reader as spec;
+    ghost use Rattle.command_codec_checker.specs.Productions.{production_of};
+
+    ghost production = { λ _. production_of spec.column_of };
+
+    fn check(&self, reader: &mut Reader<'_>) -> Result<(), Unexpected> {
+        check_column(reader)
+    }
+}
+
 // Goes over columns, with their count before them.
 #[tactic(auto, unfolding(command_codec_spec::specs::Reader::columns))]
 fn check_columns(reader: &mut Reader<'_>) -> Result<(), Unexpected>
     ensures { Recognizes (spec.columns reader.old.rest.now) result reader.new.rest.now }
 {
-    let count = reader.number(1, 0xFF)?;
-    for _ in 0..count {
-        check_column(reader)?;
+    check_list(&Column, reader, 1, 0xFF)
+}
+
+// A name.
+struct Name;
+
+impl Listed for Name {
+    ghost use Rattle.command_codec_spec.specs.Reader as spec;
+    ghost use Rattle.command_codec_checker.specs.Productions.{production_of};
+
+    ghost production = { λ _. production_of spec.name };
+
+    fn check(&self, reader: &mut Reader<'_>) -> Result<(), Unexpected> {
+        check_name(reader)
     }
-    Ok(())
 }
 
 // Goes over names, with their count before them.
@@ -34,11 +59,7 @@ fn check_columns(reader: &mut Reader<'_>) -> Result<(), Unexpected>
 fn check_names(reader: &mut Reader<'_>) -> Result<(), Unexpected>
     ensures { Recognizes (spec.names reader.old.rest.now) result reader.new.rest.now }
 {
-    let count = reader.number(1, 0xFF)?;
-    for _ in 0..count {
-        check_name(reader)?;
-    }
-    Ok(())
+    check_list(&Name, reader, 1, 0xFF)
 }
 
 // Goes over two names.
@@ -128,14 +149,24 @@ pub(crate) fn check_op(reader: &mut Reader<'_>) -> Result<(), Unexpected>
     }
 }
 
+// An operator.
+struct Operator;
+
+impl Listed for Operator {
+    ghost use Rattle.command_codec_spec.specs.Reader as spec;
+    ghost use Rattle.command_codec_checker.specs.Productions.{production_of};
+
+    ghost production = { λ _. production_of spec.operator };
+
+    fn check(&self, reader: &mut Reader<'_>) -> Result<(), Unexpected> {
+        check_op(reader)
+    }
+}
+
 /// Goes over operators, with their count before them.
 #[tactic(auto, unfolding(command_codec_spec::specs::Reader::operators))]
 pub(crate) fn check_ops(reader: &mut Reader<'_>) -> Result<(), Unexpected>
     ensures { Recognizes (spec.operators reader.old.rest.now) result reader.new.rest.now }
 {
-    let count = reader.number(4, 0xFFFF_FFFF)?;
-    for _ in 0..count {
-        check_op(reader)?;
-    }
-    Ok(())
+    check_list(&Operator, reader, 4, 0xFFFF_FFFF)
 }

@@ -1,9 +1,7 @@
 -- Rows in another order.
-use Rattle.std.proofs.Common.{◌≡◌, ◌<◌, ℕ, zero, suc, List, [], ◌∷◌, length, get_or, inl, inr}
-use Rattle.std.proofs.Common.{arith}
-use Rattle.std.specs.Prelude.{Contains}
+use Rattle.std.proofs.Common.{◌≡◌, ℕ, List}
 use Rattle.std.specs.List.Sorted.{IsPermutation}
-use Rattle.std.proofs.lemmas.List.Sorted.{Contains-permutation, IsPermutation-sym}
+use Rattle.std.proofs.lemmas.List.Sorted.{IsPermutation-sym}
 use Rattle.std.proofs.lemmas.List.Sorted.{IsPermutation-map}
 use Rattle.relations_spec.specs.Sets.{In}
 use Rattle.relations_spec.specs.Timed.{Entry, held_at, at}
@@ -15,26 +13,10 @@ use Rattle.prima_base.specs.Order.{row_cmp}
 use Rattle.prima_base.specs.OrderLaws.{row_exact}
 use Rattle.prima_base.specs.Timed.{entry_of, entries_of, rows_at}
 use Rattle.prima_base.specs.declared.value.Val.{Val}
+use Rattle.coalesce.proofs.Sorted.{in_moved}
 use Rattle.join_exec_spec.specs.BorrowedOutputs.{EachRow}
 use Rattle.join_exec_spec.proofs.BorrowedLaws.{each_member, all_members}
 use Rattle.join_exec_spec.specs.Fitting.{Fit}
-
-contains_more : {X : Type 0} (x : X) (xs : List X) (e : X) → Contains xs e → Contains (x ∷ xs) e
-contains_more x xs e (k, kl, is) = (suc k, omega arith, is)
-
-contains_in : {X : Type 0} (xs : List X) (e : X) → In e xs → Contains xs e
-contains_in [] e m = absurd m
-contains_in {X} (x ∷ xs) e (inl i) = (0, omega arith, i)
-contains_in (x ∷ xs) e (inr m) = contains_more x xs e (contains_in xs e m)
-
-in_place : {X : Type 0} (xs : List X) (k : ℕ) (e : X) → k < length xs → get_or xs k e ≡ e → In e xs
-in_place [] k e kl is = absurd (omega arith)
-in_place (x ∷ xs) zero e kl is = inl is
-in_place (x ∷ xs) (suc k) e kl is = inr (in_place xs k e (omega arith) is)
-
-pub in_moved : {X : Type 0} (xs ys : List X) → IsPermutation xs ys → (e : X) → In e xs → In e ys
-in_moved xs ys p e m = let c = Contains-permutation xs ys e p (contains_in xs e m) in
-    in_place ys c.0 e c.1 c.2
 
 module _ (rows moved : List TimedRow) (p : IsPermutation rows moved) where
   there : IsPermutation (entries_of rows) (entries_of moved)

@@ -31,7 +31,7 @@ pub struct KeptRow {
 /// Why a call gives no answer. All is then as it was.
 #[derive(Drop)]
 pub enum VaultFault {
-    /// The first refusal in the one order.
+    /// The first refusal in order of precedence.
     Refused(Refusal),
     /// An earlier call has answered `Disk`.
     Broken,

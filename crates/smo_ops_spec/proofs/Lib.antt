@@ -7,6 +7,8 @@ pub mod RelationLaws
 pub mod DatabaseLaws
 pub mod FewNames
 pub mod GainLaws
+pub mod ChangedTables
+pub mod LastSchemas
 pub mod CountingLaws
 pub mod SameDatabases
 pub mod Insertions

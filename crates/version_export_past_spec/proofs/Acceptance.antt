@@ -1,14 +1,12 @@
 -- The changes from one database to another are accepted.
-use Rattle.std.specs.Prelude.{◌≡◌, ℕ, ◌+◌, ◌*◌, ◌≤◌, ◌++◌, Bool, true, false, not, List, []}
+use Rattle.std.specs.Prelude.{◌≡◌, ℕ, ◌+◌, ◌*◌, ◌≤◌, ◌++◌, true, not, List, []}
 use Rattle.std.specs.Prelude.{◌∷◌, cond, length, take, zero, suc, nat_le, Option, Some}
 use Rattle.std.specs.Prelude.{None, is_some, is_none, ⊤}
-use Rattle.std.proofs.Common.{refl, sym, ap, subst, ◌∙◌, inl, inr, arith}
+use Rattle.std.proofs.Common.{refl, sym, ap, ◌∙◌, inl, inr, arith}
 use Rattle.std.specs.List.{flat_map}
 use Rattle.std.specs.Option.{unwrap_or, option_map}
-use Rattle.std.specs.declared.cmp.Ordering.TheVariants.{Less}
 use Rattle.std.specs.FinMap.{get}
 use Rattle.relations_spec.specs.Sets.{In, Ascends}
-use Rattle.relations_spec.proofs.SetLaws.{in_append, before_in}
 use Rattle.prima_base.specs.declared.value.ColType.{ColType}
 use Rattle.prima_base.specs.declared.value.ColType.TheVariants.{Int as INT, Text as TEXT}
 use Rattle.prima_base.specs.declared.refusal.Refusal.TheVariants.{NoTable, NoColumn, WrongType}
@@ -16,7 +14,6 @@ use Rattle.prima_base.specs.declared.refusal.Refusal.TheVariants.{ColumnExists, 
 use Rattle.prima_base.specs.declared.refusal.What.TheVariants.{Nodes, Depth, Parts, Changes}
 use Rattle.prima_base.specs.Limits.{max_nodes, max_depth, max_parts, max_changes, max_columns}
 use Rattle.prima_base.specs.Order.{bytes_cmp}
-use Rattle.prima_base.specs.OrderLaws.{bytes_exact}
 use Rattle.prima_base.specs.Columns.{Column, names_of, AreColumns, IsRow}
 use Rattle.schema_catalog.specs.Places.{NamedColumns}
 use Rattle.schema_catalog.specs.Tables.{Tables, columns_of}
@@ -37,8 +34,9 @@ use Rattle.smo_ops_spec.specs.Checks.{changes_tests, change_nodes, tests_after, 
 use Rattle.smo_ops_spec.specs.Counts.{at_most, test_counts, change_counts}
 use Rattle.smo_ops_spec.specs.Counts.{first_excess}
 use Rattle.smo_ops_spec.proofs.Firsts.{first_after}
-use Rattle.smo_ops_spec.proofs.NameLaws.{in_among, among_in, own_type, type_of}
+use Rattle.smo_ops_spec.proofs.NameLaws.{in_among, own_type, type_of}
 use Rattle.smo_ops_spec.proofs.TypeLaws.{own_atom}
+use Rattle.version_export_past_spec.proofs.NewNames.{is_new, are_new_after}
 use Rattle.version_export_past_spec.specs.Rows.{Cell, row_cells, has_cell, have_cells, is_row_of}
 use Rattle.version_export_past_spec.specs.Rows.{ending}
 use Rattle.version_export_past_spec.specs.Rows.{beginning}
@@ -130,24 +128,11 @@ module _ (columns : List Column) where
   names_fine t before (n ∷ names) k h a =
       ap (λ b. first_refusal (where_so b (ColumnExists t n)
       ∷ unless (among n (names_of columns)) (NoColumn n)
-      ∷ names_after t columns (before ++ n ∷ []) names)) (new (among n before) refl)
+      ∷ names_after t columns (before ++ n ∷ []) names)) (is_new n before names h a)
       ∙ ap (λ b. first_refusal (unless b (NoColumn n)
       ∷ names_after t columns (before ++ n ∷ []) names)) (k n (inl refl))
-      ∙ names_fine t (before ++ n ∷ []) names (λ m i. k m (inr i)) later a.1
-    where
-      new : (b : Bool) → among n before ≡ b → among n before ≡ false
-      new true e = absurd (h n (inl refl) (among_in n before e))
-      new false e = e
-
-      later : (m : List ℕ) → In m names → ¬ In m (before ++ n ∷ [])
-      later m i = λ j. elim (in_append m before (n ∷ []) j) [
-        | inl x ↦ h m (inr i) x
-        | inr y ↦ elim y [
-          | inl q ↦ bytes_exact.apart m (subst (λ (z : List ℕ). bytes_cmp z m ≡ Less) q
-              (before_in bytes_cmp n m names a.0 i))
-          | inr z ↦ absurd z
-        ]
-      ]
+      ∙ names_fine t (before ++ n ∷ []) names (λ m i. k m (inr i))
+      (are_new_after n before names h a) a.1
 
   values_fine : (at : ℕ) (cells : List Cell) → AllTyped columns cells
       → first_refusal (cell_faults columns at cells) ≡ None

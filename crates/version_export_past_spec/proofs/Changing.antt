@@ -1,10 +1,9 @@
 -- All changes between two databases of one schema are accepted and within their counts.
-use Rattle.std.specs.Prelude.{◌≡◌, ◌≤◌, ℕ, ◌&&◌, Bool, true, false, List, [], ◌∷◌, map, cond, T}
+use Rattle.std.specs.Prelude.{◌≡◌, ◌≤◌, ℕ, List, [], ◌∷◌, map, cond, T}
 use Rattle.std.specs.Prelude.{length, Option, Some, None}
 use Rattle.std.proofs.Common.{refl, ap, subst, ◌∙◌, inl, inr, arith}
 use Rattle.std.specs.Ordering.{is_lt}
-use Rattle.std.specs.declared.cmp.Ordering.{Ordering}
-use Rattle.std.specs.declared.cmp.Ordering.TheVariants.{Less, Equal, Greater}
+use Rattle.std.specs.declared.cmp.Ordering.TheVariants.{Less}
 use Rattle.std.specs.FinMap.{get, entries, find, is_sorted, entries_sorted, get-entries}
 use Rattle.std.specs.FinMap.Entries.{below_all}
 use Rattle.relations_spec.specs.Sets.{In}
@@ -23,6 +22,7 @@ use Rattle.smo_ops_spec.specs.Preconditions.{AreNarrow}
 use Rattle.smo_ops_spec.specs.Effects.{gained_rows, rows_under}
 use Rattle.smo_ops_spec.specs.Checks.{change_tests, changes_tests}
 use Rattle.smo_ops_spec.specs.Counts.{change_counts, first_excess}
+use Rattle.smo_ops_spec.proofs.CountingLaws.{first, second, less}
 use Rattle.smo_ops_spec.proofs.NameLaws.{same_itself, same_not, same_turned}
 use Rattle.version_export_past_spec.specs.Rows.{row_cells, ending, beginning, table_changes}
 use Rattle.version_export_past_spec.specs.Rows.{changes_between}
@@ -32,19 +32,6 @@ use Rattle.version_export_past_spec.proofs.Acceptance.{beginning_accepted}
 use Rattle.version_export_past_spec.proofs.Acceptance.{row_counted, AllCounted, all_counted}
 use Rattle.version_export_past_spec.proofs.Acceptance.{AllFine}
 use Rattle.version_export_past_spec.proofs.Acceptance.{all_accepted}
-
-first : (a b : Bool) → T (a && b) → T a
-first true b p = tt
-first false b p = absurd p
-
-second : (a b : Bool) → T (a && b) → T b
-second true b p = p
-second false b p = absurd p
-
-less : (o : Ordering) → T (is_lt o) → o ≡ Less
-less Less p = refl
-less Equal p = absurd p
-less Greater p = absurd p
 
 -- ---- a table is found under its own name
 

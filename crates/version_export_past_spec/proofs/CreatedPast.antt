@@ -1,6 +1,6 @@
 -- Of one table, the EVOLVE that creates it is accepted after the beginning and makes a past that
 -- has just this table, with no row.
-use Rattle.std.specs.Prelude.{◌≡◌, ◌+◌, ◌≤◌, ◌||◌, ◌++◌, ℕ, Bool, true, false, not, List, [], ◌∷◌}
+use Rattle.std.specs.Prelude.{◌≡◌, ◌+◌, ◌≤◌, ◌||◌, ◌++◌, ℕ, true, not, List, [], ◌∷◌}
 use Rattle.std.specs.Prelude.{cond}
 use Rattle.std.specs.Prelude.{length, nat_le, is_some, Option, Some, None}
 use Rattle.std.proofs.Common.{refl, sym, ap, subst, ◌∙◌, inl, inr, arith}
@@ -12,7 +12,6 @@ use Rattle.std.specs.FinMap.{get, insert, entries, find, len, get-empty, get-ins
 use Rattle.std.specs.FinMap.{len-insert, len-empty, same_map, slice_cmp-IsAntisymmetric}
 use Rattle.std.specs.FinMap.{nat_cmp-IsAntisymmetric}
 use Rattle.relations_spec.specs.Sets.{In, BeforeAll, Ascends, placed, put_in, set_of}
-use Rattle.relations_spec.proofs.SetLaws.{in_append, before_in}
 use Rattle.prima_base.specs.declared.refusal.What.TheVariants.{Tables as TABLES, Columns as COLUMNS}
 use Rattle.prima_base.specs.declared.refusal.OpRefusal.{OpRefusal}
 use Rattle.prima_base.specs.declared.refusal.OpRefusal.TheVariants.{Exists, ColumnExists}
@@ -20,7 +19,6 @@ use Rattle.prima_base.specs.declared.refusal.OpRefusal.TheVariants.{LastColumn}
 use Rattle.prima_base.specs.declared.refusal.OpRefusal.TheVariants.{TooMany}
 use Rattle.prima_base.specs.Limits.{max_columns, max_tables}
 use Rattle.prima_base.specs.Order.{bytes_cmp}
-use Rattle.prima_base.specs.OrderLaws.{bytes_exact}
 use Rattle.prima_base.specs.Columns.{Column, names_of, AreColumns}
 use Rattle.schema_catalog.specs.Places.{NamedColumns}
 use Rattle.schema_catalog.specs.Tables.{Tables}
@@ -34,11 +32,11 @@ use Rattle.smo_ops_spec.specs.After.{op_fault, schema_after}
 use Rattle.smo_ops_spec.specs.Past.{Past, no_tables, beginning, past_with}
 use Rattle.smo_ops_spec.specs.Past.{next_version, newest_database}
 use Rattle.smo_ops_spec.specs.Accepts.{command_fault, operator_refusal}
-use Rattle.smo_ops_spec.proofs.NameLaws.{among_in}
 use Rattle.smo_ops_spec.proofs.PastMoments.{before_or_not}
 use Rattle.smo_ops_spec.proofs.PastSteps.{beginning_is_past, before_command, from_command}
 use Rattle.version_export_past_spec.specs.Commands.{a_command}
 use Rattle.version_export_past_spec.specs.Blank.{IsBlank, IsCreated}
+use Rattle.version_export_past_spec.proofs.NewNames.{is_new, are_new_after}
 use Rattle.version_export_past_spec.proofs.BlankDatabases.{blank_carried}
 use Rattle.version_export_past_spec.proofs.EarlyMoments.{IsAccepted, accepted_so, next_is_past}
 use Rattle.version_export_past_spec.proofs.EarlyMoments.{blank_without}
@@ -65,22 +63,8 @@ pub none_again : (before names : List (List ℕ)) → ((n : List ℕ) → In n n
     → Ascends bytes_cmp names → again_after before names ≡ None
 none_again before [] h a = refl
 none_again before (n ∷ names) h a =
-    ap (λ b. cond b (Some n) (again_after (before ++ n ∷ []) names)) (new (among n before) refl)
-    ∙ none_again (before ++ n ∷ []) names later a.1
-  where
-    new : (b : Bool) → among n before ≡ b → among n before ≡ false
-    new true e = absurd (h n (inl refl) (among_in n before e))
-    new false e = e
-
-    later : (m : List ℕ) → In m names → ¬ In m (before ++ n ∷ [])
-    later m i = λ j. elim (in_append m before (n ∷ []) j) [
-      | inl x ↦ h m (inr i) x
-      | inr y ↦ elim y [
-        | inl q ↦ bytes_exact.apart m (subst (λ (z : List ℕ). bytes_cmp z m ≡ Less) q
-            (before_in bytes_cmp n m names a.0 i))
-        | inr z ↦ absurd z
-      ]
-    ]
+    ap (λ b. cond b (Some n) (again_after (before ++ n ∷ []) names)) (is_new n before names h a)
+    ∙ none_again (before ++ n ∷ []) names (are_new_after n before names h a) a.1
 
 fits : (m n : ℕ) → m ≤ n → nat_le m n ≡ true
 fits m n l = grind (arith, l)

@@ -1,13 +1,11 @@
 -- Any tables that a version may have are created by one CREATE TABLE each, one after the other:
 -- each is accepted after those before it, the schema after the last has just these tables, and no
 -- row is made.
-use Rattle.std.specs.Prelude.{◌≡◌, ◌+◌, ◌≤◌, ◌||◌, ◌&&◌, ℕ, Bool, true, false, not, List, []}
+use Rattle.std.specs.Prelude.{◌≡◌, ◌+◌, ◌≤◌, ◌||◌, ℕ, Bool, true, false, not, List, []}
 use Rattle.std.specs.Prelude.{◌∷◌, cond, length, map, nat_le, is_some, Option, Some, None, T}
 use Rattle.std.proofs.Common.{refl, sym, ap, subst, ◌∙◌, arith}
 use Rattle.std.specs.Option.{option_map}
 use Rattle.std.specs.Ordering.{eq_by_cmp, is_lt}
-use Rattle.std.specs.declared.cmp.Ordering.{Ordering}
-use Rattle.std.specs.declared.cmp.Ordering.TheVariants.{Less, Equal, Greater}
 use Rattle.std.specs.Cmp.Lexicographic.{nat_list_cmp_total}
 use Rattle.std.specs.FinMap.{get, insert, entries, find, is_sorted, len, get-empty, get-insert}
 use Rattle.std.specs.FinMap.{get-entries, entries_sorted, len-insert, len-empty, len-entries}
@@ -30,9 +28,10 @@ use Rattle.smo_ops_spec.specs.OneRow.{same}
 use Rattle.smo_ops_spec.specs.Preconditions.{among, is_some_column, each_once, few_columns}
 use Rattle.smo_ops_spec.specs.Preconditions.{few_tables}
 use Rattle.smo_ops_spec.specs.Making.{in_order}
-use Rattle.smo_ops_spec.specs.After.{op_fault, schema_after}
+use Rattle.smo_ops_spec.specs.After.{op_fault}
 use Rattle.smo_ops_spec.specs.Inverses.{schema_after_each, AllOperatorsAccepted}
 use Rattle.smo_ops_spec.specs.Past.{no_tables}
+use Rattle.smo_ops_spec.proofs.CountingLaws.{first, second, less}
 use Rattle.smo_ops_spec.proofs.NameLaws.{same_not, same_turned}
 use Rattle.smo_ops_versions_spec.specs.Steps.{carrying_each}
 use Rattle.smo_ops_versions_spec.specs.Migration.{migrate_over}
@@ -88,19 +87,6 @@ one_accepted tables t free few c =
     (let e = one_more tables t free in omega (arith, e, few)))
 
 -- ---- one after the other
-
-first : (a b : Bool) → T (a && b) → T a
-first true b p = tt
-first false b p = absurd p
-
-second : (a b : Bool) → T (a && b) → T b
-second true b p = p
-second false b p = absurd p
-
-less : (o : Ordering) → T (is_lt o) → o ≡ Less
-less Less p = refl
-less Equal p = absurd p
-less Greater p = absurd p
 
 abbrev AllFree : Tables → List NamedColumns → Type 0
 AllFree tables [] = Unit {0}

@@ -1,15 +1,12 @@
 -- The changes of all tables lead from the one database to the other.
-use Rattle.std.specs.Prelude.{◌≡◌, ℕ, ◌++◌, ◌&&◌, Bool, true, false, List, [], ◌∷◌, map, cond, T}
+use Rattle.std.specs.Prelude.{◌≡◌, ℕ, ◌++◌, Bool, true, false, List, [], ◌∷◌, map, cond, T}
 use Rattle.std.specs.Prelude.{Option, Some, None}
 use Rattle.std.proofs.Common.{refl, sym, ap, subst, ◌∙◌, inl, inr, append-nil}
 use Rattle.std.proofs.lemmas.List.Elements.{filter-append}
-use Rattle.std.specs.List.{filter}
-use Rattle.std.specs.Option.{unwrap_or}
 use Rattle.std.specs.Ordering.{is_lt}
-use Rattle.std.specs.declared.cmp.Ordering.{Ordering}
-use Rattle.std.specs.declared.cmp.Ordering.TheVariants.{Less, Equal, Greater}
+use Rattle.std.specs.declared.cmp.Ordering.TheVariants.{Less}
 use Rattle.std.specs.Cmp.Lexicographic.{nat_list_cmp_total}
-use Rattle.std.specs.FinMap.{get, insert, entries, find, is_sorted, get-insert, get-entries}
+use Rattle.std.specs.FinMap.{get, entries, find, is_sorted, get-entries}
 use Rattle.std.specs.FinMap.{entries_sorted, same_map, slice_cmp-IsAntisymmetric}
 use Rattle.std.specs.FinMap.{nat_cmp-IsAntisymmetric}
 use Rattle.std.specs.FinMap.Entries.{below_all}
@@ -22,74 +19,16 @@ use Rattle.schema_catalog.specs.Tables.{Tables, IsSchema}
 use Rattle.schema_catalog.specs.Databases.{Database, DatabaseEntry, Rows, Lost, IsEntry, IsDatabase}
 use Rattle.smo_ops_types.specs.Changes.{PlainChange, table_of}
 use Rattle.smo_ops_spec.specs.OneRow.{Relation, same}
-use Rattle.smo_ops_spec.specs.Effects.{gained_rows, rows_under, relation_after, entry_after}
-use Rattle.smo_ops_spec.specs.Effects.{columns_of, with_changed, database_after, after_each}
+use Rattle.smo_ops_spec.specs.Effects.{gained_rows, rows_under}
+use Rattle.smo_ops_spec.specs.Effects.{database_after, after_each}
 use Rattle.smo_ops_spec.specs.Inserting.{relation_after_each}
+use Rattle.smo_ops_spec.proofs.CountingLaws.{first, second, less}
+use Rattle.smo_ops_spec.proofs.ChangedTables.{of_table, other_stays, changed_each}
 use Rattle.smo_ops_spec.proofs.NameLaws.{same_itself, same_not, same_turned}
 use Rattle.version_export_past_spec.specs.Rows.{ending, beginning, table_changes, changes_between}
 use Rattle.version_export_past_spec.proofs.TableChanges.{rebuilt}
 
--- those of the table with this name, in order
-abbrev pub of_table : List ℕ → List PlainChange → List PlainChange
-of_table name changes = filter (λ c. same (table_of c) name) changes
-
 -- ---- what a table has after changes
-
-get_other : (database : Database) (t name : List ℕ) (e : DatabaseEntry) → same t name ≡ false
-    → get (insert database t e) name ≡ get database name
-get_other database t name e q = get-insert nat_list_cmp_total database t e name
-    ∙ ap (λ b. cond b (Some e) (get database name)) (same_turned name t ∙ q)
-
-get_own : (database : Database) (t : List ℕ) (e : DatabaseEntry)
-    → get (insert database t e) t ≡ Some e
-get_own database t e = get-insert nat_list_cmp_total database t e t
-    ∙ ap (λ b. cond b (Some e) (get database t)) (same_itself t)
-
-other_entry : (f : Relation → Relation) (o : Option DatabaseEntry) (database : Database)
-    (t name : List ℕ) → same t name ≡ false → get (with_changed f o t database) name
-    ≡ get database name
-other_entry f None database t name q = refl
-other_entry f (Some e) database t name q = get_other database t name (entry_after f e) q
-
-other_stays : (tables : Tables) (c : PlainChange) (database : Database) (name : List ℕ)
-    → same (table_of c) name ≡ false → get (database_after tables c database) name
-    ≡ get database name
-other_stays tables c database name q = other_entry
-    (relation_after (columns_of tables (table_of c)) c) (get database (table_of c)) database
-    (table_of c) name q
-
-module _ (tables : Tables) (name : List ℕ) (columns : List Column)
-    (there : get tables name ≡ Some columns) where
-  own_changed : (c : PlainChange) (database : Database) (rows : Relation) → table_of c ≡ name
-      → get database name ≡ Some (Rows rows) → get (database_after tables c database) name
-      ≡ Some (Rows (relation_after columns c rows))
-  own_changed c database rows e h =
-      ap (λ n. get (with_changed (relation_after (columns_of tables n) c) (get database n) n
-      database) name) e
-      ∙ ap (λ o. get (with_changed (relation_after (columns_of tables name) c) o name database)
-      name) h
-      ∙ get_own database name (Rows (relation_after (columns_of tables name) c rows))
-      ∙ ap (λ cs. Some (Rows (relation_after cs c rows))) (ap (λ o. unwrap_or o []) there)
-
-  pub changed_each : (changes : List PlainChange) (database : Database) (rows : Relation)
-      → get database name ≡ Some (Rows rows)
-      → get (after_each tables changes database) name
-      ≡ Some (Rows (relation_after_each columns (of_table name changes) rows))
-  changed_each [] database rows h = h
-  changed_each (c ∷ changes) database rows h =
-      step (changed_each changes) (same (table_of c) name) refl
-    where
-      step : ((database : Database) (rows : Relation) → get database name ≡ Some (Rows rows)
-          → get (after_each tables changes database) name
-          ≡ Some (Rows (relation_after_each columns (of_table name changes) rows)))
-          → (b : Bool) → same (table_of c) name ≡ b
-          → get (after_each tables changes (database_after tables c database)) name
-          ≡ Some (Rows (relation_after_each columns
-          (cond b (c ∷ of_table name changes) (of_table name changes)) rows))
-      step again true q = again (database_after tables c database) (relation_after columns c rows)
-          (own_changed c database rows (same_is (table_of c) name q) h)
-      step again false q = again (database_after tables c database) rows
-          (other_stays tables c database name q ∙ h)
 
 -- where no change is of the table, it stays
 pub untouched : (tables : Tables) (name : List ℕ) (changes : List PlainChange) (database : Database)
@@ -134,19 +73,6 @@ own_none t name old new e =
     ∙ ap (λ xs. xs ++ of_table name (map (beginning t) (gained_rows old new)))
     (kept_none name (ending t) (gained_rows new old) (λ r. e))
     ∙ kept_none name (beginning t) (gained_rows old new) (λ r. e)
-
-first : (a b : Bool) → T (a && b) → T a
-first true b p = tt
-first false b p = absurd p
-
-second : (a b : Bool) → T (a && b) → T b
-second true b p = p
-second false b p = absurd p
-
-less : (o : Ordering) → T (is_lt o) → o ≡ Less
-less Less p = refl
-less Equal p = absurd p
-less Greater p = absurd p
 
 module _ (old new : Database) where
   abbrev of_one : NamedColumns → List PlainChange

@@ -1,4 +1,4 @@
--- Groups that represent a past represent the past with the command, once it is carried out.
+-- Groups that represent a past represent the past with the command, once it is applied.
 use Rattle.std.proofs.Common.{◌≡◌, ◌≤◌, ◌<◌, ◌+◌, ℕ, suc, List, [], ◌∷◌, ◌++◌, length, get_or, sym}
 use Rattle.std.proofs.Common.{ap, subst, ◌∙◌, arith, length-append, inl, inr}
 use Rattle.std.specs.Prelude.{Option, Some, None, ◌⊎◌}

@@ -29,7 +29,8 @@ use Rattle.version_groups_tables.specs.Changing.{rows_now, rows_after, AreChange
 use Rattle.version_groups_tables.specs.Changing.{all_gained}
 use Rattle.version_groups_tables.specs.Changing.{all_lost}
 use Rattle.version_groups_tables.specs.NewestTables.{IsStoredEntry, AreStored}
-use Rattle.version_groups_tables.proofs.TablesChanged.{accepted_of, changed_each, stored_there}
+use Rattle.smo_ops_spec.proofs.ChangedTables.{changed_each}
+use Rattle.version_groups_tables.proofs.TablesChanged.{accepted_of, stored_there}
 use Rattle.version_groups_tables.proofs.TablesCounted.{with_after, HasNow, counted, got, not_stored}
 use Rattle.version_groups_tables.proofs.TablesCounted.{IsStored, is_stored}
 use Rattle.version_groups.specs.Groups.{Kept, group_of, table_in}

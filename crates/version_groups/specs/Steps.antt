@@ -1,4 +1,4 @@
--- What a command does to groups, made ready.
+-- What a command does to groups, prepared.
 use Rattle.std.specs.Prelude.{◌≡◌, ℕ, ◌+◌, ◌<◌, ◌≤◌, ◌^◌, List, ◌++◌, length, slice_index_or}
 use Rattle.std.specs.Prelude.{Option, None, Bool, true, false}
 use Rattle.std.specs.List.{filter}

@@ -3,7 +3,7 @@
 use smo_ops::{Change, Version};
 
 /// An accepted command, with what checking it found: nothing of that is looked for again when it is
-/// made ready. Its changes are borrowed until they are carried out; its operator and its inverse
+/// prepared. Its changes are borrowed until they are applied; its operator and its inverse
 /// stand in the version that is kept.
 #[derive(Drop)]
 pub enum CheckedCommand<'a> {

@@ -335,7 +335,7 @@ impl Groups {
         }
     }
 
-    /// Carries out what was made ready: from the command's stamp on the past has the changed or
+    /// Applies what was prepared: from the command's stamp on the past has the changed or
     /// carried database, and each earlier moment is as before. Each table of each version before
     /// the one that is then the newest has at the moments at which its version is in force what it
     /// had. Changes are made of the stored tables of the newest version, and an operator ends
@@ -352,7 +352,7 @@ impl Groups {
         self.install_step(prepared.step);
     }
 
-    // Carries out a step of a command that is accepted after the past. It takes no memory.
+    // Applies a step of a command that is accepted after the past. It takes no memory.
     fn install_step(&mut self, step: Step<'_>)
         requires { (past : Past) × (command : PlainCommand) × Represents self.old past
             × (command_fault past command ≡ None) × (command.stamp < forever)

@@ -3,7 +3,7 @@
 //! the first.
 //!
 //! `specs/Representation.antt` says when groups represent a past. A command that was checked is
-//! made ready by `prepare`, which takes all the memory that it needs, and `install` carries it out
+//! prepared by `prepare`, which takes all the memory that it needs, and `install` applies it
 //! and cannot fail.
 #![tactic(auto)]
 

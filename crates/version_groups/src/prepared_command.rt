@@ -12,7 +12,7 @@ pub(crate) enum Step<'a> {
     Evolved(Version, Vec<MadeTable>, Vec<usize>),
 }
 
-/// A command that was made ready: it is installed into the groups that prepared it. Texts that it
+/// A command that was prepared: it is installed into the groups that prepared it. Texts that it
 /// inserts are borrowed by the command until then.
 #[derive(Drop)]
 pub struct PreparedCommand<'a> {

@@ -2,6 +2,7 @@
 use Rattle.std.proofs.Common.{◌≡◌, ℕ, zero, suc, ◌+◌, ◌<◌, Bool, true, false, cond, List, [], ◌∷◌}
 use Rattle.std.proofs.Common.{◌++◌, length, take, get_or, refl, sym, ap, ◌∙◌, subst, arith}
 use Rattle.std.proofs.Common.{append-nil, inl, inr}
+use Rattle.std.proofs.lemmas.List.Elements.{filter-append}
 use Rattle.std.specs.Prelude.{All, ◌&&◌, if◌then◌else◌}
 use Rattle.std.specs.List.{filter}
 use Rattle.std.proofs.lemmas.List.{take_more}
@@ -15,16 +16,6 @@ use Rattle.smo_ops_spec.specs.OneRow.{Row, Relation}
 pub all_valid : (vs : List Val) → All (λ v. IsValid (shown v)) vs → AreValid vs
 all_valid [] a = tt
 all_valid (v ∷ vs) a = (a 0 v (omega arith), all_valid vs (λ k d h. a (suc k) d (omega arith)))
-
-filter-append : {X : Type 0} (p : X → Bool) (xs ys : List X)
-    → filter p (xs ++ ys) ≡ filter p xs ++ filter p ys
-filter-append p [] ys = refl
-filter-append p (x ∷ xs) ys = elim (p x) as (λ b.
-    cond b (x ∷ filter p (xs ++ ys)) (filter p (xs ++ ys)) ≡ cond b (x ∷ filter p xs) (filter p xs)
-    ++ filter p ys) [
-      | true ↦ ap (λ l. x ∷ l) (filter-append p xs ys)
-      | false ↦ filter-append p xs ys
-    ]
 
 -- one row more
 pub passed_more : (p : Row → Bool) (rows : Relation) (i : ℕ) (row : Row) → i < length rows

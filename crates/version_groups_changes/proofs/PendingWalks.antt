@@ -1,6 +1,7 @@
 -- Walks along what is known of rows, and the rows that are put there one by one.
 use Rattle.std.proofs.Common.{◌≡◌, Bool, true, false, cond, List, [], ◌∷◌, ◌++◌, map, refl, sym, ap}
 use Rattle.std.proofs.Common.{◌∙◌, subst, append-nil}
+use Rattle.std.proofs.lemmas.List.Elements.{filter-append}
 use Rattle.std.specs.Prelude.{not, ◌&&◌, ◌||◌, Option, if◌then◌else◌}
 use Rattle.std.specs.List.{filter}
 use Rattle.std.specs.Map.{keys_of}
@@ -15,16 +16,6 @@ use Rattle.history_store.specs.Cuts.{Cut, is_before}
 use Rattle.smo_ops_spec.specs.OneRow.{Row, Relation}
 use Rattle.version_groups_changes.specs.PendingChanges.{Pending, lost_by_now, gained_by_now}
 use Rattle.version_groups_changes.proofs.PendingLaws.{none_past}
-
-filter-append : {X : Type 0} (p : X → Bool) (xs ys : List X)
-    → filter p (xs ++ ys) ≡ filter p xs ++ filter p ys
-filter-append p [] ys = refl
-filter-append p (x ∷ xs) ys = elim (p x) as (λ b.
-    cond b (x ∷ filter p (xs ++ ys)) (filter p (xs ++ ys)) ≡ cond b (x ∷ filter p xs) (filter p xs)
-    ++ filter p ys) [
-      | true ↦ ap (λ l. x ∷ l) (filter-append p xs ys)
-      | false ↦ filter-append p xs ys
-    ]
 
 keys-append : (xs ys : Pending) → keys_of (xs ++ ys) ≡ keys_of xs ++ keys_of ys
 keys-append [] ys = refl

@@ -1,4 +1,4 @@
--- The changes of one table, and what is made ready of them.
+-- The changes of one table, and what is prepared of them.
 use Rattle.std.specs.Prelude.{◌≡◌, ℕ, ◌≤◌, List, [], ◌∷◌, length, map, None, ⊤}
 use Rattle.std.specs.Borrow.{Bor}
 use Rattle.prima_base.specs.Columns.{Column}

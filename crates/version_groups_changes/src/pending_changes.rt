@@ -231,7 +231,7 @@ fn images<'a>(
     Ok(images)
 }
 
-// Carries out the change over what those before it have made.
+// Applies the change over what those before it have made.
 fn apply<'a>(
     alloc: Global,
     store: &StoredTable,

@@ -1,5 +1,5 @@
 //! The rows by which a table differs from what is stored, while the changes of a command are
-//! carried out.
+//! applied.
 
 ghost use Rattle.std.specs.Prelude.{◌≡◌, ◌⊎◌, ◌<◌, ◌++◌, ◌&&◌, ℕ, List, Option, Some, [], ◌∷◌, All};
 ghost use Rattle.std.specs.Prelude.{length, map, drop, cond, IfOk, OnOk, slice_index_or, vec_len};

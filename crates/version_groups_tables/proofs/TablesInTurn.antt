@@ -1,4 +1,4 @@
--- Tables whose changes are made ready, or made, one after the other.
+-- Tables whose changes are prepared, or made, one after the other.
 use Rattle.std.proofs.Common.{◌≡◌, ◌≤◌, ◌<◌, ◌+◌, ℕ, suc, zero, true, List, [], ◌∷◌, ◌++◌, length}
 use Rattle.std.proofs.Common.{drop, get_or, refl, sym, ap, subst, ◌∙◌, arith, inl, inr}
 use Rattle.std.proofs.Common.{length-append, get_or-set_same, get_or-set_other}
@@ -51,7 +51,7 @@ one_place k i = elim (before_or_not k i) [
   | inr l ↦ elim (before_or_not i k) [ inl m ↦ inr (inr m) | inr m ↦ inl (omega (arith, l, m)) ]
 ]
 
--- ---- made ready
+-- ---- prepared
 
 -- the same columns, keys and entries have the same rows after the changes
 pub same_after : (stamp : ℕ) (changes : List PlainChange) (t u : MadeTable) → IsSameTable t u

@@ -3,7 +3,7 @@
 //! lifelines.
 //!
 //! A table is stored once over its lifeline, the versions in which no operator makes or consumes it
-//! (PRIMA 2008), so several versions may have one at their places. What is made ready here is
+//! (PRIMA 2008), so several versions may have one at their places. What is prepared here is
 //! installed without taking memory.
 #![tactic(auto)]
 

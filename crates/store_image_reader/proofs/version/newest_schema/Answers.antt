@@ -1,6 +1,6 @@
 use Rattle.std.proofs.Common.{◌-◌, length, arith}
 use Rattle.smo_ops_spec.specs.Past.{no_tables}
-use Rattle.store_image_reader.proofs.NewestVersion.{last_schema}
+use Rattle.smo_ops_spec.proofs.LastSchemas.{last_schema}
 use Rattle.store_image_reader.proofs.version.newest_schema.Goals as goal
 
 pub returns-in-Some : goal.returns-in-Some

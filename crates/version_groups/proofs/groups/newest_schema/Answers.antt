@@ -1,7 +1,7 @@
 use Rattle.std.proofs.Common.{◌-◌, length, map, ap, ◌∙◌, arith}
 use Rattle.smo_ops_types.specs.Commands.{version_of}
 use Rattle.smo_ops_spec.specs.Past.{newest_from}
-use Rattle.version_groups.proofs.VersionsKept.{last_schema}
+use Rattle.smo_ops_spec.proofs.LastSchemas.{last_schema}
 use Rattle.version_groups.proofs.groups.newest_schema.Goals as goal
 
 pub returns-in-Some : goal.returns-in-Some
