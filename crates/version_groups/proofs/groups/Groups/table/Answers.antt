@@ -19,7 +19,7 @@ use Rattle.version_groups.proofs.groups.Groups.table.Goals as goal
 -- a table that stands at a place has the size that stands there
 kept_size : (kept : Kept) (past : Past) → Represents kept past → (p : ℕ) (size : Size)
     (t : MadeTable) → slice_get kept.stored p ≡ Some t
-        → KeepsSize (get_or past.sizes p size) t.store
+    → KeepsSize (get_or past.sizes p size) t.store
 kept_size kept past represents p size t at =
     let within : p < length past.sizes =
     (let l = slice_get_within kept.stored p t at in let n = represents.sizes.count in
