@@ -30,7 +30,7 @@ use Rattle.store_image_spec.proofs.ValidVersions.{read_valid, valid_read, none_i
 
 -- ---- lists
 
-each_in : {A : Type 0} (Is : A → Type 0) (n : ℕ) (l : List A) → Each Is n l → (a : A) → In a l
+pub each_in : {A : Type 0} (Is : A → Type 0) (n : ℕ) (l : List A) → Each Is n l → (a : A) → In a l
     → Is a
 each_in Is zero [] h a i = absurd i
 each_in Is zero (b ∷ l) h a i = absurd (let e : b ∷ l ≡ [] = h in cc)
@@ -261,7 +261,7 @@ lines_read last n (x ∷ l) few f h = (
 
 -- ---- images
 
-last_below : (last : Option ℕ) → IsLast last → last_or_nought last < forever
+pub last_below : (last : Option ℕ) → IsLast last → last_or_nought last < forever
 last_below None h = omega arith
 last_below (Some k) h = omega (arith, h)
 

@@ -1,0 +1,7 @@
+pub mod Openly
+pub mod Within
+pub mod Filled
+pub mod Stops
+pub mod StopsInLines
+pub mod Drafted
+pub mod Twice
