@@ -1,17 +1,13 @@
 -- What was read is a draft of an image: of each lifeline all but that rows stand apart.
-use Rattle.std.proofs.Common.{◌≡◌, inl, inr, ℕ, suc, ◌^◌, ◌<◌, ◌≤◌, true, false, List, [], ◌∷◌}
-use Rattle.std.proofs.Common.{◌++◌}
-use Rattle.std.proofs.Common.{map, length, refl, sym, ap, ◌∙◌, subst, append_assoc, arith}
-use Rattle.std.specs.Prelude.{Option, None, ⊤}
-use Rattle.std.specs.List.{flat_map}
+use Rattle.std.proofs.Common.{◌≡◌, inl, inr, ℕ, suc, List, [], ◌∷◌}
+use Rattle.std.proofs.Common.{map, length, refl, sym, ap, ◌∙◌, subst, arith}
+use Rattle.std.specs.Prelude.{Option, None}
 use Rattle.relations_spec.specs.Sets.{In}
 use Rattle.relations_spec.specs.Spans.{Span}
 use Rattle.prima_base.specs.Columns.{Column, AreColumns}
 use Rattle.prima_base.specs.declared.value.ColType.{ColType}
-use Rattle.history_store_spec.specs.Store.{Cell, IsPeriod, IsFilled}
+use Rattle.history_store_spec.specs.Store.{Cell, IsPeriod}
 use Rattle.smo_ops_spec.specs.Past.{no_tables}
-use Rattle.smo_ops_types.specs.Commands.{PlainVersion}
-use Rattle.command_codec_spec.proofs.Correctness.{true_false}
 use Rattle.smo_ops_versions_spec.specs.Lifelines.{Lifeline, lifelines_of}
 use Rattle.store_image_spec.specs.Images.{StoredLine, Image, EndsUpTo}
 use Rattle.store_image_spec.proofs.Checking.{period_lasts, period_up_to}

@@ -1,5 +1,5 @@
 -- Entries that fill the periods of keys, each with one value for all of it.
-use Rattle.std.proofs.Common.{◌≡◌, ℕ, suc, ◌+◌, ◌≤◌, ◌<◌, ◌^◌, ◌==◌, Bool, true, false, List, []}
+use Rattle.std.proofs.Common.{◌≡◌, ℕ, ◌+◌, ◌<◌, ◌^◌, ◌==◌, true, List, []}
 use Rattle.std.proofs.Common.{◌∷◌, length, refl, sym, subst, arith}
 use Rattle.std.specs.Prelude.{Option, MatchBool, pos}
 use Rattle.relations_spec.specs.Spans.{Span, span}
@@ -10,11 +10,10 @@ use Rattle.prima_base.specs.declared.value.Value.{Value}
 use Rattle.prima_base.specs.declared.value.Value.TheVariants.{Int, Text}
 use Rattle.history_store_spec.specs.Store.{Cell}
 use Rattle.command_codec_spec.proofs.PartFormats.{zero_valid}
-use Rattle.store_image_spec.specs.ItemChecks.{is_period}
 use Rattle.store_image_spec.proofs.Checking.{number_itself}
-use Rattle.store_image_spec.proofs.Filling.{IsDue, is_due_so}
+use Rattle.store_image_spec.proofs.Filling.{is_due_so}
 use Rattle.store_image_spec.proofs.Formats.{Each, Led}
-use Rattle.store_image_spec.proofs.ReadParts.{IsKey, Run, most_64}
+use Rattle.store_image_spec.proofs.ReadParts.{IsKey, Run}
 
 -- a value of the type
 abbrev pub some_value : ColType → Value

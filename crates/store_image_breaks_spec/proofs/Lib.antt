@@ -1,5 +1,6 @@
 pub mod Openly
 pub mod Within
+pub mod Full
 pub mod Filled
 pub mod Stops
 pub mod StopsInLines

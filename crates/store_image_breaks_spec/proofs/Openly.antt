@@ -12,7 +12,7 @@ use Rattle.store_image_spec.specs.Encoding.{stored_bytes}
 use Rattle.store_image_spec.specs.Items.{item, if_right, missing}
 use Rattle.store_image_spec.specs.Reader.{number_32, last_stamp, all_versions, has_apart}
 use Rattle.store_image_spec.specs.Reader.{stored_line}
-use Rattle.store_image_spec.specs.Reader.{lines, all_lines, nothing_after, an_image, image}
+use Rattle.store_image_spec.specs.Reader.{lines, nothing_after, an_image}
 use Rattle.store_image_spec.proofs.ReadParts.{kept_line, reads_kept, BodyRead}
 
 -- so many lifelines, whose rows are not compared

@@ -1,10 +1,9 @@
 -- Where the reader stops in a part of an image: what stands before are the first items of such a
 -- part.
-use Rattle.std.proofs.Common.{◌≡◌, ◌⊎◌, inl, inr, ℕ, zero, suc, ◌+◌, ◌*◌, ◌^◌, ◌<◌, ◌≤◌, ◌==◌}
-use Rattle.std.proofs.Common.{eqb-true, Bool, true, false, cond, List, [], ◌∷◌, ◌++◌, length, refl}
+use Rattle.std.proofs.Common.{◌≡◌, inl, inr, ℕ, zero, suc, ◌+◌, ◌*◌, ◌^◌, ◌<◌, ◌≤◌, ◌==◌}
+use Rattle.std.proofs.Common.{Bool, true, false, List, [], ◌∷◌, ◌++◌, length, refl}
 use Rattle.std.proofs.Common.{sym, ap, ◌∙◌, subst, append_assoc, arith}
 use Rattle.std.specs.Prelude.{Option, Some, None, MatchBool, if◌then◌else◌}
-use Rattle.std.specs.List.{flat_map}
 use Rattle.relations_spec.specs.Spans.{Span, span}
 use Rattle.prima_base.specs.Columns.{Column}
 use Rattle.prima_base.specs.declared.value.ColType.{ColType}
@@ -12,24 +11,24 @@ use Rattle.schema_catalog.specs.Tables.{Tables}
 use Rattle.history_store_spec.specs.Store.{Cell}
 use Rattle.smo_ops_types.specs.Commands.{PlainVersion}
 use Rattle.smo_ops_spec.specs.Past.{no_tables}
-use Rattle.command_codec_spec.specs.Reading.{Out, Parsed, Unexpected, Parser, and_then, bind, pure}
+use Rattle.command_codec_spec.specs.Reading.{Out, Parsed, Unexpected, Parser, and_then, bind}
 use Rattle.command_codec_spec.specs.Reading.{map_to, items, pair}
 use Rattle.command_codec_spec.specs.Encoding.{number, list_bytes}
 use Rattle.command_codec_spec.specs.Reader.{number_64, value}
 use Rattle.command_codec_spec.proofs.Correctness.{true_false}
 use Rattle.store_image_spec.specs.Encoding.{version_bytes, span_bytes, cell_bytes}
-use Rattle.store_image_spec.specs.Items.{named_at, item, checked, missing}
+use Rattle.store_image_spec.specs.Items.{named_at, item, checked}
 use Rattle.store_image_spec.specs.ItemChecks.{is_version, is_period, is_due}
 use Rattle.store_image_spec.specs.Reader.{number_32, version, evolution, versions, all_versions}
 use Rattle.store_image_spec.specs.Reader.{period, key, keys, cell_of, entry, entries}
 use Rattle.store_image_spec.specs.Reader.{column_entries, columns}
 use Rattle.store_image_spec.proofs.Checking.{number_itself, period_up_to, is_period_so}
-use Rattle.store_image_spec.proofs.Filling.{IsDue, due_is}
-use Rattle.store_image_spec.proofs.Formats.{Reads, reads_item, Each}
+use Rattle.store_image_spec.proofs.Filling.{due_is}
+use Rattle.store_image_spec.proofs.Formats.{Reads, reads_item}
 use Rattle.store_image_spec.proofs.ReadParts.{most_32, most_64, reads_32, reads_count}
 use Rattle.store_image_spec.proofs.ReadParts.{reads_version, AreRead, IsKey, reads_key, reads_entry}
 use Rattle.store_image_spec.proofs.ReadParts.{IsEntry, Run, reads_column}
-use Rattle.store_image_breaks_spec.specs.Agreement.{IsNone, AndThen, AreFirst, BeginsList}
+use Rattle.store_image_breaks_spec.specs.Agreement.{IsNone, AreFirst, BeginsList}
 use Rattle.store_image_breaks_spec.specs.Agreement.{BeginsColumns}
 use Rattle.store_image_breaks_spec.proofs.Openly.{map_stops}
 use Rattle.store_image_breaks_spec.proofs.Filled.{one_each, AreKeys, one_each_runs, ColumnsRun}
@@ -336,7 +335,7 @@ unfolding columns
 columns_stop last due [] ts rest are few e = absurd (cc)
 columns_stop last due (c ∷ cs) ts rest are few e =
     step (λ us f. columns_stop last due cs us rest are few f) (column_entries last due c.1 ts) refl
-        e
+    e
   where
     step : ((us : List ℕ) → columns last due cs us ≡ Unexpected rest
         → Stopped (ColumnsRun last due cs) BeginsColumns us rest)

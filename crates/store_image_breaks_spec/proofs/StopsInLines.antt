@@ -1,17 +1,16 @@
 -- Where the reader that compares no rows stops: what stands before are the first items of an image,
 -- or of what would be one but that two ids show one row.
-use Rattle.std.proofs.Common.{◌≡◌, ◌⊎◌, inl, inr, ℕ, zero, suc, ◌+◌, ◌*◌, ◌^◌, ◌<◌, ◌≤◌, List, []}
-use Rattle.std.proofs.Common.{◌∷◌, ◌++◌, map, length, refl, sym, ap, ◌∙◌, subst, append_assoc}
+use Rattle.std.proofs.Common.{◌≡◌, inl, inr, ℕ, zero, suc, ◌*◌, ◌^◌, ◌<◌, ◌≤◌, List, []}
+use Rattle.std.proofs.Common.{◌∷◌, ◌++◌, length, refl, ap, ◌∙◌, subst}
 use Rattle.std.proofs.Common.{arith}
 use Rattle.std.proofs.Common.{true}
-use Rattle.std.specs.Prelude.{Option, Some, None}
-use Rattle.std.specs.List.{flat_map}
+use Rattle.std.specs.Prelude.{Option, None}
 use Rattle.relations_spec.specs.Spans.{Span}
 use Rattle.prima_base.specs.Columns.{Column}
 use Rattle.history_store_spec.specs.Store.{Cell}
 use Rattle.smo_ops_types.specs.Commands.{PlainVersion}
 use Rattle.smo_ops_spec.specs.Past.{no_tables}
-use Rattle.command_codec_spec.specs.Reading.{Out, Parsed, Unexpected, Parser, and_then, bind, pure}
+use Rattle.command_codec_spec.specs.Reading.{Out, Parsed, Unexpected, and_then, bind, pure}
 use Rattle.command_codec_spec.specs.Reading.{map_to, by_tag}
 use Rattle.command_codec_spec.specs.Reader.{up_to}
 use Rattle.command_codec_spec.specs.Encoding.{number, name_bytes, list_bytes}
@@ -19,19 +18,19 @@ use Rattle.smo_ops_versions_spec.specs.Lifelines.{Lifeline, lifelines_of}
 use Rattle.store_image_spec.specs.Images.{StoredLine, Image}
 use Rattle.store_image_spec.specs.Encoding.{last_number, last_bytes, version_bytes, span_bytes}
 use Rattle.store_image_spec.specs.Encoding.{line_bytes, stored_bytes}
-use Rattle.store_image_spec.specs.Items.{item, checked, missing}
+use Rattle.store_image_spec.specs.Items.{item, checked}
 use Rattle.store_image_spec.specs.ItemChecks.{is_line}
 use Rattle.store_image_spec.specs.Reader.{number_32, last_arm, last_stamp, all_versions, keys}
 use Rattle.store_image_spec.specs.Reader.{columns, line_head, a_line, nothing_after, an_image}
 use Rattle.store_image_spec.proofs.ReadParts.{IsLast, reads_last, reads_all_versions}
 use Rattle.store_image_spec.proofs.ReadParts.{KeysRead, reads_keys, BodyRead, reads_due, head_is}
 use Rattle.store_image_spec.proofs.ReadParts.{head_bytes, kept_line, reads_kept, ColumnsRead}
-use Rattle.store_image_spec.proofs.ReadParts.{most_32, most_64}
-use Rattle.store_image_breaks_spec.specs.Agreement.{IsNone, AndThen, AreFirst, BeginsList}
-use Rattle.store_image_breaks_spec.specs.Agreement.{BeginsColumns, BeginsLine, BeginsImage}
+use Rattle.store_image_spec.proofs.ReadParts.{most_64}
+use Rattle.store_image_breaks_spec.specs.Agreement.{AreFirst, BeginsList}
+use Rattle.store_image_breaks_spec.specs.Agreement.{BeginsLine, BeginsImage}
 use Rattle.store_image_breaks_spec.proofs.Openly.{open_lines, all_open_lines, open_image, map_stops}
 use Rattle.store_image_breaks_spec.proofs.Filled.{AreKeys, ColumnsRun, one_each_column, columns_run}
-use Rattle.store_image_breaks_spec.proofs.Stops.{Stopped, item_stops, behind, list_stops}
+use Rattle.store_image_breaks_spec.proofs.Stops.{Stopped, item_stops, behind}
 use Rattle.store_image_breaks_spec.proofs.Stops.{counted_32, AreSoFar, all_versions_stop, keys_stop}
 use Rattle.store_image_breaks_spec.proofs.Stops.{columns_stop}
 

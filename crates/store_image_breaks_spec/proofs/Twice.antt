@@ -1,7 +1,7 @@
 -- The reader stops where the one does that compares no rows, or at a lifeline that shows one row
 -- twice.
-use Rattle.std.proofs.Common.{◌≡◌, ◌⊎◌, inl, inr, ℕ, true, false, List, [], ◌∷◌, ◌++◌, length, refl}
-use Rattle.std.proofs.Common.{sym, ap, ◌∙◌, subst, append_assoc}
+use Rattle.std.proofs.Common.{◌≡◌, ◌⊎◌, inl, inr, ℕ, List, [], ◌∷◌, ◌++◌, refl}
+use Rattle.std.proofs.Common.{sym, ap, ◌∙◌, subst}
 use Rattle.std.specs.Prelude.{Option, None}
 use Rattle.std.specs.List.{flat_map}
 use Rattle.smo_ops_types.specs.Commands.{PlainVersion}
@@ -14,7 +14,7 @@ use Rattle.store_image_spec.specs.Images.{StoredLine, Image}
 use Rattle.store_image_spec.specs.Encoding.{last_bytes, version_bytes, stored_bytes}
 use Rattle.store_image_spec.specs.Items.{item}
 use Rattle.store_image_spec.specs.Reader.{number_32, last_stamp, all_versions, lines, all_lines}
-use Rattle.store_image_spec.specs.Reader.{has_apart, nothing_after, an_image, image}
+use Rattle.store_image_spec.specs.Reader.{nothing_after, an_image, image}
 use Rattle.store_image_spec.proofs.Apartness.{apart_at_starts}
 use Rattle.store_image_spec.proofs.ReadParts.{IsLast, reads_last, reads_all_versions, BodyRead}
 use Rattle.store_image_breaks_spec.specs.Breaks.{ShowsTwice}

@@ -1,10 +1,9 @@
 -- The reader that does not compare rows goes on to behind all items in which bytes agree with an
 -- image.
-use Rattle.std.proofs.Common.{◌≡◌, ◌⊎◌, inl, inr, ℕ, zero, suc, ◌+◌, ◌*◌, ◌^◌, ◌<◌, ◌≤◌, ◌==◌}
-use Rattle.std.proofs.Common.{Bool, true, false, List, [], ◌∷◌, ◌++◌, length, refl, sym, ap, ◌∙◌}
+use Rattle.std.proofs.Common.{◌≡◌, inl, inr, ℕ, zero, suc, ◌+◌, ◌*◌, ◌^◌, ◌<◌, ◌≤◌, ◌==◌}
+use Rattle.std.proofs.Common.{Bool, true, false, List, [], ◌∷◌, ◌++◌, length, sym, ap, ◌∙◌}
 use Rattle.std.proofs.Common.{subst, append_assoc, arith}
 use Rattle.std.specs.Prelude.{Option, Some, None, MatchBool, if◌then◌else◌}
-use Rattle.std.specs.List.{flat_map}
 use Rattle.relations_spec.specs.Spans.{Span, span}
 use Rattle.prima_base.specs.Columns.{Column}
 use Rattle.prima_base.specs.declared.value.ColType.{ColType}
@@ -16,7 +15,7 @@ use Rattle.command_codec_spec.specs.Reading.{Out, Parsed, Unexpected, Parser, an
 use Rattle.command_codec_spec.specs.Reading.{map_to, items}
 use Rattle.command_codec_spec.specs.Encoding.{number, list_bytes}
 use Rattle.smo_ops_versions_spec.specs.Lifelines.{Lifeline, lifelines_of}
-use Rattle.store_image_spec.specs.Images.{StoredLine, Image, IsImage}
+use Rattle.store_image_spec.specs.Images.{StoredLine, Image}
 use Rattle.store_image_spec.specs.Encoding.{last_number, last_bytes, version_bytes, span_bytes}
 use Rattle.store_image_spec.specs.Encoding.{cell_bytes, line_bytes, stored_bytes}
 use Rattle.store_image_spec.specs.Items.{item, checked, missing}
@@ -39,7 +38,7 @@ use Rattle.store_image_spec.proofs.ReadParts.{reads_version, AreRead, AllRead, r
 use Rattle.store_image_spec.proofs.ReadParts.{IsKey, reads_key, KeysRead, reads_keys, reads_entry}
 use Rattle.store_image_spec.proofs.ReadParts.{Run, ColumnRead, reads_column, ColumnsRead, LineFits}
 use Rattle.store_image_spec.proofs.ReadParts.{BodyRead, reads_due, own_head, kept_line, reads_kept}
-use Rattle.store_image_spec.proofs.ReadParts.{LinesRead, AllLinesRead, ImageRead}
+use Rattle.store_image_spec.proofs.ReadParts.{IsLast}
 use Rattle.store_image_breaks_spec.specs.Agreement.{IsNone, AndThen, AreFirst, BeginsList}
 use Rattle.store_image_breaks_spec.specs.Agreement.{BeginsColumns, BeginsLine, BeginsImage}
 use Rattle.store_image_breaks_spec.proofs.Openly.{open_lines, all_open_lines, open_image}
@@ -296,8 +295,15 @@ open_leave last (suc n) (d ∷ due) =
     (kept_leaves last d) (λ l. map_leaves (λ ls. l ∷ ls) (open_lines last n due)
     (open_leave last n due))
 
+-- of each lifeline that is due all can be read
+abbrev pub AreFull : Option ℕ → List Lifeline → List StoredLine → Type 0
+AreFull last [] [] = Unit {0}
+AreFull last [] (l ∷ ls) = ⊥
+AreFull last (d ∷ due) [] = ⊥
+AreFull last (d ∷ due) (l ∷ ls) = (LineFits d × BodyRead last d l) × AreFull last due ls
+
 within_lines : (last : Option ℕ) (n : ℕ) (due : List Lifeline) (l : List StoredLine)
-    (u w : List ℕ) → LinesRead last (length l) due l → AreFirst BeginsLine stored_bytes n l u
+    (u w : List ℕ) → AreFull last due l → AreFirst BeginsLine stored_bytes n l u
     → Leaves w (open_lines last n due (u ++ w))
 unfolding open_lines
 within_lines last zero [] l u w h e = within_none {A = List StoredLine} (pure [])
@@ -311,21 +317,21 @@ within_lines last (suc n) (d ∷ due) [] u w h e = absurd h
 within_lines last (suc n) (d ∷ due) (x ∷ l) u w h e =
     within_then (kept_line last d) (λ y. map_to (λ ls. y ∷ ls) (open_lines last n due)) x
     (stored_bytes x) (BeginsLine x) (AreFirst BeginsLine stored_bytes n l)
-    ((reads_kept last d).complete x h.0.0)
+    ((reads_kept last d).complete x h.0)
     (λ y. map_leaves (λ ls. y ∷ ls) (open_lines last n due) (open_leave last n due))
-    (λ k y i. within_kept last d x k y h.0.0.0 h.0.0.1 i)
+    (λ k y i. within_kept last d x k y h.0.0 h.0.1 i)
     (λ k y i. leaves_map (λ ls. x ∷ ls) y (open_lines last n due (k ++ y))
     (within_lines last n due l k y h.1 i)) u w e
 
 -- ---- images
 
 within_all_lines : (last : Option ℕ) (due : List Lifeline) (l : List StoredLine)
-    → AllLinesRead last due l → (u w : List ℕ) → BeginsList 4 BeginsLine stored_bytes l u
+    → AreFull last due l → (u w : List ℕ) → BeginsList 4 BeginsLine stored_bytes l u
     → Leaves w (all_open_lines last due (u ++ w))
 within_all_lines last due l h =
     within_list (item number_32) 4 most_32 count_32 fits_32 (item_leaves number_32 number_32_leaves)
     (λ n. open_lines last n due) (λ n. open_leave last n due) BeginsLine stored_bytes l
-    (λ n u w e. within_lines last n due l u w h.1 e)
+    (λ n u w e. within_lines last n due l u w h e)
 
 ended_leaves : (last : Option ℕ) (vs : List PlainVersion)
     → LeavesEnds (bind (all_open_lines last (lifelines_of vs))
@@ -336,7 +342,13 @@ ended_leaves last vs = bind_leaves (all_open_lines last (lifelines_of vs))
     (item_leaves number_32 number_32_leaves) (λ n. open_leave last n (lifelines_of vs)))
     (λ ls. nothing_leaves (an_image last vs ls))
 
-pub within_image : (i : Image) → ImageRead i → (u w : List ℕ) → BeginsImage i u
+-- all of it can be read, and the rows not compared
+pub record IsFull (i : Image) : Type 0 where
+  pub last : IsLast i.last
+  pub versions : AllRead i.last i.versions
+  pub lines : AreFull i.last (lifelines_of i.versions) i.lines
+
+pub within_image : (i : Image) → IsFull i → (u w : List ℕ) → BeginsImage i u
     → Leaves w (open_image (u ++ w))
 within_image i h u w e =
     within_then last_stamp (λ last. bind (all_versions last)

@@ -1,13 +1,11 @@
 use Rattle.std.proofs.Common.{◌≡◌, ◌≤◌, ◌++◌, ⊎_elim, inl, inr, ℕ, List, length, length-append, sym}
 use Rattle.std.proofs.Common.{ap, ◌∙◌, subst, arith}
-use Rattle.command_codec_spec.specs.Reading.{Out, Unexpected}
-use Rattle.store_image_spec.specs.Images.{Image, IsImage}
+use Rattle.command_codec_spec.specs.Reading.{Unexpected}
 use Rattle.store_image_spec.proofs.Places.{Leaves}
-use Rattle.store_image_spec.proofs.ReadImages.{image_is_read}
-use Rattle.store_image_breaks_spec.specs.Agreement.{BeginsImage}
 use Rattle.store_image_breaks_spec.specs.Breaks.{BreaksAt}
 use Rattle.store_image_breaks_spec.proofs.Openly.{open_image}
 use Rattle.store_image_breaks_spec.proofs.Within.{within_image}
+use Rattle.store_image_breaks_spec.proofs.Full.{draft_is_full}
 use Rattle.store_image_breaks_spec.proofs.StopsInLines.{image_stops}
 use Rattle.store_image_breaks_spec.proofs.Drafted.{read_is_draft}
 use Rattle.store_image_breaks_spec.proofs.Twice.{image_opens}
@@ -31,9 +29,9 @@ breaks bytes rest e =
       image = s.found;
       draft = read_is_draft s.found s.is;
       some = s.begins;
-      none = λ i h first more b f.
+      none = λ i h count first more b f.
           (let at = subst (λ o. Leaves more o) (ap open_image (sym f) ∙ e)
-          (within_image i (image_is_read i h) first more b) in
+          (within_image i (draft_is_full i h count) first more b) in
           not_later bytes s.first first more at.0 rest s.are f at.1);
     }
 
