@@ -68,7 +68,7 @@ impl<D: Disk> Archive<D> {
     ghost use Rattle.archive_core.specs.Putting.{IsUnfailed};
     ghost use Rattle.archive_core.specs.Checkpointing.{Checkpoints, image_of_archive};
     ghost use Rattle.archive_core.specs.Checkpointing.{checkpoint_of};
-    ghost use Rattle.archive_core.specs.Mounting.{IsMounted};
+    ghost use Rattle.archive_core.specs.Mounting.{IsMounted, IsKeptOrBegun};
     ghost use Rattle.store_image.specs.ImageIn.{IsImageOf};
 
     /// Opens the archive whose records the file on a disk holds: its past is exactly the one that
@@ -77,9 +77,10 @@ impl<D: Disk> Archive<D> {
     /// other is read alone. A limit of `u64::MAX` bytes counts as one less. `Disk` comes only where
     /// the disk's count of faults rose, and `Damaged` exactly where the file is damaged, with the
     /// place: its frames are checked first, then each payload, then each command after the last
-    /// image. A fault hands the disk back as it then stands. It takes at most one step for each
-    /// command after the last image, whatever it answers; over a damaged file at most one for each
-    /// record.
+    /// image. A fault hands the disk back as it then stands: where the disk did not fail, with the
+    /// file as it was, or with the empty journal that was made of at most nine bytes. It takes at
+    /// most one step for each command after the last image, whatever it answers; over a damaged
+    /// file at most one for each record.
     pub fn mount<L: Ledger>(
         alloc: Global,
         disk: D,
@@ -109,6 +110,8 @@ impl<D: Disk> Archive<D> {
             → IfKnown (D.meaning disk).seen (λ file. Damages file place)) }
         ensures untouched { IfErr result (λ it. (place : ℕ) → it.1 ≡ mounting.Damaged place
             → (D.meaning it.0).seen ≡ (D.meaning disk).seen) }
+        ensures kept_or_begun { IfErr result (λ it. (it.1 ≡ mounting.Disk → ⊥)
+            → IsKeptOrBegun (D.meaning disk).seen (D.meaning it.0).seen) }
         ensures cause { IfErr result (λ it. it.1 ≡ mounting.Disk
             → Rose (D.meaning disk).faults (D.meaning it.0).faults) }
         ensures unfailed { IfOk result (λ it. (below it.0).faults ≡ (D.meaning disk).faults) }

@@ -37,7 +37,7 @@ pub enum MountFault {
     Disk,
     /// The file is no archive's: it is damaged at this place. It was not written.
     Damaged(u64),
-    /// Memory ran out.
+    /// Memory ran out. The file is as it was, or the empty journal where it had at most nine bytes.
     NoMemory,
 }
 

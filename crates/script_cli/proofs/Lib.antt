@@ -7,6 +7,7 @@ pub mod Taking
 pub mod Reaching
 pub mod OnDisks
 pub mod Telling
+pub mod Answered
 pub mod EncodedConstants
 pub mod ValidPasts
 pub mod Counts

@@ -39,7 +39,7 @@ nothing_said : (u : Option (List ℕ)) (text : List ℕ) → AppendsPrefix u u t
 nothing_said u text = ([], text, refl, Appends-nil u)
 
 -- nothing more was written
-kept_prefix : (u v : Option (List ℕ)) (text : List ℕ) → v ≡ u → AppendsPrefix u v text
+pub kept_prefix : (u v : Option (List ℕ)) (text : List ℕ) → v ≡ u → AppendsPrefix u v text
 kept_prefix u v text same = subst (λ x. AppendsPrefix u x text) (sym same) (nothing_said u text)
 
 module _ (limit : Given) (start : Recorded) where

@@ -152,6 +152,36 @@ pub record RanOpened (limit : Given) (status : Status)
   pub log : Log limit start status ran.whole ran.rest
   pub disk : OnDisk status log.done (logged_in log) old new
 
+-- What was acknowledged stays, read alone. Of the bytes that were taken these statements were
+-- answered whole, and these were not: what was written is the replies to the first, and after them
+-- a prefix of what comes next. Each of these files opens as the opening records, and after them
+-- those of all statements that were answered whole (`log`); and at most that of the next statement
+-- too (`more`), which it has where a byte of the next reply was written.
+pub record KeepsAnswered (limit : Given) (start : Recorded) (opening : List LogRecord)
+    (left_old left_new written_old written_new : Option (List ℕ)) (files : List ℕ → Type 0) :
+    Type 0 where
+  pub taken : List ℕ
+  pub consumed : Consumes left_old left_new taken
+  pub whole : List StatementPart
+  pub rest : List StatementPart
+  pub are : parts_of taken ≡ whole ++ rest
+  pub between : Option (List ℕ)
+  pub replied : Appends written_old between (replies limit start whole)
+  pub next :
+      AppendsPrefix between written_new (next_reply limit (recorded_after limit start whole)
+      rest).text
+      ⊎ AppendsPrefix between written_new (tail_text (ending_of taken))
+  pub log : List LogRecord
+  pub log_are : AreRecordsOf (all_puts limit start whole) log
+  pub more : List LogRecord
+  pub more_are :
+      AreRecordsOf (all_puts limit (recorded_after limit start whole) (take 1 rest)) more
+      ⊎ (more ≡ [])
+  pub held : (c : List ℕ) → files c
+      → Opens c (opening ++ log) ⊎ Opens c (opening ++ (log ++ more))
+  pub next_held : (written_new ≡ between)
+      ⊎ ((c : List ℕ) → files c → Opens c (opening ++ (log ++ more)))
+
 -- ---- runs that read no script
 
 -- a line was put whole, or less where the sink failed

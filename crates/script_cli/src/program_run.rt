@@ -1,17 +1,20 @@
 //! A run or a sample: from the words, the bytes of the script, what the sink takes and the file on
 //! the disk to a status.
 
-ghost use Rattle.std.specs.Prelude.{◌≡◌, ◌⊎◌, List, ℕ, Option, Some, None, map, string_bytes};
+ghost use Rattle.std.specs.Prelude.{◌≡◌, ◌⊎◌, List, ℕ, IsTrue, Option, Some, None, map};
+ghost use Rattle.std.specs.Prelude.{string_bytes};
 ghost use Rattle.disk_model.specs.Meaning.{IfKnown};
 ghost use Rattle.disk_model.specs.Moments.{GoesOn};
 ghost use Rattle.rewrite.specs.Books.{book_meaning};
-ghost use Rattle.archive_core_file_spec.specs.Opening.{Damages};
+ghost use Rattle.archive_core_file_spec.specs.LogRecords.{LogRecord};
+ghost use Rattle.archive_core_file_spec.specs.Opening.{Opens, Damages};
 ghost use Rattle.script_cli_arguments.specs.Arguments.{asked, asked_for, limit_of_run};
 ghost use Rattle.script_cli_arguments.specs.declared.request.Mode.TheVariants.{Sample};
+ghost use Rattle.script_cli_statement.specs.Replies.{recorded};
 ghost use Rattle.script_cli.specs.Laws.{OutputLaws};
 ghost use Rattle.script_cli.specs.Promises.{RunOutcome, SampleOutcome};
 ghost use Rattle.script_cli.specs.Runs.{IsUntouched, RunsOver, RefusedWords, given_by};
-ghost use Rattle.script_cli.specs.Runs.{SourceCounted, SinkCounted, DiskCounted};
+ghost use Rattle.script_cli.specs.Runs.{KeepsAnswered, SourceCounted, SinkCounted, DiskCounted};
 ghost use Rattle.script_cli.specs.Sampling.{AsksSample, SamplesOver};
 ghost use Rattle.script_cli.specs.declared.status.Status.TheVariants as Status;
 
@@ -199,6 +202,17 @@ pub fn run<S: Source, K: Sink, D: Disk, R: Rule>(
     ensures quiet { (limit : ℕ) → (size : ℕ) → AsksSample (map string_bytes arguments.now) limit
         size
         → source.new ≡ source.old }
+
+    // What was acknowledged stays: where each file that a crash might have left at the start opens
+    // as the opening records, each that a crash may leave at the exit opens as these, those of all
+    // statements that were answered whole, and at most one more.
+    ensures acknowledged { (limit : ℕ) → (file : List ℕ) → (opening : List LogRecord)
+        → asked_for (map string_bytes arguments.now) ≡ Some limit
+        → IsTrue (D.meaning disk.old).is_honest → (D.meaning disk.old).seen ≡ Some file
+        → ((c : List ℕ) → (D.meaning disk.old).may_leave c → Opens c opening)
+        → KeepsAnswered (given_by limit (book_meaning R.Rule book.now))
+        (recorded opening) opening (S.left source.old) (S.left source.new) (K.written sink.old)
+        (K.written sink.new) (D.meaning disk.new).may_leave }
 
     // NotAJournal comes exactly where the file is damaged, at its place, unless the disk failed or
     // memory ran out.

@@ -35,20 +35,20 @@ use Rattle.store_image_spec.specs.Reader.{a_span}
 use Rattle.store_image_spec.proofs.ReadParts.{most_32, most_64}
 
 -- what is left is an end of the bytes
-abbrev IsEnd : List ℕ → List ℕ → Type 0
+abbrev pub IsEnd : List ℕ → List ℕ → Type 0
 IsEnd ts rest = (prefix : List ℕ) × (ts ≡ prefix ++ rest)
 
-abbrev Leaves : {A : Type 0} → List ℕ → Out A → Type 0
+abbrev pub Leaves : {A : Type 0} → List ℕ → Out A → Type 0
 Leaves ts (Parsed a rest) = IsEnd ts rest
 Leaves ts (Unexpected rest) = IsEnd ts rest
 
-abbrev LeavesEnds : {A : Type 0} → Parser A → Type 0
+abbrev pub LeavesEnds : {A : Type 0} → Parser A → Type 0
 LeavesEnds p = (ts : List ℕ) → Leaves ts (p ts)
 
-all_left : (ts : List ℕ) → IsEnd ts ts
+pub all_left : (ts : List ℕ) → IsEnd ts ts
 all_left ts = ([], refl)
 
-end_of_end : (ts us vs : List ℕ) → IsEnd ts us → IsEnd us vs → IsEnd ts vs
+pub end_of_end : (ts us vs : List ℕ) → IsEnd ts us → IsEnd us vs → IsEnd ts vs
 end_of_end ts us vs a b = (a.0 ++ b.0, a.1 ∙ ap (λ l. a.0 ++ l) b.1 ∙ sym (append_assoc a.0 b.0 vs))
 
 -- ---- readers
@@ -61,14 +61,14 @@ correct_leaves {A} p Is encode correct ts = step (p ts) (correct.explains ts)
     step (Parsed a rest) x = (encode a, x.1)
     step (Unexpected rest) x = (x.0, x.1)
 
-item_leaves : {A : Type 0} (p : Parser A) → LeavesEnds p → LeavesEnds (item p)
+pub item_leaves : {A : Type 0} (p : Parser A) → LeavesEnds p → LeavesEnds (item p)
 item_leaves {A} p h ts = step (p ts) (h ts)
   where
     step : (o : Out A) → Leaves ts o → Leaves ts (named_at ts o)
     step (Parsed a rest) x = x
     step (Unexpected rest) x = all_left ts
 
-checked_leaves : {A : Type 0} (right : A → Bool) (p : Parser A) → LeavesEnds p
+pub checked_leaves : {A : Type 0} (right : A → Bool) (p : Parser A) → LeavesEnds p
     → LeavesEnds (checked right p)
 checked_leaves {A} right p h ts = step (p ts) (h ts)
   where
@@ -81,7 +81,7 @@ checked_leaves {A} right p h ts = step (p ts) (h ts)
     step (Parsed a rest) x = taken a rest (right a) x
     step (Unexpected rest) x = x
 
-bind_leaves : {A B : Type 0} (p : Parser A) (f : A → Parser B) → LeavesEnds p
+pub bind_leaves : {A B : Type 0} (p : Parser A) (f : A → Parser B) → LeavesEnds p
     → ((a : A) → LeavesEnds (f a)) → LeavesEnds (bind p f)
 bind_leaves {A} {B} p f h k ts = step (p ts) (h ts)
   where
@@ -96,7 +96,7 @@ bind_leaves {A} {B} p f h k ts = step (p ts) (h ts)
 pure_leaves : {A : Type 0} (a : A) → LeavesEnds (pure a)
 pure_leaves a ts = all_left ts
 
-map_leaves : {A B : Type 0} (f : A → B) (p : Parser A) → LeavesEnds p → LeavesEnds (map_to f p)
+pub map_leaves : {A B : Type 0} (f : A → B) (p : Parser A) → LeavesEnds p → LeavesEnds (map_to f p)
 map_leaves f p h = bind_leaves p (λ a. pure (f a)) h (λ a. pure_leaves (f a))
 
 pair_leaves : {A B : Type 0} (p : Parser A) (q : Parser B) → LeavesEnds p → LeavesEnds q
@@ -104,18 +104,18 @@ pair_leaves : {A B : Type 0} (p : Parser A) (q : Parser B) → LeavesEnds p → 
 pair_leaves p q h k = bind_leaves p (λ a. map_to (λ b. (a, b)) q) h
     (λ a. map_leaves (λ b. (a, b)) q k)
 
-missing_leaves : (A : Type 0) → LeavesEnds (missing {A = A})
+pub missing_leaves : (A : Type 0) → LeavesEnds (missing {A = A})
 missing_leaves A ts = all_left ts
 
-none_leaves : (A : Type 0) → LeavesEnds (pure {A = List A} [])
+pub none_leaves : (A : Type 0) → LeavesEnds (pure {A = List A} [])
 none_leaves A ts = all_left ts
 
-if_leaves : {A : Type 0} (b : Bool) (p q : Parser A) → LeavesEnds p → LeavesEnds q
+pub if_leaves : {A : Type 0} (b : Bool) (p q : Parser A) → LeavesEnds p → LeavesEnds q
     → LeavesEnds (if b then p else q)
 if_leaves true p q h k = h
 if_leaves false p q h k = k
 
-items_leave : {A : Type 0} (p : Parser A) → LeavesEnds p → (n : ℕ) → LeavesEnds (items p n)
+pub items_leave : {A : Type 0} (p : Parser A) → LeavesEnds p → (n : ℕ) → LeavesEnds (items p n)
 unfolding items
 items_leave {A} p h zero = none_leaves A
 items_leave {A} p h (suc n) = bind_leaves p (λ a. map_to (λ l. a ∷ l) (items p n)) h
@@ -125,17 +125,17 @@ digits_leave : (most k : ℕ) → most < 2 ^ (8 * k) → LeavesEnds (digits most
 digits_leave most k small = correct_leaves (digits most k 0) (λ n. n ≤ most) (λ n. number k n)
     (number_correct most k small)
 
-number_32_leaves : LeavesEnds number_32
+pub number_32_leaves : LeavesEnds number_32
 unfolding number_32
 number_32_leaves = digits_leave most_32 4 (omega arith)
 
-number_64_leaves : LeavesEnds number_64
+pub number_64_leaves : LeavesEnds number_64
 unfolding number_64
 number_64_leaves = digits_leave most_64 8 (omega arith)
 
 -- ---- the parts of an image
 
-last_leaves : LeavesEnds last_stamp
+pub last_leaves : LeavesEnds last_stamp
 unfolding last_stamp
 last_leaves = item_leaves (bind (byte (up_to 1)) last_arm)
     (bind_leaves (byte (up_to 1)) last_arm (correct_leaves (byte (up_to 1)) (λ b. up_to 1 b ≡ true)
@@ -154,7 +154,7 @@ unfolding operators
 operators_leave = bind_leaves (digits most_32 4 0) (λ n. items operator n)
     (digits_leave most_32 4 (omega arith)) (λ n. items_leave operator operator_leaves n)
 
-version_leaves : (last : Option ℕ) (number : ℕ) (before : Option ℕ) (tables : Tables)
+pub version_leaves : (last : Option ℕ) (number : ℕ) (before : Option ℕ) (tables : Tables)
     → LeavesEnds (version last number before tables)
 unfolding version
 version_leaves last number before tables = item_leaves
@@ -164,7 +164,7 @@ version_leaves last number before tables = item_leaves
     (pair_leaves number_64 (pair operator operators) number_64_leaves
     (pair_leaves operator operators operator_leaves operators_leave))))
 
-versions_leave : (last : Option ℕ) (n number : ℕ) (before : Option ℕ) (tables : Tables)
+pub versions_leave : (last : Option ℕ) (n number : ℕ) (before : Option ℕ) (tables : Tables)
     → LeavesEnds (versions last n number before tables)
 unfolding versions
 versions_leave last zero number before tables = none_leaves PlainVersion
@@ -175,24 +175,24 @@ versions_leave last (suc n) number before tables =
     (λ v. map_leaves (λ vs. v ∷ vs) (versions last n (number + 1) (Some v.stamp) v.tables)
     (versions_leave last n (number + 1) (Some v.stamp) v.tables))
 
-all_versions_leave : (last : Option ℕ) → LeavesEnds (all_versions last)
+pub all_versions_leave : (last : Option ℕ) → LeavesEnds (all_versions last)
 unfolding all_versions
 all_versions_leave last = bind_leaves (item number_32) (λ n. versions last n 0 None no_tables)
     (item_leaves number_32 number_32_leaves) (λ n. versions_leave last n 0 None no_tables)
 
-period_leaves : LeavesEnds period
+pub period_leaves : LeavesEnds period
 unfolding period
 period_leaves = map_leaves a_span (pair number_64 number_64)
     (pair_leaves number_64 number_64 number_64_leaves number_64_leaves)
 
-keys_leave : (last : Option ℕ) → LeavesEnds (keys last)
+pub keys_leave : (last : Option ℕ) → LeavesEnds (keys last)
 unfolding keys key
 keys_leave last = bind_leaves (item number_64) (λ n. items (key last) n)
     (item_leaves number_64 number_64_leaves)
     (λ n. items_leave (key last) (item_leaves (checked (is_period last) period)
     (checked_leaves (is_period last) period period_leaves)) n)
 
-entry_leaves : (last : Option ℕ) (type : ColType) (id : ℕ) (left : Span)
+pub entry_leaves : (last : Option ℕ) (type : ColType) (id : ℕ) (left : Span)
     → LeavesEnds (entry last type id left)
 unfolding entry
 entry_leaves last type id left = item_leaves (checked (is_due last type id left)
@@ -203,7 +203,7 @@ entry_leaves last type id left = item_leaves (checked (is_due last type id left)
     (pair_leaves number_64 value number_64_leaves
     (correct_leaves value IsValid value_bytes value_correct)) period_leaves)))
 
-entries_leave : (last : Option ℕ) (type : ColType) (n id : ℕ) (due : List Span)
+pub entries_leave : (last : Option ℕ) (type : ColType) (n id : ℕ) (due : List Span)
     → LeavesEnds (entries last type n id due)
 unfolding entries
 entries_leave last type zero id [] = none_leaves Cell
@@ -222,7 +222,7 @@ entries_leave last type (suc n) id (left ∷ due) =
     (entries_leave last type n (id + 1) due)
     (entries_leave last type n id (span c.period.end left.end ∷ due))))
 
-columns_leave : (last : Option ℕ) (due : List Span) (cs : List Column)
+pub columns_leave : (last : Option ℕ) (due : List Span) (cs : List Column)
     → LeavesEnds (columns last due cs)
 unfolding columns column_entries
 columns_leave last due [] = none_leaves (List Cell)
@@ -233,7 +233,7 @@ columns_leave last due (c ∷ rest) =
     (item_leaves number_64 number_64_leaves) (λ n. entries_leave last c.1 n 0 due))
     (λ cells. map_leaves (λ l. cells ∷ l) (columns last due rest) (columns_leave last due rest))
 
-head_leaves : LeavesEnds line_head
+pub head_leaves : LeavesEnds line_head
 unfolding line_head
 head_leaves = pair_leaves (pair number_32 number_32) name
     (pair_leaves number_32 number_32 number_32_leaves number_32_leaves)
@@ -268,7 +268,7 @@ unfolding all_lines
 all_lines_leave last due = bind_leaves (item number_32) (λ n. lines last n due)
     (item_leaves number_32 number_32_leaves) (λ n. lines_leave last n due)
 
-nothing_leaves : {A : Type 0} (a : A) → LeavesEnds (nothing_after a)
+pub nothing_leaves : {A : Type 0} (a : A) → LeavesEnds (nothing_after a)
 nothing_leaves a [] = all_left []
 nothing_leaves a (b ∷ rest) = all_left (b ∷ rest)
 

@@ -30,7 +30,7 @@ use Rattle.store_image_spec.proofs.ValidVersions.{read_valid, valid_read, none_i
 
 -- ---- lists
 
-each_in : {A : Type 0} (Is : A → Type 0) (n : ℕ) (l : List A) → Each Is n l → (a : A) → In a l
+pub each_in : {A : Type 0} (Is : A → Type 0) (n : ℕ) (l : List A) → Each Is n l → (a : A) → In a l
     → Is a
 each_in Is zero [] h a i = absurd i
 each_in Is zero (b ∷ l) h a i = absurd (let e : b ∷ l ≡ [] = h in cc)
@@ -43,7 +43,7 @@ in_each : {A : Type 0} (Is : A → Type 0) (l : List A) → ((a : A) → In a l 
 in_each Is [] f = refl
 in_each Is (a ∷ l) f = (f a (inl refl), in_each Is l (λ b i. f b (inr i)))
 
-all_last : (keys : List Span) → ((p : Span) → In p keys → IsPeriod p) → Last keys
+pub all_last : (keys : List Span) → ((p : Span) → In p keys → IsPeriod p) → Last keys
 all_last [] f = tt
 all_last (k ∷ keys) f = ((f k (inl refl)).0, all_last keys (λ p i. f p (inr i)))
 
@@ -57,7 +57,7 @@ module _ (last : Option ℕ) (keys : List Span) where
   key_up_to : KeysRead last keys → (p : Span) → In p keys → EndsUpTo last p
   key_up_to h p i = period_up_to last p (each_in (IsKey last) (length keys) keys h.1 p i).1
 
-  keys_read : length keys < 2 ^ 64 → ((p : Span) → In p keys → IsPeriod p)
+  pub keys_read : length keys < 2 ^ 64 → ((p : Span) → In p keys → IsPeriod p)
       → ((p : Span) → In p keys → EndsUpTo last p) → KeysRead last keys
   keys_read few f u = (
     omega (arith, few),
@@ -123,7 +123,7 @@ module _ (last : Option ℕ) (keys : List Span) where
   column_in (c ∷ columns) (cells ∷ more) h x (inl e) = (c.1, subst (IsColumn c.1) e h.0)
   column_in (c ∷ columns) (cells ∷ more) h x (inr i) = column_in columns more h.1 x i
 
-  columns_read : (columns : List Column) (cells : List (List Cell)) → Last keys
+  pub columns_read : (columns : List Column) (cells : List (List Cell)) → Last keys
       → Typed columns cells → AllFilled keys cells
       → ((x : List Cell) → In x cells → (c : Cell) → In c x → CellFits c
       × (is_period last c.period ≡ true)) → ((x : List Cell) → In x cells → length x < 2 ^ 64)
@@ -261,11 +261,11 @@ lines_read last n (x ∷ l) few f h = (
 
 -- ---- images
 
-last_below : (last : Option ℕ) → IsLast last → last_or_nought last < forever
+pub last_below : (last : Option ℕ) → IsLast last → last_or_nought last < forever
 last_below None h = omega arith
 last_below (Some k) h = omega (arith, h)
 
-below_last : (last : Option ℕ) → last_or_nought last < forever → IsLast last
+pub below_last : (last : Option ℕ) → last_or_nought last < forever → IsLast last
 below_last None h = tt
 below_last (Some k) h = omega (arith, h)
 

@@ -19,8 +19,8 @@ use Rattle.smo_ops_spec.specs.After.{schema_after}
 use Rattle.smo_ops_spec.specs.OneRow.{same}
 use Rattle.smo_ops_spec.specs.Past.{no_tables}
 use Rattle.smo_ops_spec.proofs.NameLaws.{same_itself}
-use Rattle.command_codec_spec.specs.Reading.{Out, Parsed, Unexpected, and_then, bind, byte, map_to}
-use Rattle.command_codec_spec.specs.Reading.{pair, digits, items}
+use Rattle.command_codec_spec.specs.Reading.{Out, Parsed, Unexpected, Parser, and_then, bind}
+use Rattle.command_codec_spec.specs.Reading.{byte, map_to, pair, digits, items}
 use Rattle.command_codec_spec.specs.Reader.{up_to, number_64, name, value, operator, operators}
 use Rattle.command_codec_spec.specs.Encoding.{number, name_bytes, value_bytes, operator_bytes}
 use Rattle.command_codec_spec.specs.Encoding.{list_bytes}
@@ -58,11 +58,11 @@ most_32 = 4294967295
 abbrev pub most_64 : ℕ
 most_64 = 18446744073709551615
 
-reads_32 : Reads number_32 (λ n. n ≤ most_32) (λ n. number 4 n)
+pub reads_32 : Reads number_32 (λ n. n ≤ most_32) (λ n. number 4 n)
 unfolding number_32
 reads_32 = reads_number most_32 4 (omega arith)
 
-reads_64 : Reads number_64 (λ n. n ≤ most_64) (λ n. number 8 n)
+pub reads_64 : Reads number_64 (λ n. n ≤ most_64) (λ n. number 8 n)
 unfolding number_64
 reads_64 = reads_number most_64 8 (omega arith)
 
@@ -177,7 +177,7 @@ AreRead last (suc n) number before tables l =
     Led (IsVersionRead last number before tables)
     (λ v vs. AreRead last n (number + 1) (Some v.stamp) v.tables vs) l
 
-reads_version : (last : Option ℕ) (number : ℕ) (before : Option ℕ) (tables : Tables)
+pub reads_version : (last : Option ℕ) (number : ℕ) (before : Option ℕ) (tables : Tables)
     → Reads (version last number before tables) (IsVersionRead last number before tables)
     version_bytes
 unfolding version
@@ -235,7 +235,7 @@ reads_period = reads_map (pair number_64 number_64) (λ x. (x.0 ≤ most_64) × 
 abbrev pub IsKey : Option ℕ → Span → Type 0
 IsKey last p = Fits p × (is_period last p ≡ true)
 
-reads_key : (last : Option ℕ) → Reads (key last) (IsKey last) span_bytes
+pub reads_key : (last : Option ℕ) → Reads (key last) (IsKey last) span_bytes
 unfolding key
 reads_key last = reads_item (checked (is_period last) period) (IsKey last) span_bytes
     (reads_checked period Fits span_bytes reads_period (is_period last))
@@ -248,10 +248,10 @@ each_counted Is (suc n) (a ∷ l) h = ap suc (each_counted Is n l h.1)
 abbrev pub KeysRead : Option ℕ → List Span → Type 0
 KeysRead last l = (length l ≤ most_64) × Each (IsKey last) (length l) l
 
-reads_count : Reads (item number_64) (λ n. n ≤ most_64) (λ n. number 8 n)
+pub reads_count : Reads (item number_64) (λ n. n ≤ most_64) (λ n. number 8 n)
 reads_count = reads_item number_64 (λ n. n ≤ most_64) (λ n. number 8 n) reads_64
 
-reads_keys : (last : Option ℕ) → Reads (keys last) (KeysRead last) (list_bytes 8 span_bytes)
+pub reads_keys : (last : Option ℕ) → Reads (keys last) (KeysRead last) (list_bytes 8 span_bytes)
 unfolding keys
 reads_keys last = reads_counted (item number_64) 8 most_64 reads_count span_bytes
     (λ n. items (key last) n) (λ n l. Each (IsKey last) n l)
@@ -263,7 +263,7 @@ reads_keys last = reads_counted (item number_64) 8 most_64 reads_count span_byte
 abbrev pub CellFits : Cell → Type 0
 CellFits c = ((c.id ≤ most_64) × IsValid c.value) × Fits c.period
 
-reads_cell : Reads (map_to cell_of (pair (pair number_64 value) period)) CellFits cell_bytes
+pub reads_cell : Reads (map_to cell_of (pair (pair number_64 value) period)) CellFits cell_bytes
 reads_cell = reads_map (pair (pair number_64 value) period)
     (λ x. ((x.0.0 ≤ most_64) × IsValid x.0.1) × Fits x.1)
     (λ x. (number 8 x.0.0 ++ value_bytes x.0.1) ++ span_bytes x.1)
@@ -276,7 +276,7 @@ reads_cell = reads_map (pair (pair number_64 value) period)
 abbrev pub IsEntry : Option ℕ → ColType → ℕ → Span → Cell → Type 0
 IsEntry last type id left c = CellFits c × (is_due last type id left c ≡ true)
 
-reads_entry : (last : Option ℕ) (type : ColType) (id : ℕ) (left : Span)
+pub reads_entry : (last : Option ℕ) (type : ColType) (id : ℕ) (left : Span)
     → Reads (entry last type id left) (IsEntry last type id left) cell_bytes
 unfolding entry
 reads_entry last type id left =
@@ -378,7 +378,7 @@ of_run last type id (left ∷ keys) (c ∷ l) h = (
 abbrev pub ColumnRead : Option ℕ → List Span → ColType → List Cell → Type 0
 ColumnRead last keys type l = (length l ≤ most_64) × Run last type 0 keys l
 
-reads_column : (last : Option ℕ) (keys : List Span) (type : ColType)
+pub reads_column : (last : Option ℕ) (keys : List Span) (type : ColType)
     → Reads (column_entries last keys type) (ColumnRead last keys type) (list_bytes 8 cell_bytes)
 unfolding column_entries
 reads_column last keys type =
@@ -409,16 +409,16 @@ reads_columns last keys (c ∷ rest) =
 
 -- ---- lifelines
 
-abbrev Head : Type 0
+abbrev pub Head : Type 0
 Head = (ℕ × ℕ) × List ℕ
 
-abbrev IsHead : Head → Type 0
+abbrev pub IsHead : Head → Type 0
 IsHead x = ((x.0.0 ≤ most_32) × (x.0.1 ≤ most_32)) × IsName x.1
 
-abbrev head_bytes : Head → List ℕ
+abbrev pub head_bytes : Head → List ℕ
 head_bytes x = (number 4 x.0.0 ++ number 4 x.0.1) ++ name_bytes x.1
 
-reads_head : Reads line_head IsHead head_bytes
+pub reads_head : Reads line_head IsHead head_bytes
 unfolding line_head
 reads_head = reads_pair (pair number_32 number_32) (λ x. (x.0 ≤ most_32) × (x.1 ≤ most_32))
     (λ x. number 4 x.0 ++ number 4 x.1) name IsName name_bytes
@@ -434,13 +434,13 @@ abbrev pub BodyRead : Option ℕ → Lifeline → StoredLine → Type 0
 BodyRead last due l = (l.line ≡ due) × KeysRead last l.keys
     × ColumnsRead last l.keys due.columns l.cells
 
-abbrev body_bytes : StoredLine → List ℕ
+abbrev pub body_bytes : StoredLine → List ℕ
 body_bytes l = list_bytes 8 span_bytes l.keys ++ flat_map (list_bytes 8 cell_bytes) l.cells
 
-abbrev AfterKeys : Option ℕ → Lifeline → List Span → StoredLine → Type 0
+abbrev pub AfterKeys : Option ℕ → Lifeline → List Span → StoredLine → Type 0
 AfterKeys last due ks l = (l.line ≡ due) × (l.keys ≡ ks) × ColumnsRead last ks due.columns l.cells
 
-reads_body : (last : Option ℕ) (due : Lifeline)
+pub reads_body : (last : Option ℕ) (due : Lifeline)
     → Reads (bind (keys last) (λ ks. map_to (a_line due ks) (columns last ks due.columns)))
     (BodyRead last due) body_bytes
 reads_body last due =
@@ -471,7 +471,7 @@ reads_body last due =
 abbrev pub LineRead : Option ℕ → Lifeline → StoredLine → Type 0
 LineRead last due l = (LineFits due × BodyRead last due l) × (has_apart l ≡ true)
 
-head_is : (due : Lifeline) (x : Head) → is_line due x ≡ true → (x.0.0 ≡ due.first)
+pub head_is : (due : Lifeline) (x : Head) → is_line due x ≡ true → (x.0.0 ≡ due.first)
     × (x.0.1 ≡ last_number due.last) × (x.1 ≡ due.table)
 head_is due x e =
     let a = of_both (x.0.0 == due.first && x.0.1 == last_number due.last) (same x.1 due.table) e in
@@ -481,13 +481,14 @@ head_is due x e =
       same_is x.1 due.table a.1,
     )
 
-own_head : (due : Lifeline) → is_line due ((due.first, last_number due.last), due.table) ≡ true
+pub own_head : (due : Lifeline) → is_line due ((due.first, last_number due.last), due.table) ≡ true
 own_head due = both_true (due.first == due.first && last_number due.last == last_number due.last)
     (same due.table due.table)
     (both_true (due.first == due.first) (last_number due.last == last_number due.last)
     (number_itself due.first) (number_itself (last_number due.last))) (same_itself due.table)
 
-head_encoded : (due : Lifeline) (x : Head) (l : StoredLine) → is_line due x ≡ true → l.line ≡ due
+pub head_encoded : (due : Lifeline) (x : Head) (l : StoredLine) → is_line due x ≡ true
+    → l.line ≡ due
     → stored_bytes l ≡ head_bytes x ++ body_bytes l
 head_encoded due x l e q =
     let h = head_is due x e in
@@ -499,29 +500,39 @@ head_encoded due x l e q =
     ∙ ap (λ n. (number 4 x.0.0 ++ number 4 n ++ name_bytes due.table) ++ body_bytes l) (sym h.1)
     ∙ ap (λ n. (number 4 x.0.0 ++ number 4 x.0.1 ++ name_bytes n) ++ body_bytes l) (sym h.2)
 
-head_fits : (due : Lifeline) (x : Head) → IsHead x → is_line due x ≡ true → LineFits due
+pub head_fits : (due : Lifeline) (x : Head) → IsHead x → is_line due x ≡ true → LineFits due
 head_fits due x h e =
     let k = head_is due x e in
     ((subst (λ n. n ≤ most_32) k.0 h.0.0, subst (λ n. n ≤ most_32) k.1 h.0.1), subst IsName k.2 h.1)
 
-reads_line : (last : Option ℕ) (due : Lifeline)
-    → Reads (stored_line last due) (LineRead last due) stored_bytes
-unfolding stored_line
-reads_line last due = reads_checked (bind (item (checked (is_line due) line_head))
-    (λ head. bind (keys last) (λ ks. map_to (a_line due ks) (columns last ks due.columns))))
-    (λ l. LineFits due × BodyRead last due l) stored_bytes
-    (reads_then (item (checked (is_line due) line_head)) (λ x. IsHead x × (is_line due x ≡ true))
+-- what is kept over a lifeline, read before its rows are compared
+abbrev pub kept_line : Option ℕ → Lifeline → Parser StoredLine
+kept_line last due = bind (item (checked (is_line due) line_head))
+    (λ head. bind (keys last) (λ ks. map_to (a_line due ks) (columns last ks due.columns)))
+
+pub reads_due : (due : Lifeline) → Reads (item (checked (is_line due) line_head))
+    (λ x. IsHead x × (is_line due x ≡ true)) head_bytes
+reads_due due = reads_item (checked (is_line due) line_head) (λ x. IsHead x
+    × (is_line due x ≡ true)) head_bytes
+    (reads_checked line_head IsHead head_bytes reads_head (is_line due))
+
+pub reads_kept : (last : Option ℕ) (due : Lifeline)
+    → Reads (kept_line last due) (λ l. LineFits due × BodyRead last due l) stored_bytes
+reads_kept last due =
+    reads_then (item (checked (is_line due) line_head)) (λ x. IsHead x × (is_line due x ≡ true))
     head_bytes (λ head. bind (keys last) (λ ks.
     map_to (a_line due ks) (columns last ks due.columns)))
     (λ x l. BodyRead last due l) (λ x l. body_bytes l) (λ l. LineFits due × BodyRead last due l)
-    stored_bytes
-    (reads_item (checked (is_line due) line_head) (λ x. IsHead x × (is_line due x ≡ true))
-    head_bytes
-    (reads_checked line_head IsHead head_bytes reads_head (is_line due)))
+    stored_bytes (reads_due due)
     (λ x h. reads_body last due)
     (λ x l h k. ((head_fits due x h.0 h.1, k), head_encoded due x l h.1 k.0))
-    (λ l h. (((due.first, last_number due.last), due.table), (h.0, own_head due), h.1)))
-    has_apart
+    (λ l h. (((due.first, last_number due.last), due.table), (h.0, own_head due), h.1))
+
+reads_line : (last : Option ℕ) (due : Lifeline)
+    → Reads (stored_line last due) (LineRead last due) stored_bytes
+unfolding stored_line
+reads_line last due = reads_checked (kept_line last due) (λ l. LineFits due × BodyRead last due l)
+    stored_bytes (reads_kept last due) has_apart
 
 abbrev pub LinesRead : Option ℕ → ℕ → List Lifeline → List StoredLine → Type 0
 LinesRead last zero [] l = l ≡ []

@@ -1,7 +1,7 @@
 -- How much is stored of each table over its lifeline.
 use Rattle.std.specs.Prelude.{◌≡◌, ℕ, ◌<◌, List, [], length, slice_index_or}
 use Rattle.std.specs.Option.{unwrap_or}
-use Rattle.history_store.specs.Store.{Cell, weight}
+use Rattle.history_store.specs.Store.{Cell, Store, weight}
 use Rattle.smo_ops_spec.specs.Sizes.{Written, Size, cells_in, none_written, value_bytes}
 use Rattle.version_groups_tables.specs.declared.made_table.MadeTable.{MadeTable}
 use Rattle.version_groups.specs.declared.size.SizeLine.{SizeLine}
@@ -23,6 +23,11 @@ pub record HasSize (size : Size) (table : MadeTable) : Type 0 where
   pub last : table.last ≡ size.last
   pub keys : length table.store.keys ≡ size.keys
   pub columns : AreWritten size.columns table.store.cells
+
+-- just so many keys and cells are stored as the size says
+pub record KeepsSize (size : Size) (store : Store) : Type 0 where
+  pub keys : length store.keys ≡ size.keys
+  pub columns : AreWritten size.columns store.cells
 
 -- one table for each lifeline, in their order
 pub record HaveSizes (sizes : List Size) (tables : List MadeTable) : Type 0 where

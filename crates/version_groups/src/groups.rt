@@ -10,8 +10,8 @@ use std::marker::Model;
 use std::mem;
 use std::vec::IntoIter;
 use version_groups_tables::{
-    Changes, MadeTable, begin_version, end_consumed, find_stored, find_table, install_tables,
-    prepare_tables, restored_tables,
+    Changes, MadeTable, begin_version, end_consumed, find_table, install_tables, prepare_tables,
+    restored_tables,
 };
 
 /// The versions of an archive, and for each version its stored tables. A table that no operator
@@ -96,7 +96,8 @@ fn put_after(list: &mut Vec<MadeTable>, more: Vec<MadeTable>)
 
 impl Groups {
     ghost use Rattle.std.specs.Prelude.{◌≡◌, ◌+◌, ◌<◌, ◌≤◌, ◌^◌, ◌++◌, ◌∷◌, [], List, length};
-    ghost use Rattle.std.specs.Prelude.{slice_index_or, MatchOption, IfOk, OnOk, None};
+    ghost use Rattle.std.specs.Prelude.{slice_index_or, MatchOption, IfOk, IfSome, OnOk, Some};
+    ghost use Rattle.std.specs.Prelude.{None, ℕ};
     ghost use Rattle.std.specs.Option.{option_copied};
     ghost use Rattle.std.specs.Vec.Iter.{into_iter_items};
     ghost use Rattle.relations_spec.specs.Sets.{Ascends};
@@ -127,7 +128,7 @@ impl Groups {
     ghost use Rattle.version_groups.specs.Lifelines.{place_in};
     ghost use Rattle.version_groups.specs.Restoring.{AreRestored, store_columns};
     ghost use Rattle.version_groups.specs.Representation.{Represents};
-    ghost use Rattle.version_groups.specs.Sizes.{IsLineOf};
+    ghost use Rattle.version_groups.specs.Sizes.{IsLineOf, KeepsSize};
     ghost use Rattle.version_groups.specs.Room.{IsSame};
     ghost use Rattle.version_groups.specs.Steps.{IsPreparedCommand, IsStep, Prepares, a_command};
     ghost use Rattle.version_groups.specs.Steps.{step_of};
@@ -234,12 +235,19 @@ impl Groups {
     }
 
     /// What is stored of a version's table: `None` exactly where there is no such version, or no
-    /// such table in it. It takes no memory.
+    /// such table in it. It has just the keys and the cells that the past's sizes say of the
+    /// table's lifeline, of which each version of the lifeline is one. It takes no memory.
     pub fn table(&self, version: u32, name: &Name) -> Option<&StoredTable>
-        ensures { option_copied result ≡ table_in self.now version name.now }
+        ensures stored { option_copied result ≡ table_in self.now version name.now }
+        ensures sizes { (past : Past) → (p : ℕ) → (size : Size) → Represents self.now past
+            → place_in past.versions version name.now ≡ Some p
+            → IfSome result (λ table. KeepsSize (slice_index_or past.sizes p size) table.now) }
     {
         let places = self.places(version)?;
-        find_stored(&self.stored, places, name)
+        match find_table(&self.stored, places, name) {
+            Some((_, table)) => Some(&table.store),
+            None => None,
+        }
     }
 
     // The places of a version's tables among all that are stored, in the order of their names:

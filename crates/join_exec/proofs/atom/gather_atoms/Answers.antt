@@ -19,7 +19,7 @@ read_atom-requires-clause-readable g c =
     let rs = borrowed c.args.references.now in
     here_ready c.args.groups.now c.args.version rs c.loop-name.name-index c.loop-name.number
     c.name-item.result _ c.in_ok-names.names.items c.loop-name.invariant.number
-    c.table-table.ensures c.in_ok-names.ensures
+    c.table-table.ensures.stored c.in_ok-names.ensures
     (next_ready c.args.groups.now c.args.version rs c.args.tables.now c.loop-name.name-index
     c.name-item.result c.loop-name-test.true c.name-item.is c.loop-name.invariant.ready).0
 
@@ -28,7 +28,7 @@ loop-name-preserved g c =
     let rs = borrowed c.args.references.now in
     let own = here_count c.args.groups.now c.args.version rs c.loop-name.name-index
     c.loop-name.number c.name-item.result _ c.in_ok-names.names.items
-    c.loop-name.invariant.number c.table-table.ensures c.in_ok-names.ensures in
+    c.loop-name.invariant.number c.table-table.ensures.stored c.in_ok-names.ensures in
     let more = next_count c.args.groups.now c.args.version rs c.args.tables.now
     c.loop-name.name-index c.name-item.result c.loop-name-test.true c.name-item.is in
     let next = one_more c.checked_add.result c.ok_or.result (c.loop-name.number + 1 < 2 ^ 32)
@@ -44,7 +44,7 @@ loop-name-preserved g c =
           c.in_ok-atom.atom c.loop-name-test.true c.name-item.is c.loop-name.invariant.read
           (here_read c.args.groups.now c.args.version rs c.loop-name.name-index c.loop-name.number
           c.name-item.result _ c.in_ok-names.names.items c.loop-name.invariant.number
-          c.table-table.ensures c.in_ok-names.ensures c.args.slice c.in_ok-atom.atom
+          c.table-table.ensures.stored c.in_ok-names.ensures c.args.slice c.in_ok-atom.atom
           c.in_ok-atom.ensures.atom)
           c.in_ok-push.ensures.items;
       count = omega (arith, c.in_ok-atom.ensures.counted, c.loop-name.invariant.count, own, more);

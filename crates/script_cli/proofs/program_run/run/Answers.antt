@@ -18,6 +18,7 @@ use Rattle.script_cli_statement.proofs.ExplainedQueries.{tells_pieces}
 use Rattle.script_cli_statement.proofs.Errors.{error_told}
 use Rattle.script_cli.proofs.Recording.{recorded_is, put_sound, put_accepted, still_sound}
 use Rattle.script_cli.proofs.OnDisks.{sound_opens}
+use Rattle.script_cli.proofs.Answered.{answered_over, answered_untouched}
 use Rattle.script_cli.proofs.Telling.{prefix_over, whole_over, crash_over, sound_over, damaged_over}
 use Rattle.script_cli.proofs.Telling.{refuses_over, prefix_untouched, crash_untouched}
 use Rattle.script_cli.proofs.Telling.{untouched_leaves, not_whole_untouched, refuses_untouched}
@@ -134,6 +135,21 @@ returns-clause-runs g c = λ limit asked. record {
       opening seen (sound_opens file opening sound) honest sound.sound over)
       (c.check_and_run.ensures.runs limit asked);
 }
+
+pub returns-clause-acknowledged : goal.returns-clause-acknowledged
+returns-clause-acknowledged g c = λ limit file opening asked honest seen before.
+    let M = g.D.Disk.meaning in
+    let given = given_by limit
+    (book_of g.R.Rule.handles g.R.Rule.answers c.args.book.now.rules.items) in
+    ⊎_elim
+    (λ untouched. answered_untouched M _ _ _ _ _ _ _ untouched given (recorded opening) opening
+    before)
+    (λ over. answered_over given _ _ _ _ _ (M c.args.disk.now) (M c.check_and_run.new.disk) opening
+    file honest seen
+    (before file ((g.met.D.Disk.valid c.args.disk.now).stays file honest seen))
+    c.a_file_opens_or_is_damaged.ensures.one c.a_file_opens_or_is_damaged.ensures.apart _ _
+    (g.met.D.Disk.valid c.check_and_run.new.disk) c.check_and_run.ensures.goes before over)
+    (c.check_and_run.ensures.runs limit asked)
 
 pub returns-clause-samples : goal.returns-clause-samples
 returns-clause-samples g c = λ limit size for. record {

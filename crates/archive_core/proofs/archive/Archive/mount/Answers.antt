@@ -1,5 +1,7 @@
-use Rattle.std.proofs.Common.{◌≡◌, ◌≤◌, ◌+◌, List, inl, length, sym, subst, ap, ◌∙◌}
+use Rattle.std.proofs.Common.{◌≡◌, ◌≤◌, ◌+◌, List, inl, inr, length, sym, subst, ap, ◌∙◌}
+use Rattle.disk_model.specs.Meaning.{BothKnown}
 use Rattle.journal.specs.Damage.{IsDamagedAt}
+use Rattle.journal.specs.Records.{opened_file}
 use Rattle.journal.specs.Reading.{records_in, AreInPlace}
 use Rattle.archive_core_file_spec.specs.LogRecords.{LogRecord, records_of, replayed_of}
 use Rattle.archive_core_file_spec.specs.Opening.{Damages, HasFaultAt}
@@ -33,6 +35,16 @@ returns-in-Err-restore-clause-untouched g c place is =
     (subst (λ l. HasFaultAt (records_in l) place) c.deref.ensures.value
     (c.in-Err-restore.ensures.damaged place
     (cc (c.fault_of_restoring.ensures.damaged place is))))
+
+pub returns-in-Err-clause-kept_or_begun : goal.returns-in-Err-clause-kept_or_begun
+returns-in-Err-clause-kept_or_begun g c other =
+    inl (c.in-Err.ensures.untouched (λ is. other (c.fault_of_journal.ensures.from_disk is)))
+
+pub returns-in-Err-restore-clause-kept_or_begun : goal.returns-in-Err-restore-clause-kept_or_begun
+returns-in-Err-restore-clause-kept_or_begun g c other =
+    let M = g.D.Disk.meaning in
+    inr (subst (λ d. BothKnown (λ before after. after ≡ opened_file before) (M c.args.disk).seen
+    (M d).seen) (sym c.into_disk.ensures) c.in-Ok.ensures.file)
 
 pub returns-in-Err-restore-clause-cost : goal.returns-in-Err-restore-clause-cost
 returns-in-Err-restore-clause-cost g c =

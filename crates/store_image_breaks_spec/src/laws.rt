@@ -1,0 +1,14 @@
+//! Laws of bytes that are no image. Each is proved and does nothing.
+
+ghost use Rattle.std.specs.Prelude.{◌≡◌, ◌⊎◌, ℕ, List};
+ghost use Rattle.command_codec_spec.specs.Reading.{Unexpected};
+ghost use Rattle.store_image_spec.specs.Reader as spec;
+ghost use Rattle.store_image_breaks_spec.specs.Breaks.{BreaksAt, ShowsTwice};
+
+/// Where the reader of images stops the bytes break: some image has the items before the place, and
+/// none has these and the one that begins there; or a lifeline of which nothing else is wrong shows
+/// one row twice, and it is named.
+pub fn bytes_break_behind_the_items_of_an_image()
+    ensures { (bytes rest : List ℕ) → spec.image bytes ≡ Unexpected rest
+        → BreaksAt bytes rest ⊎ ShowsTwice bytes rest }
+{}
