@@ -8,7 +8,8 @@
 # table that is cut off (a question has one piece more after each cut). Prints the seconds of the
 # load with its operators, the seconds that each of the two questions adds, and the most memory in
 # KiB. A table is stored once over the versions that do not touch it, so memory grows as V + n times
-# the versions that do; a question reads it once for all neighbouring versions that do not touch it.
+# the versions that do; a question reads it once for all neighbouring versions that do not touch it,
+# or that begin it again under another name while nothing changes it.
 #
 # Then the forty versions of the program's own sample, of 2,000, 10,000 and 50,000 rows (or the
 # numbers in SAMPLE): the seconds that three of its questions take over the archive, on version 1, on
