@@ -65,7 +65,11 @@ fn same_row(columns: &[Column], id: usize, others: &[Column], other: usize) -> b
         ≡ row_now other (cells_of others.now) }
 {
     for k in 0..columns.len() {
-        if columns[k].newest(id).compare(&others[k].newest(other)).is_ne() {
+        if columns[k]
+            .newest(id)
+            .compare(&others[k].newest(other))
+            .is_ne()
+        {
             return false;
         }
     }

@@ -16,13 +16,7 @@ use prima_base::{ColType, Name, Period};
 use version_groups::Groups;
 
 // Whether both have one lifeline: then what is stored of them is the same.
-fn share_lifeline(
-    groups: &Groups,
-    version: u32,
-    name: &Name,
-    other: u32,
-    other_name: &Name,
-) -> bool
+fn share_lifeline(groups: &Groups, version: u32, name: &Name, other: u32, other_name: &Name) -> bool
     ensures { result ≡ true → table_in groups.now version name.now
         ≡ table_in groups.now other other_name.now }
 {
