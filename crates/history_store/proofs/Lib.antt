@@ -1,3 +1,3 @@
 pub mod Looking
 pub mod Scanning
-pub mod Likeness
+pub mod SameRows

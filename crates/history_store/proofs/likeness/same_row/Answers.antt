@@ -1,7 +1,7 @@
 use Rattle.std.proofs.Common.{◌≡◌, ◌<◌, false, List, [], ◌∷◌, length, sym, ap, ◌∙◌, arith}
 use Rattle.std.specs.Ordering.{is_ne}
 use Rattle.prima_base.specs.Order.{shown, value_cmp}
-use Rattle.history_store.proofs.Likeness.{same_value, row_more}
+use Rattle.history_store.proofs.SameRows.{same_value, row_more}
 use Rattle.history_store.proofs.likeness.same_row.Goals as goal
 
 pub loop-k-preserved : goal.loop-k-preserved

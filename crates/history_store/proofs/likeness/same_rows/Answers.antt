@@ -2,7 +2,7 @@ use Rattle.std.proofs.Common.{◌<◌, ℕ, length, get_or, sym, ap, ◌∙◌, 
 use Rattle.history_store_row_order.specs.Logs.{cells_of}
 use Rattle.history_store_row_order.specs.Rows.{row_now}
 use Rattle.history_store_value_order.proofs.Places.{in_get}
-use Rattle.history_store.proofs.Likeness.{row_beside}
+use Rattle.history_store.proofs.SameRows.{row_beside}
 use Rattle.history_store.proofs.likeness.same_rows.Goals as goal
 
 pub same_row-requires-clause-known : goal.same_row-requires-clause-known

@@ -1,7 +1,7 @@
 use Rattle.std.proofs.Common.{rules, ◌≡◌, length, refl, sym, ap, ◌∙◌}
 use Rattle.history_store_row_order.specs.Logs.{cells_of}
 use Rattle.history_store_change_spec.proofs.Preparing.{all_known_in}
-use Rattle.history_store.proofs.Likeness.{shows}
+use Rattle.history_store.proofs.SameRows.{shows}
 use Rattle.history_store.proofs.table.StoredTable.shows_same.Goals as goal
 
 pub same_rows-requires-clause-width : goal.same_rows-requires-clause-width
