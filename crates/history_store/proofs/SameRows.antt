@@ -1,7 +1,7 @@
 -- Two tables that have the same rows, row by row and column by column.
-use Rattle.std.proofs.Common.{◌≡◌, ℕ, zero, suc, ◌+◌, ◌<◌, ◌≤◌, false, List, [], ◌∷◌, ◌++◌, length}
+use Rattle.std.proofs.Common.{◌≡◌, ℕ, ◌+◌, ◌<◌, ◌≤◌, false, List, [], ◌∷◌, ◌++◌, length}
 use Rattle.std.proofs.Common.{get_or, take, drop, refl, sym, ap, ◌∙◌, arith}
-use Rattle.std.proofs.lemmas.List.{drop_more}
+use Rattle.std.proofs.lemmas.List.{drop_more, take_more}
 use Rattle.std.specs.Ordering.{is_ne}
 use Rattle.std.specs.declared.cmp.Ordering.{Ordering}
 use Rattle.std.specs.declared.cmp.Ordering.TheVariants.{Less, Equal, Greater}
@@ -52,14 +52,18 @@ row_more columns others k c d id other l h is at e rest =
 
 -- ---- one row more
 
+rows_joined : (ids : List ℕ) (id : ℕ) (columns : List (List Write))
+    → rows_of (ids ++ id ∷ []) columns ≡ rows_of ids columns ++ row_now id columns ∷ []
+rows_joined [] id columns = refl
+rows_joined (x ∷ ids) id columns =
+    ap (λ (rows : List (List Value)). row_now x columns ∷ rows) (rows_joined ids id columns)
+
 rows_more : (ids : List ℕ) (i : ℕ) (columns : List (List Write)) → i < length ids
     → rows_of (take (i + 1) ids) columns
     ≡ rows_of (take i ids) columns ++ row_now (get_or ids i 0) columns ∷ []
-rows_more [] i columns l = absurd (omega arith)
-rows_more (x ∷ ids) zero columns l = refl
-rows_more (x ∷ ids) (suc i) columns l =
-    ap (λ (rows : List (List Value)). row_now x columns ∷ rows)
-    (rows_more ids i columns (omega (arith, l)))
+rows_more ids i columns l =
+    ap (λ (more : List ℕ). rows_of more columns) (take_more ids i 0 l)
+    ∙ rows_joined (take i ids) (get_or ids i 0) columns
 
 pub row_beside : (ids others : List ℕ) (i : ℕ) (columns beside : List (List Write))
     → i < length ids → i < length others
@@ -74,9 +78,9 @@ row_beside ids others i columns beside l h e f =
 
 -- ---- what a table shows from its last stamp on
 
-pub shows : {indexed : List ℕ} → (columns : List Column) (keys : List Span)
+pub shows : (indexed : List ℕ) (columns : List Column) (keys : List Span)
     (logs : List (List Write)) (live : List ℕ) (spare last m : ℕ) → IsKept columns keys logs live
     → IsStored keys logs live last → last ≤ m → m < forever
     → relation_at (store_of columns keys logs spare indexed) m ≡ rows_of live logs
-shows columns keys logs live spare last m k s l t =
-    relation_is _ columns keys logs spare m k.histories ∙ at_now keys logs live last m s l t
+shows indexed columns keys logs live spare last m k s l t =
+    relation_is indexed columns keys logs spare m k.histories ∙ at_now keys logs live last m s l t

@@ -258,7 +258,12 @@ next_alike kept k j m (x ∷ pieces) (q ∷ qs) zero p h l is = (
 )
 next_alike kept k j m (x ∷ pieces) (q ∷ qs) (suc i) p h l is =
     let r = next_alike kept k j m pieces qs i p h.1 (omega (arith, l)) is in
-    (r.0, ap (λ (xs : List PlainPiece). q ∷ xs) r.1, r.2, inr r.3)
+    let one : suc i + 1 ≡ suc (i + 1) = omega arith in (
+      r.0,
+      ap (λ (n : ℕ). take n (q ∷ qs)) one ∙ ap (λ (xs : List PlainPiece). q ∷ xs) r.1,
+      r.2,
+      inr r.3,
+    )
 
 -- what is stored of a piece that is alike to one at the version in force means what that means
 pub piece_meant : (kept : Kept) (past : Past) → Represents kept past

@@ -31,8 +31,8 @@ returns c = λ t m l h.
     (c.is_settled-2.ensures c.if-not-is_settled-2.false) in
     let rows = rw (c.deref-5.ensures.value, c.deref-6.ensures.value) at (c.same_rows.ensures t) in
     rw (← c.self.view_is, ← c.other.view_is)
-    (shows a.columns.items a.keys.items (cells_of a.logs.items) a.live.ids _ c.args.from m
+    (shows _ a.columns.items a.keys.items (cells_of a.logs.items) a.live.ids _ c.args.from m
     c.self.invariant.kept (f a.live.ids c.self.invariant.kept.stored) l h
     ∙ rows
-    ∙ sym (shows b.columns.items b.keys.items (cells_of b.logs.items) b.live.ids _ c.args.from m
+    ∙ sym (shows _ b.columns.items b.keys.items (cells_of b.logs.items) b.live.ids _ c.args.from m
     c.other.invariant.kept (g b.live.ids c.other.invariant.kept.stored) l h))
