@@ -12,9 +12,10 @@
 # or that begin it again under another name while nothing changes it.
 #
 # Then the forty versions of the program's own sample, of 2,000, 10,000 and 50,000 rows (or the
-# numbers in SAMPLE): the seconds that three of its questions take over the archive, on version 1, on
-# version 2 for one kind of pages, and on version 40, and what sqlite3 takes for the same rows, by
-# views that are written by hand over a table of periods for each lifeline, where it is there.
+# numbers in SAMPLE; none where it is empty, as ROWS may be): the seconds that three of its questions
+# take over the archive, on version 1, on version 2 for one kind of pages, and on version 40, and what
+# sqlite3 takes for the same rows, by views that are written by hand over a table of periods for each
+# lifeline, where it is there.
 # PROGRAM names another build to be measured in place of this one.
 set -eu
 top=$(cd "$(dirname "$0")/.." && pwd)
@@ -25,7 +26,7 @@ if [ -z "${PROGRAM:-}" ]; then
 fi
 [ $# -gt 0 ] || set -- 10 100 # even numbers
 exec python3 - "$top/examples/fresh" "$PROGRAM" \
-    "${ROWS:-1000 10000}" "${SAMPLE:-2000 10000 50000}" "$@" <<'PYTHON'
+    "${ROWS-1000 10000}" "${SAMPLE-2000 10000 50000}" "$@" <<'PYTHON'
 import os, shutil, subprocess, sys, tempfile, time
 
 program = [sys.argv[1], os.path.realpath(sys.argv[2])]

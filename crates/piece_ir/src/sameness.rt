@@ -1,6 +1,6 @@
 //! Whether two expressions, conditions or pieces are the same.
 
-ghost use Rattle.std.specs.Prelude.{◌≡◌, map, true};
+ghost use Rattle.std.specs.Prelude.{◌≡◌, ◌&&◌, map};
 ghost use Rattle.smo_ops_types.specs.Changes.{sets_of};
 ghost use Rattle.cond_expr.specs.Seen.{tree, test, trees_of, tests_of};
 ghost use Rattle.piece_ir.specs.Shown.{piece_of, shown_pieces};
@@ -132,8 +132,8 @@ fn same_piece(a: &Piece, b: &Piece) -> bool
 /// Whether two pieces are one but for the tables that they are over: their conditions are the same,
 /// and their outputs, as they are written. It takes no memory.
 pub fn same_form(a: &Piece, b: &Piece) -> bool
-    ensures cond { result ≡ true → (piece_of a.now).cond ≡ (piece_of b.now).cond }
-    ensures outs { result ≡ true → (piece_of a.now).outs ≡ (piece_of b.now).outs }
+    ensures { result ≡ (same_test (piece_of a.now).cond (piece_of b.now).cond
+        && same_outs (piece_of a.now).outs (piece_of b.now).outs) }
 {
     same_cond(&a.cond, &b.cond) && same_outs(&a.outs, &b.outs)
 }

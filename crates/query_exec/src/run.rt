@@ -125,15 +125,17 @@ fn alike_pieces(
     ensures { result ≡ true → IsAlike groups.now from version (piece_of piece.now) other
         (piece_of other_piece.now) }
 {
-    same_form(piece, other_piece)
-        && all_tables_alike(
-            groups,
-            version,
-            &piece.atoms,
-            other,
-            &other_piece.atoms,
-            from,
-        )
+    if !same_form(piece, other_piece) {
+        return false;
+    }
+    all_tables_alike(
+        groups,
+        version,
+        &piece.atoms,
+        other,
+        &other_piece.atoms,
+        from,
+    )
 }
 
 fn all_pieces_alike(
@@ -170,15 +172,14 @@ fn gone_on(groups: &Groups, first: &PartPieces, period: Period, next: &PartPiece
     if from != period.end() {
         return None;
     }
-    let alike = all_pieces_alike(
+    if !all_pieces_alike(
         groups,
         first.part.1,
         &first.pieces,
         next.part.1,
         &next.pieces,
         from,
-    );
-    if !alike {
+    ) {
         return None;
     }
     let both = period.until(part.end());

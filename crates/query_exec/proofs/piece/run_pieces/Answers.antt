@@ -1,4 +1,4 @@
-use Rattle.std.proofs.Common.{◌<◌, ◌+◌, take, length, sym, ap, subst, ◌∙◌, arith}
+use Rattle.std.proofs.Common.{◌<◌, ◌+◌, List, take, length, sym, ap, subst, ◌∙◌, arith}
 use Rattle.relations_spec.proofs.SetLaws.{in_map}
 use Rattle.join_exec.specs.Pieces.{stored_meaning}
 use Rattle.prima_base.specs.declared.timed_row.TimedRow.{TimedRow}
