@@ -12,10 +12,10 @@
 # or that begin it again under another name while nothing changes it.
 #
 # Then the forty versions of the program's own sample, of 2,000, 10,000 and 50,000 rows (or the
-# numbers in SAMPLE; none where it is empty, as ROWS may be): the seconds that three of its questions
-# take over the archive, on version 1, on version 2 for one kind of pages, and on version 40, and what
-# sqlite3 takes for the same rows, by views that are written by hand over a table of periods for each
-# lifeline, where it is there.
+# numbers in SAMPLE; none where it is empty, as ROWS may be): the seconds that three of its
+# questions take over the archive, on version 1, on version 2 for one kind of pages, and on version
+# 40, and what sqlite3 takes for the same rows, by views that are written by hand over a table of
+# periods for each lifeline, where it is there.
 # PROGRAM names another build to be measured in place of this one.
 set -eu
 top=$(cd "$(dirname "$0")/.." && pwd)

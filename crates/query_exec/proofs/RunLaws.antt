@@ -164,7 +164,8 @@ pieces_themselves kept from k (p ∷ ps) = (
 pub alike_shared : (from : ℕ) (a b : Option Store) → a ≡ b → AreAlike from a b
 alike_shared from a b e = subst (λ (o : Option Store). AreAlike from a o) e (alike_itself from a)
 
--- two stored tables with the same columns, the same rows from a moment on, and no more of the second
+-- two stored tables with the same columns, the same rows from a moment on, and no more of the
+-- second
 pub alike_stored : (from : ℕ) (a b : Store) → a.columns ≡ b.columns
     → ((m : ℕ) → from ≤ m → m < forever → relation_at a m ≡ relation_at b m)
     → ((names : List (List ℕ)) → reads b names ≤ reads a names) → AreAlike from (Some a) (Some b)

@@ -1,5 +1,5 @@
--- Runs: neighbouring parts of a slice that are read as one. Their pieces are alike: but for the names
--- of their tables they are the same, and what is stored of these is the same from then on.
+-- Runs: neighbouring parts of a slice that are read as one. Their pieces are alike: but for the
+-- names of their tables they are the same, and what is stored of these is the same from then on.
 use Rattle.std.specs.Prelude.{◌≡◌, ◌<◌, ◌≤◌, ℕ, true, List, [], ◌∷◌, length, Option, ⊤}
 use Rattle.relations_spec.specs.Sets.{In}
 use Rattle.relations_spec.specs.Spans.{Span, covers, forever}
