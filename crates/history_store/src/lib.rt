@@ -15,6 +15,7 @@
 //! any one column for which an index was asked.
 #![tactic(auto)]
 
+mod likeness;
 mod restoration;
 mod scan;
 mod table;

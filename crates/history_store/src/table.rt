@@ -1,3 +1,4 @@
+use crate::likeness::{is_settled, same_rows};
 use crate::restoration::{Cell, check_cells, restored_columns};
 use crate::scan::KeyScan;
 use crate::table_heading::column_place;
@@ -564,5 +565,30 @@ impl StoredTable {
         ensures { result ≡ cells_in self.now.cells }
     {
         count_cells(&self.logs)
+    }
+}
+
+impl StoredTable {
+    ghost use Rattle.std.specs.Prelude.{◌≡◌, ◌<◌, ◌≤◌, ℕ, true};
+    ghost use Rattle.relations_spec.specs.Spans.{forever};
+    ghost use Rattle.history_store.specs.Store.{relation_at};
+
+    /// Whether both tables have the same rows from the moment on: no stamp in them is later, and the
+    /// rows that they have now are the same. Each key and write is looked at, and where none is
+    /// from later each row. It takes no memory.
+    pub fn shows_same(&self, other: &StoredTable, from: u64) -> bool
+        ensures { result ≡ true → (m : ℕ) → from ≤ m → m < forever
+            → relation_at self.now m ≡ relation_at other.now m }
+    {
+        if self.logs.len() != other.logs.len() {
+            return false;
+        }
+        if !is_settled(&self.keys, &self.logs, from) {
+            return false;
+        }
+        if !is_settled(&other.keys, &other.logs, from) {
+            return false;
+        }
+        same_rows(&self.logs, &self.live, &other.logs, &other.live)
     }
 }

@@ -1,9 +1,13 @@
 -- Writes whose values stand in a list of their own.
 use Rattle.std.proofs.Common.{◌≡◌, ℕ, zero, suc, ◌<◌, List, [], ◌∷◌, ◌++◌, length, get_or, set}
-use Rattle.std.proofs.Common.{refl, ap, arith}
+use Rattle.std.proofs.Common.{refl, ap, arith, true, nat_le}
+use Rattle.std.proofs.lemmas.Bool.{and_parts}
+use Rattle.std.proofs.lemmas.Bool.Decides.{nat_tests}
+use Rattle.std.specs.List.{list_all}
 use Rattle.prima_base.specs.declared.value.Value.{Value}
 use Rattle.history_store_columns.specs.declared.column.StoredWrite.{StoredWrite}
 use Rattle.history_store_columns.specs.Log.{Write}
+use Rattle.history_store_columns.specs.Entries.{AllCells}
 use Rattle.history_store_columns.specs.StoredWrites.{writes_in, nexts_of}
 
 abbrev pub write_of : Value → StoredWrite → Write
@@ -63,3 +67,15 @@ write_at [] (w ∷ writes) k v d e = absurd (omega (arith, e))
 write_at (u ∷ values) [] k v d e = absurd (omega (arith, e))
 write_at (u ∷ values) (w ∷ writes) zero v d e = refl
 write_at (u ∷ values) (w ∷ writes) (suc k) v d e = write_at values writes k v d (omega (arith, e))
+
+-- where none of the stored writes is from later than a moment, no write is
+pub none_later : (moment : ℕ) (values : List Value) (writes : List StoredWrite)
+    → list_all (λ (w : StoredWrite). nat_le w.start moment) writes ≡ true
+    → AllCells moment (writes_in values writes)
+none_later moment values [] e = tt
+none_later moment [] (w ∷ writes) e = tt
+none_later moment (v ∷ values) (w ∷ writes) e =
+    let b = and_parts (nat_le w.start moment)
+    (list_all (λ (x : StoredWrite). nat_le x.start moment) writes) e in
+    let t : nat_le w.start moment ≡ true = b.0 in
+    (grind (arith, nat_tests), none_later moment values writes b.1)

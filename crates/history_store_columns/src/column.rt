@@ -28,6 +28,17 @@ pub struct Column {
     last: Vec<u32>,
 }
 
+ghost use Rattle.std.specs.Prelude.{◌≡◌, nat_le};
+ghost use Rattle.std.specs.List.{list_all};
+ghost use Rattle.history_store_columns.specs.declared.column.StoredWrite.{StoredWrite as OneWrite};
+
+// Whether none of the writes is from later than the moment.
+fn start_by(writes: &[StoredWrite], moment: u64) -> bool
+    ensures { result ≡ list_all (λ (w : OneWrite). nat_le w.start moment) writes.now }
+{
+    writes.iter().all(|write| write.start <= moment)
+}
+
 impl Model for Column {
     ghost use Rattle.history_store_columns.specs.Log.{Log};
 
@@ -46,7 +57,7 @@ impl Column {
     ghost use Rattle.prima_base.specs.Columns.{has_type, IsValid};
     ghost use Rattle.history_store_columns.specs.Log.{newest};
     ghost use Rattle.history_store_columns.specs.StoredValues.{text_room};
-    ghost use Rattle.history_store_columns.specs.Entries.{entries_from, IsHistory};
+    ghost use Rattle.history_store_columns.specs.Entries.{entries_from, IsHistory, AllCells};
 
     /// A column of this type without rows.
     pub fn new(alloc: Global, kind: ColType) -> Column
@@ -179,6 +190,13 @@ impl Column {
         ensures { result ≡ length self.now.cells }
     {
         self.writes.len()
+    }
+
+    /// Whether no write is from later than the moment. It takes no memory.
+    pub fn starts_by(&self, moment: u64) -> bool
+        ensures { result ≡ true → AllCells moment self.now.cells }
+    {
+        start_by(&self.writes, moment)
     }
 
     /// A scan of the entries, by id and start. It takes no memory.

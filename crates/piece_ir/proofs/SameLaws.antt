@@ -107,7 +107,7 @@ mutual
       ap (λ x. a_tree x ts) (tree_is t u h.0) ∙ ap (a_tree u) (trees_are ts us h.1)
   trees_are _ _ e = absurd (cc)
 
-  test_is : (c d : Test) → same_test c d ≡ true → c ≡ d
+  pub test_is : (c d : Test) → same_test c d ≡ true → c ≡ d
   test_is never never e = refl
   test_is always always e = refl
   test_is (compared o t u) (compared p v w) e =
@@ -134,7 +134,7 @@ names_are (a ∷ names) (b ∷ others) e =
     ap (λ x. x ∷ names) (same_is a b h.0) ∙ ap (λ xs. b ∷ xs) (names_are names others h.1)
 names_are _ _ e = absurd (cc)
 
-outs_are : (outs others : List (List ℕ × Tree)) → same_outs outs others ≡ true → outs ≡ others
+pub outs_are : (outs others : List (List ℕ × Tree)) → same_outs outs others ≡ true → outs ≡ others
 outs_are [] [] e = refl
 outs_are (a ∷ outs) (b ∷ others) e =
     let h = and_parts (same a.0 b.0 && same_tree a.1 b.1) (same_outs outs others) e in

@@ -20,7 +20,7 @@ pub use choice::unfold_by;
 pub use explained::Explained;
 pub use laws::{substitution_puts_a_value, the_same_pieces_are_equal};
 pub use piece::{Piece, copy_pieces};
-pub use sameness::same_pieces;
+pub use sameness::{same_form, same_pieces};
 pub use substitution::{needs, substitute};
 pub use unfolded::append_parts;
 pub use view::{TableViews, View};

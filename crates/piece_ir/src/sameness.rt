@@ -1,6 +1,6 @@
 //! Whether two expressions, conditions or pieces are the same.
 
-ghost use Rattle.std.specs.Prelude.{◌≡◌, map};
+ghost use Rattle.std.specs.Prelude.{◌≡◌, ◌&&◌, map};
 ghost use Rattle.smo_ops_types.specs.Changes.{sets_of};
 ghost use Rattle.cond_expr.specs.Seen.{tree, test, trees_of, tests_of};
 ghost use Rattle.piece_ir.specs.Shown.{piece_of, shown_pieces};
@@ -127,6 +127,15 @@ fn same_piece(a: &Piece, b: &Piece) -> bool
     ensures { result ≡ same_piece (piece_of a.now) (piece_of b.now) }
 {
     same_names(&a.atoms, &b.atoms) && same_cond(&a.cond, &b.cond) && same_outs(&a.outs, &b.outs)
+}
+
+/// Whether two pieces are one but for the tables that they are over: their conditions are the same,
+/// and their outputs, as they are written. It takes no memory.
+pub fn same_form(a: &Piece, b: &Piece) -> bool
+    ensures { result ≡ (same_test (piece_of a.now).cond (piece_of b.now).cond
+        && same_outs (piece_of a.now).outs (piece_of b.now).outs) }
+{
+    same_cond(&a.cond, &b.cond) && same_outs(&a.outs, &b.outs)
 }
 
 /// Whether pieces are one by one the same: over the same tables, with the same condition and the

@@ -16,7 +16,7 @@ use Rattle.schema_catalog.specs.Tables.{Tables}
 use Rattle.schema_catalog.specs.Databases.{Database}
 use Rattle.smo_ops_spec.specs.OneRow.{Row, Relation}
 use Rattle.version_groups.specs.Groups.{Kept}
-use Rattle.piece_ir_spec.specs.Pieces.{means, all_mean}
+use Rattle.piece_ir_spec.specs.Pieces.{PlainPiece, means, all_mean}
 use Rattle.piece_ir.specs.Shown.{piece_of, shown_pieces}
 use Rattle.piece_ir.specs.declared.piece.Piece.{Piece}
 use Rattle.query_pieces_spec.specs.Gathering.{IsGathered}
@@ -24,7 +24,7 @@ use Rattle.query_pieces_spec.proofs.Gatherings.{of_either, more_gathered}
 use Rattle.query_pieces_spec.proofs.RunPieces.{one_more_run}
 use Rattle.join_exec.specs.Pieces.{piece_reads}
 use Rattle.query_exec.specs.Reads.{pieces_read}
-use Rattle.query_exec.proofs.ListSteps.{left_is, taken_is}
+use Rattle.query_exec.proofs.ListSteps.{left_is}
 
 -- rows that are put after others
 pub joined_entries : (old news new : List TimedRow) → new ≡ old ++ news
@@ -58,26 +58,20 @@ none_after old news new m e f g = ap (λ (es : List (Entry Row)). at row_cmp es 
 
 module _ (pieces : List Piece) (i : ℕ) (p : Piece) (l : i < length pieces)
     (is : p ≡ get_or pieces i p) where
-  taken_pieces : shown_pieces (take (i + 1) pieces) ≡ shown_pieces (take i pieces) ++ piece_of p
-      ∷ []
-  taken_pieces = ap shown_pieces (taken_is pieces i p l is)
-      ∙ map-append piece_of (take i pieces) (p ∷ [])
-
-  -- the rows of one piece more
-  pub next_run : (tables : Tables) (db : Database) (old news new : List TimedRow) (m : ℕ)
-      → new ≡ old ++ news → rows_at old m ≡ all_mean tables db (shown_pieces (take i pieces))
-      → rows_at news m ≡ means tables db (piece_of p)
-      → rows_at new m ≡ all_mean tables db (shown_pieces (take (i + 1) pieces))
-  next_run tables db old news new m e f g =
-      ap (λ (es : List (Entry Row)). at row_cmp es m) (joined_entries old news new e)
-      ∙ one_more_run tables db (shown_pieces (take i pieces)) (piece_of p) (entries_of old)
-      (entries_of news) m f g
-      ∙ ap (all_mean tables db) (sym taken_pieces)
-
   pub reads_left : (kept : Kept) (k : ℕ) → pieces_read kept k (shown_pieces (drop i pieces))
       ≡ piece_reads kept k (piece_of p) + pieces_read kept k (shown_pieces (drop (i + 1) pieces))
   reads_left kept k = ap (λ (ps : List Piece). pieces_read kept k (shown_pieces ps))
       (left_is pieces i p l is)
+
+-- the rows of one piece more, which is alike to the next of the pieces at the version in force
+pub next_run : (tables : Tables) (db : Database) (qs more : List PlainPiece) (q : PlainPiece)
+    (old news new : List TimedRow) (m : ℕ) → more ≡ qs ++ q ∷ [] → new ≡ old ++ news
+    → rows_at old m ≡ all_mean tables db qs → rows_at news m ≡ means tables db q
+    → rows_at new m ≡ all_mean tables db more
+next_run tables db qs more q old news new m t e f g =
+    ap (λ (es : List (Entry Row)). at row_cmp es m) (joined_entries old news new e)
+    ∙ one_more_run tables db qs q (entries_of old) (entries_of news) m f g
+    ∙ ap (all_mean tables db) (sym t)
 
 -- the rows of one part more
 pub part_gathered : (relation : ℕ → Relation) (spans : List Span) (p : Span)

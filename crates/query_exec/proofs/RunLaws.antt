@@ -1,24 +1,27 @@
 -- Runs: what is read of one is what is read of each of its parts alone.
 use Rattle.std.proofs.Common.{◌≡◌, ◌+◌, ◌<◌, ◌≤◌, ℕ, suc, true, List, [], ◌∷◌, ◌++◌, length, get_or}
-use Rattle.std.proofs.Common.{take, drop, refl, sym, ap, subst, ◌∙◌, inl, inr, arith}
-use Rattle.std.specs.Prelude.{◌⊎◌, Option}
+use Rattle.std.proofs.Common.{take, drop, refl, sym, ap, subst, ◌∙◌, inl, inr, arith, zero, Bool}
+use Rattle.std.proofs.Common.{false, if◌then◌else◌}
+use Rattle.std.specs.Prelude.{◌⊎◌, Option, Some}
+use Rattle.std.specs.Ordering.{is_eq}
 use Rattle.std.proofs.Math.Seq.{take-add}
 use Rattle.std.proofs.lemmas.Bool.{cases_lt}
-use Rattle.std.proofs.lemmas.List.{map-append, take-append-drop}
+use Rattle.std.proofs.lemmas.List.{map-append, take-append-drop, take_all, length-map}
 use Rattle.relations_spec.specs.Sets.{In, set_of}
-use Rattle.relations_spec.specs.Spans.{Span, covers}
+use Rattle.relations_spec.specs.Spans.{Span, covers, forever}
 use Rattle.relations_spec.specs.Timed.{Entry, at}
 use Rattle.relations_spec.proofs.SetLaws.{from_map, in_left, in_right, in_append}
 use Rattle.relations_spec.proofs.Held.{covers_is}
-use Rattle.prima_base.specs.Order.{row_cmp}
+use Rattle.prima_base.specs.Order.{row_cmp, bytes_cmp}
 use Rattle.prima_base.specs.Columns.{Column}
 use Rattle.smo_ops_types.specs.Commands.{PlainVersion}
 use Rattle.smo_ops_spec.specs.OneRow.{Row, Relation}
 use Rattle.smo_ops_spec.specs.Past.{Past, tables_of, database_at}
+use Rattle.cond_expr.specs.Trees.{Tree, Test}
 use Rattle.cond_expr.specs.declared.expr.ColRef.{ColRef}
 use Rattle.cond_expr.specs.declared.expr.Column.{Column as AtomColumn}
 use Rattle.join_exec_spec.specs.BorrowedOutputs.{BorrowedValues}
-use Rattle.history_store.specs.Store.{Store}
+use Rattle.history_store.specs.Store.{Store, Cell, named, column_of, relation_at}
 use Rattle.version_groups_tables.specs.NewestTables.{rows_stored}
 use Rattle.version_groups.specs.Groups.{Kept, versions_in, table_in}
 use Rattle.version_groups.specs.Representation.{Represents, IsInForce}
@@ -30,126 +33,256 @@ use Rattle.piece_ir.specs.Shown.{piece_of, shown_pieces}
 use Rattle.piece_ir.specs.declared.piece.Piece.{Piece}
 use Rattle.query_pieces_spec.specs.Gathering.{HasMoment, IsGathered}
 use Rattle.join_exec.specs.Pieces.{columns_stored, stored_columns, stored_rows, stored_meaning}
-use Rattle.join_exec.specs.Pieces.{reads_stored, atoms_read, piece_reads}
+use Rattle.join_exec.specs.Pieces.{atoms_read, piece_reads}
+use Rattle.join_exec.specs.Reading.{count_in, entries_in, reads}
 use Rattle.join_exec.proofs.PieceAtoms.{meaning_shown}
 use Rattle.query_exec.specs.declared.part_piece.PartPieces.{PartPieces}
-use Rattle.query_exec.specs.Borrowed.{AllPlainIn}
+use Rattle.query_exec.specs.Borrowed.{AllPlainIn, ArePlainIn}
 use Rattle.query_exec.specs.Planned.{planned_spans}
 use Rattle.query_exec.specs.Reads.{pieces_read, part_read}
 use Rattle.query_exec.specs.Routes.{IsOwn}
-use Rattle.query_exec.specs.Runs.{ShareTables, ShareAll, GoesOn, Meet, IsRun, IsMeant}
+use Rattle.query_exec.specs.Runs.{AreAlike, TablesAlike, IsAlike, PiecesAlike, MeanAlike, GoesOn}
+use Rattle.query_exec.specs.Runs.{Meet, IsRun, IsMeant}
 use Rattle.query_exec.specs.Totals.{total}
-use Rattle.query_exec.proofs.ListSteps.{left_is, taken_is, among_taken}
+use Rattle.query_exec.proofs.ListSteps.{left_is, among_taken}
 use Rattle.query_exec.proofs.TotalLaws.{total_joined}
 use Rattle.query_exec.proofs.WalkSteps.{within_there}
 
--- ---- two versions with one store of some tables
+-- ---- pieces that are alike
 
-module _ (kept : Kept) (k j : ℕ) where
-  columns_shared : (tables : List (List ℕ)) → ShareTables kept k j tables
-      → stored_columns kept k tables ≡ stored_columns kept j tables
-  columns_shared [] h = refl
-  columns_shared (n ∷ tables) h =
-      ap (λ (o : Option Store). columns_stored o ∷ stored_columns kept k tables) (h n (inl refl))
-      ∙ ap (λ (more : List (List Column)). columns_stored (table_in kept j n) ∷ more)
-      (columns_shared tables (λ x m. h x (inr m)))
+module _ (kept : Kept) (from k j : ℕ) where
+  columns_alike : (tables others : List (List ℕ)) → TablesAlike kept from k tables j others
+      → stored_columns kept k tables ≡ stored_columns kept j others
+  columns_alike [] [] h = refl
+  columns_alike [] (b ∷ others) h = absurd h
+  columns_alike (a ∷ tables) [] h = absurd h
+  columns_alike (a ∷ tables) (b ∷ others) h =
+      ap (λ (cs : List Column). cs ∷ stored_columns kept k tables) h.0.columns
+      ∙ ap (λ (more : List (List Column)). columns_stored (table_in kept j b) ∷ more)
+      (columns_alike tables others h.1)
 
-  rows_shared : (tables : List (List ℕ)) (m : ℕ) → ShareTables kept k j tables
-      → stored_rows kept k tables m ≡ stored_rows kept j tables m
-  rows_shared [] m h = refl
-  rows_shared (n ∷ tables) m h =
-      ap (λ (o : Option Store). rows_stored m o ∷ stored_rows kept k tables m) (h n (inl refl))
-      ∙ ap (λ (more : List Relation). rows_stored m (table_in kept j n) ∷ more)
-      (rows_shared tables m (λ x i. h x (inr i)))
+  rows_alike : (tables others : List (List ℕ)) (m : ℕ) → from ≤ m → m < forever
+      → TablesAlike kept from k tables j others
+      → stored_rows kept k tables m ≡ stored_rows kept j others m
+  rows_alike [] [] m l t h = refl
+  rows_alike [] (b ∷ others) m l t h = absurd h
+  rows_alike (a ∷ tables) [] m l t h = absurd h
+  rows_alike (a ∷ tables) (b ∷ others) m l t h =
+      ap (λ (r : Relation). r ∷ stored_rows kept k tables m) (h.0.rows m l t)
+      ∙ ap (λ (more : List Relation). rows_stored m (table_in kept j b) ∷ more)
+      (rows_alike tables others m l t h.1)
 
-  -- a piece over these tables means the same at each moment
-  pub meaning_shared : (p : PlainPiece) (m : ℕ) → ShareTables kept k j p.atoms
-      → stored_meaning kept k p m ≡ stored_meaning kept j p m
-  meaning_shared p m h =
+  -- they mean the same from the moment on
+  pub meaning_alike : (p q : PlainPiece) (m : ℕ) → from ≤ m → m < forever
+      → IsAlike kept from k p j q → stored_meaning kept k p m ≡ stored_meaning kept j q m
+  meaning_alike p q m l t h =
       ap (λ (cs : List (List Column)). set_of row_cmp
       (answers_over cs (stored_rows kept k p.atoms m) (out_trees p.outs) p.cond))
-      (columns_shared p.atoms h)
+      (columns_alike p.atoms q.atoms h.atoms)
       ∙ ap (λ (rs : List Relation). set_of row_cmp
-      (answers_over (stored_columns kept j p.atoms) rs (out_trees p.outs) p.cond))
-      (rows_shared p.atoms m h)
+      (answers_over (stored_columns kept j q.atoms) rs (out_trees p.outs) p.cond))
+      (rows_alike p.atoms q.atoms m l t h.atoms)
+      ∙ ap (λ (outs : List (List ℕ × Tree)). set_of row_cmp
+      (answers_over (stored_columns kept j q.atoms) (stored_rows kept j q.atoms m)
+      (out_trees outs) p.cond)) h.outs
+      ∙ ap (λ (cond : Test). set_of row_cmp
+      (answers_over (stored_columns kept j q.atoms) (stored_rows kept j q.atoms m)
+      (out_trees q.outs) cond)) h.cond
 
-  atoms_shared : (rs : List ColRef) (i : ℕ) (tables : List (List ℕ)) → ShareTables kept k j tables
-      → atoms_read kept k rs i tables ≡ atoms_read kept j rs i tables
-  atoms_shared rs i [] h = refl
-  atoms_shared rs i (n ∷ tables) h =
-      ap (λ (o : Option Store). reads_stored o (names_at i rs) + atoms_read kept k rs (i + 1)
-      tables) (h n (inl refl))
-      ∙ ap (λ (more : ℕ). reads_stored (table_in kept j n) (names_at i rs) + more)
-      (atoms_shared rs (i + 1) tables (λ x m. h x (inr m)))
+  pub pieces_mean : (ps qs : List PlainPiece) (m : ℕ) → from ≤ m → m < forever
+      → PiecesAlike kept from k ps j qs → MeanAlike kept k ps j qs m
+  pieces_mean [] [] m l t h = tt
+  pieces_mean [] (q ∷ qs) m l t h = absurd h
+  pieces_mean (p ∷ ps) [] m l t h = absurd h
+  pieces_mean (p ∷ ps) (q ∷ qs) m l t h =
+      (meaning_alike p q m l t h.0, pieces_mean ps qs m l t h.1)
 
-  -- and as much is read for it
-  pub reads_shared : (ps : List PlainPiece) → ShareAll kept k j ps
-      → pieces_read kept k ps ≡ pieces_read kept j ps
-  reads_shared [] h = refl
-  reads_shared (p ∷ ps) h =
-      ap (λ (n : ℕ). n + pieces_read kept k ps)
-      (atoms_shared (all_references (out_trees p.outs) p.cond) 0 p.atoms (h p (inl refl)))
-      ∙ ap (λ (n : ℕ). piece_reads kept j p + n) (reads_shared ps (λ q m. h q (inr m)))
+  atoms_alike : (rs : List ColRef) (i : ℕ) (tables others : List (List ℕ))
+      → TablesAlike kept from k tables j others
+      → atoms_read kept j rs i others ≤ atoms_read kept k rs i tables
+  atoms_alike rs i [] [] h = omega arith
+  atoms_alike rs i [] (b ∷ others) h = absurd h
+  atoms_alike rs i (a ∷ tables) [] h = absurd h
+  atoms_alike rs i (a ∷ tables) (b ∷ others) h =
+      let first = h.0.reads (names_at i rs) in
+      let more = atoms_alike rs (i + 1) tables others h.1 in
+      omega (arith, first, more)
 
--- one table more, and the tables of one piece more
-pub tables_more : (kept : Kept) (k j : ℕ) (names : List (List ℕ)) (i : ℕ) (name : List ℕ)
-    → i < length names → name ≡ get_or names i name → ShareTables kept k j (take i names)
-    → table_in kept k name ≡ table_in kept j name → ShareTables kept k j (take (i + 1) names)
-tables_more kept k j names i name l is h e n m =
-    step (in_append n (take i names) (name ∷ [])
-    (subst (λ (ns : List (List ℕ)). In n ns) (taken_is names i name l is) m))
+  -- and no more is read for the second
+  piece_alike : (p q : PlainPiece) → IsAlike kept from k p j q
+      → piece_reads kept j q ≤ piece_reads kept k p
+  piece_alike p q h =
+      subst (λ (outs : List (List ℕ × Tree)). atoms_read kept j
+      (all_references (out_trees outs) q.cond) 0 q.atoms ≤ piece_reads kept k p) h.outs
+      (subst (λ (cond : Test). atoms_read kept j (all_references (out_trees p.outs) cond) 0 q.atoms
+      ≤ piece_reads kept k p) h.cond
+      (atoms_alike (all_references (out_trees p.outs) p.cond) 0 p.atoms q.atoms h.atoms))
+
+  pub reads_alike : (ps qs : List PlainPiece) → PiecesAlike kept from k ps j qs
+      → pieces_read kept j qs ≤ pieces_read kept k ps
+  reads_alike [] [] h = omega arith
+  reads_alike [] (q ∷ qs) h = absurd h
+  reads_alike (p ∷ ps) [] h = absurd h
+  reads_alike (p ∷ ps) (q ∷ qs) h =
+      let first = piece_alike p q h.0 in
+      let more = reads_alike ps qs h.1 in
+      omega (arith, first, more)
+
+  -- each of the first has one that it is alike to
+  pub partner : (ps qs : List PlainPiece) → PiecesAlike kept from k ps j qs → (p : PlainPiece)
+      → In p ps → (q : PlainPiece) × In q qs × IsAlike kept from k p j q
+  partner [] qs h p m = absurd m
+  partner (x ∷ ps) [] h p m = absurd h
+  partner (x ∷ ps) (q ∷ qs) h p (inl e) =
+      (q, inl refl, subst (λ (y : PlainPiece). IsAlike kept from k y j q) e h.0)
+  partner (x ∷ ps) (q ∷ qs) h p (inr m) =
+      let r = partner ps qs h.1 p m in (r.0, inr r.1, r.2)
+
+-- what a table is alike to: itself
+alike_itself : (from : ℕ) (o : Option Store) → AreAlike from o o
+alike_itself from o = record {
+  columns = refl;
+  rows = λ m l t. refl;
+  reads = λ names. omega arith;
+}
+
+tables_themselves : (kept : Kept) (from k : ℕ) (tables : List (List ℕ))
+    → TablesAlike kept from k tables k tables
+tables_themselves kept from k [] = tt
+tables_themselves kept from k (n ∷ tables) =
+    (alike_itself from (table_in kept k n), tables_themselves kept from k tables)
+
+pub pieces_themselves : (kept : Kept) (from k : ℕ) (ps : List PlainPiece)
+    → PiecesAlike kept from k ps k ps
+pieces_themselves kept from k [] = tt
+pieces_themselves kept from k (p ∷ ps) = (
+  record { atoms = tables_themselves kept from k p.atoms; cond = refl; outs = refl },
+  pieces_themselves kept from k ps,
+)
+
+-- two tables of one lifeline are alike
+pub alike_shared : (from : ℕ) (a b : Option Store) → a ≡ b → AreAlike from a b
+alike_shared from a b e = subst (λ (o : Option Store). AreAlike from a o) e (alike_itself from a)
+
+-- two stored tables with the same columns, the same rows from a moment on, and no more of the
+-- second
+pub alike_stored : (from : ℕ) (a b : Store) → a.columns ≡ b.columns
+    → ((m : ℕ) → from ≤ m → m < forever → relation_at a m ≡ relation_at b m)
+    → ((names : List (List ℕ)) → reads b names ≤ reads a names) → AreAlike from (Some a) (Some b)
+alike_stored from a b c r n = record { columns = c; rows = r; reads = n }
+
+-- ---- how much is stored of two tables
+
+count_least : (name : List ℕ) (columns : List Column) (xs ys : List (List Cell))
+    → length xs ≡ length ys → ((i : ℕ) → i < length xs
+    → length (get_or ys i []) ≤ length (get_or xs i []))
+    → count_in (named name columns ys) ≤ count_in (named name columns xs)
+count_least name [] xs ys e h = omega arith
+count_least name (c ∷ columns) [] [] e h = omega arith
+count_least name (c ∷ columns) [] (y ∷ ys) e h = absurd (omega (arith, e))
+count_least name (c ∷ columns) (x ∷ xs) [] e h = absurd (omega (arith, e))
+count_least name (c ∷ columns) (x ∷ xs) (y ∷ ys) e h =
+    step (is_eq (bytes_cmp c.0 name)) (h 0 (omega arith))
+    (count_least name columns xs ys (omega (arith, e)) (λ i l. h (suc i) (omega (arith, l))))
   where
-    step : In n (take i names) ⊎ In n (name ∷ []) → table_in kept k n ≡ table_in kept j n
-    step (inl k) = h n k
-    step (inr (inl s)) = subst (λ (x : List ℕ). table_in kept k x ≡ table_in kept j x) s e
-    step (inr (inr k)) = absurd k
+    step : (b : Bool) → length y ≤ length x
+        → count_in (named name columns ys) ≤ count_in (named name columns xs)
+        → count_in (if b then Some y else named name columns ys)
+        ≤ count_in (if b then Some x else named name columns xs)
+    step true l r = l
+    step false l r = r
 
-pub all_more : (kept : Kept) (k j : ℕ) (pieces : List Piece) (i : ℕ) (x : Piece)
-    (names : List (List ℕ)) → i < length pieces → x ≡ get_or pieces i x → names ≡ x.atoms.items
-    → ShareAll kept k j (shown_pieces (take i pieces)) → ShareTables kept k j names
-    → ShareAll kept k j (shown_pieces (take (i + 1) pieces))
-all_more kept k j pieces i x names l is same h e p m =
-    step (in_append p (shown_pieces (take i pieces)) (piece_of x ∷ [])
-    (subst (λ (ps : List PlainPiece). In p ps)
-    (ap shown_pieces (taken_is pieces i x l is) ∙ map-append piece_of (take i pieces) (x ∷ [])) m))
-  where
-    step : In p (shown_pieces (take i pieces)) ⊎ In p (piece_of x ∷ [])
-        → ShareTables kept k j p.atoms
-    step (inl k) = h p k
-    step (inr (inl s)) = subst (λ (q : PlainPiece). ShareTables kept k j q.atoms) s
-        (subst (λ (ns : List (List ℕ)). ShareTables kept k j ns) same e)
-    step (inr (inr k)) = absurd k
+entries_least : (a b : Store) → a.columns ≡ b.columns → length a.cells ≡ length b.cells
+    → ((i : ℕ) → i < length a.cells → length (get_or b.cells i []) ≤ length (get_or a.cells i []))
+    → (names : List (List ℕ)) → entries_in b names ≤ entries_in a names
+entries_least a b c e h [] = omega arith
+entries_least a b c e h (name ∷ names) =
+    let more = entries_least a b c e h names in
+    let first : count_in (column_of b name) ≤ count_in (column_of a name) =
+    subst (λ (cs : List Column). count_in (named name cs b.cells) ≤ count_in (column_of a name)) c
+    (count_least name a.columns a.cells b.cells e h) in
+    omega (arith, first, more)
 
--- what the pieces of a part that goes on mean
-pub run_rows : (kept : Kept) (first x : PartPieces) → GoesOn kept first x → (p : PlainPiece)
-    → In p (shown_pieces x.pieces.items) → (m : ℕ)
-    → stored_meaning kept first.part.1 p m ≡ stored_meaning kept x.part.1 p m
-run_rows kept first x h p i m = meaning_shared kept first.part.1 x.part.1 p m
-    (h.shared p (subst (λ (ps : List PlainPiece). In p ps) h.pieces i))
+pub reads_least : (a b : Store) → a.columns ≡ b.columns → length b.keys ≤ length a.keys
+    → length a.cells ≡ length b.cells
+    → ((i : ℕ) → i < length a.cells → length (get_or b.cells i []) ≤ length (get_or a.cells i []))
+    → (names : List (List ℕ)) → reads b names ≤ reads a names
+reads_least a b c k e h names =
+    let more = entries_least a b c e h names in omega (arith, k, more)
 
--- and what is read for it
+-- ---- the pieces of a part that goes on
+
+-- what they mean at the moments of the part
+pub goes_mean : (kept : Kept) (first x : PartPieces) → GoesOn kept first x → (m : ℕ)
+    → covers x.part.0 m ≡ true → m < forever
+    → MeanAlike kept first.part.1 (shown_pieces first.pieces.items) x.part.1
+    (shown_pieces x.pieces.items) m
+goes_mean kept first x h m c t =
+    let inside = (covers_is x.part.0 m).0 c in
+    pieces_mean kept x.part.0.start first.part.1 x.part.1 (shown_pieces first.pieces.items)
+    (shown_pieces x.pieces.items) m inside.0 t h
+
+-- and what is read for them
 pub goes_reads : (kept : Kept) (first x : PartPieces) → GoesOn kept first x
-    → part_read kept x ≡ part_read kept first
-goes_reads kept first x h =
-    ap (pieces_read kept x.part.1) h.pieces ∙ sym
-    (reads_shared kept first.part.1 x.part.1 (shown_pieces first.pieces.items) h.shared)
+    → part_read kept x ≤ part_read kept first
+goes_reads kept first x h = reads_alike kept x.part.0.start first.part.1 x.part.1
+    (shown_pieces first.pieces.items) (shown_pieces x.pieces.items) h
 
--- what is stored of one of the pieces means what it means at the version in force
+-- what one of the pieces means at a moment, and the piece that it is alike to at the version in
+-- force
+mean_count : (kept : Kept) (k j m : ℕ) (ps qs : List PlainPiece) → MeanAlike kept k ps j qs m
+    → length qs ≡ length ps
+mean_count kept k j m [] [] h = refl
+mean_count kept k j m [] (q ∷ qs) h = absurd h
+mean_count kept k j m (p ∷ ps) [] h = absurd h
+mean_count kept k j m (p ∷ ps) (q ∷ qs) h = ap suc (mean_count kept k j m ps qs h.1)
+
+pub all_alike : (kept : Kept) (k j m : ℕ) (pieces : List Piece) (qs : List PlainPiece) (i : ℕ)
+    → MeanAlike kept k (shown_pieces pieces) j qs m → length pieces ≤ i → take i qs ≡ qs
+all_alike kept k j m pieces qs i h l =
+    let n = mean_count kept k j m (shown_pieces pieces) qs h in
+    let e = length-map pieces piece_of in
+    take_all i qs (omega (arith, n, e, l))
+
+pub next_alike : (kept : Kept) (k j m : ℕ) (pieces : List Piece) (qs : List PlainPiece) (i : ℕ)
+    (p : Piece) → MeanAlike kept k (shown_pieces pieces) j qs m → i < length pieces
+    → p ≡ get_or pieces i p → (q : PlainPiece) × (take (i + 1) qs ≡ take i qs ++ q ∷ [])
+    × (stored_meaning kept k (piece_of p) m ≡ stored_meaning kept j q m) × In q qs
+next_alike kept k j m [] qs i p h l is = absurd (omega arith)
+next_alike kept k j m (x ∷ pieces) [] i p h l is = absurd h
+next_alike kept k j m (x ∷ pieces) (q ∷ qs) zero p h l is = (
+  q,
+  refl,
+  subst (λ (y : Piece). stored_meaning kept k (piece_of y) m ≡ stored_meaning kept j q m) (sym is)
+      h.0,
+  inl refl,
+)
+next_alike kept k j m (x ∷ pieces) (q ∷ qs) (suc i) p h l is =
+    let r = next_alike kept k j m pieces qs i p h.1 (omega (arith, l)) is in
+    let one : suc i + 1 ≡ suc (i + 1) = omega arith in (
+      r.0,
+      ap (λ (n : ℕ). take n (q ∷ qs)) one ∙ ap (λ (xs : List PlainPiece). q ∷ xs) r.1,
+      r.2,
+      inr r.3,
+    )
+
+-- what is stored of a piece that is alike to one at the version in force means what that means
 pub piece_meant : (kept : Kept) (past : Past) → Represents kept past
     → (k : ℕ) (ps : List PlainPiece) (m : ℕ) (rows : Relation) (h : IsMeant kept past k ps m rows)
-    (p : PlainPiece) → In p ps
-    → stored_meaning kept k p m ≡ means (tables_of past h.version) (database_at past m) p
-piece_meant kept past represents k ps m rows h p among =
-    meaning_shared kept k h.version p m (h.shared p among)
-    ∙ meaning_shown kept past h.version represents h.there p m h.force (h.typed p among).there
+    (meaning : Relation) (q : PlainPiece) → meaning ≡ stored_meaning kept h.version q m
+    → In q h.pieces → meaning ≡ means (tables_of past h.version) (database_at past m) q
+piece_meant kept past represents k ps m rows h meaning q e among =
+    e ∙ meaning_shown kept past h.version represents h.there q m h.force (h.typed q among).there
 
 -- ---- a run that goes on
 
-pub none_more : (kept : Kept) (first : PartPieces) → IsRun kept first [] first.part.0
-none_more kept first = record {
+pub none_more : (kept : Kept) (first : PartPieces) → first.part.0.end ≤ forever
+    → IsRun kept first [] first.part.0
+none_more kept first ends = record {
   each = λ x m. absurd m;
   within = λ m c. (first.part.0, inl refl, c);
   all = λ m h. alone m h.0 h.1 h.2;
+  ends = ends;
 }
   where
     alone : (m : ℕ) (s : Span) → In s (first.part.0 ∷ []) → covers s m ≡ true
@@ -211,6 +344,7 @@ module _ (kept : Kept) (first : PartPieces) (more : List PartPieces) (period : S
         (within_on m c (cases_lt m period.end));
     all = λ m h. all_on m h.0 h.2 (in_append h.0 (planned_spans (first ∷ more)) (x.part.0 ∷ [])
         (subst (λ (spans : List Span). In h.0 spans) spans_on h.1));
+    ends = meet.last;
   }
 
 -- ---- what a run is read for
@@ -219,11 +353,18 @@ module _ (kept : Kept) (first : PartPieces) (more : List PartPieces) (period : S
     (run : IsRun kept first more period) where
   -- each of its parts goes on from the first, as the first does
   goes : (x : PartPieces) → In x (first ∷ more) → GoesOn kept first x
-  goes x (inl e) = subst (GoesOn kept first) e (record { pieces = refl; shared = λ p m n i. refl })
+  goes x (inl e) = subst (GoesOn kept first) e (pieces_themselves kept first.part.0.start
+      first.part.1 (shown_pieces first.pieces.items))
   goes x (inr k) = run.each x k
 
-  pub run_reads : (x : PartPieces) → In x (first ∷ more) → part_read kept x ≡ part_read kept first
+  pub run_reads : (x : PartPieces) → In x (first ∷ more) → part_read kept x ≤ part_read kept first
   run_reads x m = goes_reads kept first x (goes x m)
+
+  in_time : (m : ℕ) → covers period m ≡ true → m < forever
+  in_time m c =
+      let inside = (covers_is period m).0 c in
+      let ends = run.ends in
+      omega (arith, inside.1, ends)
 
   -- at each moment of it the pieces mean what those of the part in which the moment lies mean there
   pub run_meant : (past : Past) → Represents kept past → (relation : ℕ → Relation)
@@ -237,7 +378,6 @@ module _ (kept : Kept) (first : PartPieces) (more : List PartPieces) (period : S
   run_meant past represents relation own means m c =
       let s = run.within m c in
       let x = from_map (λ (y : PartPieces). y.part.0) s.0 (first ∷ more) s.1 in
-      let g = goes x.0 x.1 in
       let inside : covers x.0.part.0 m ≡ true =
       subst (λ (t : Span). covers t m ≡ true) (sym x.2) s.2 in
       record {
@@ -245,10 +385,10 @@ module _ (kept : Kept) (first : PartPieces) (more : List PartPieces) (period : S
         there = within_there kept past represents x.0.part (own x.0 x.1).0;
         force = subst (λ (vs : List PlainVersion). IsInForce vs x.0.part.1 m) represents.versions
             ((own x.0 x.1).0.moments m inside);
-        shared = g.shared;
-        typed = subst (AllTyped (tables_of past x.0.part.1)) g.pieces (own x.0 x.1).1;
-        means = ap (all_mean (tables_of past x.0.part.1) (database_at past m)) (sym g.pieces)
-            ∙ means x.0 x.1 m inside;
+        pieces = shown_pieces x.0.pieces.items;
+        alike = goes_mean kept first x.0 (goes x.0 x.1) m inside (in_time m c);
+        typed = (own x.0 x.1).1;
+        means = means x.0 x.1 m inside;
       }
 
   -- what is plain in the rows of each of its parts is so in those of the run
@@ -259,13 +399,17 @@ module _ (kept : Kept) (first : PartPieces) (more : List PartPieces) (period : S
   run_plain which columns h p i m c row j =
       let s = run.within m c in
       let x = from_map (λ (y : PartPieces). y.part.0) s.0 (first ∷ more) s.1 in
-      let g = goes x.0 x.1 in
       let inside : covers x.0.part.0 m ≡ true =
       subst (λ (t : Span). covers t m ≡ true) (sym x.2) s.2 in
-      let among : In p (shown_pieces x.0.pieces.items) =
-      subst (λ (ps : List PlainPiece). In p ps) (sym g.pieces) i in
-      h x.0 x.1 p among m inside row
-      (subst (λ (r : Relation). In row r) (run_rows kept first x.0 g p among m) j)
+      let from = x.0.part.0.start in
+      let low : from ≤ m = ((covers_is x.0.part.0 m).0 inside).0 in
+      let q = partner kept from first.part.1 x.0.part.1 (shown_pieces first.pieces.items)
+      (shown_pieces x.0.pieces.items) (goes x.0 x.1) p i in
+      subst (λ (outs : List (List ℕ × Tree)). ArePlainIn which columns (out_trees outs) row)
+      (sym q.2.outs)
+      (h x.0 x.1 q.0 q.1 m inside row
+      (subst (λ (r : Relation). In row r)
+      (meaning_alike kept from first.part.1 x.0.part.1 p q.0 m low (in_time m c) q.2) j))
 
 -- ---- the runs of a plan, one after the other
 

@@ -1,37 +1,36 @@
-ghost use Rattle.std.specs.Prelude.{◌≡◌, ℕ, List, None};
+ghost use Rattle.std.specs.Prelude.{◌≡◌, ◌<◌, ◌≤◌, ℕ, List, None, true};
 ghost use Rattle.relations_spec.specs.Sets.{In};
-ghost use Rattle.relations_spec.specs.Spans.{Span};
+ghost use Rattle.relations_spec.specs.Spans.{Span, covers, forever};
 ghost use Rattle.piece_ir.specs.ExplainedPieces.{PlainExplained};
 ghost use Rattle.smo_ops_spec.specs.ValidPast.{IsPast};
 ghost use Rattle.smo_ops_spec.specs.ValidValues.{PastHolds};
 ghost use Rattle.smo_ops_spec.specs.Past.{Past, tables_of};
 ghost use Rattle.version_groups.specs.Groups.{Kept};
 ghost use Rattle.piece_ir_spec.specs.Constants.{ValidInVersions};
-ghost use Rattle.piece_ir_spec.specs.Pieces.{PlainPiece};
 ghost use Rattle.piece_ir_spec.specs.Rules.{Book, IsValidBook};
 ghost use Rattle.piece_ir.specs.Shown.{shown_pieces};
 ghost use Rattle.temporal_lang_spec.specs.Accepted.{fault_of_query};
 ghost use Rattle.temporal_lang_spec.specs.Atoms.{with_atoms};
 ghost use Rattle.temporal_lang_types.specs.Queries.{PlainQuery};
-ghost use Rattle.join_exec.specs.Pieces.{stored_meaning};
 ghost use Rattle.query_exec.specs.Constants.{ValidInQuery};
 ghost use Rattle.query_exec.specs.QueryPieces.{ArePieces, living_pieces};
 ghost use Rattle.query_exec.specs.Reads.{part_read};
 ghost use Rattle.query_exec.specs.ToldMeanings.{MeanWhatIsAsked};
-ghost use Rattle.query_exec.specs.Runs.{IsRun};
+ghost use Rattle.query_exec.specs.Runs.{IsRun, MeanAlike};
 ghost use Rattle.query_exec.specs.declared.part_piece.PartPieces.{PartPieces as OnePart};
 
 /// What is read of a run, over the version of its first part, is what each of its parts has alone:
-/// at each moment its pieces mean the same over what is stored of either version, and as much is
-/// read for them.
+/// at each moment of the part the pieces of the first, one by one, mean over what is stored of its
+/// version what those of the part mean over what is stored of the part's; and as much is read for
+/// them at least.
 pub fn a_run_is_read_as_each_of_its_parts()
     ensures rows { (kept : Kept) → (first : OnePart) → (more : List OnePart) → (period : Span)
-        → IsRun kept first more period → (x : OnePart) → In x more
-        → (p : PlainPiece) → In p (shown_pieces x.pieces.items) → (m : ℕ)
-        → stored_meaning kept first.part.1 p m ≡ stored_meaning kept x.part.1 p m }
+        → IsRun kept first more period → (x : OnePart) → In x more → (m : ℕ)
+        → covers x.part.0 m ≡ true → m < forever → MeanAlike kept first.part.1
+        (shown_pieces first.pieces.items) x.part.1 (shown_pieces x.pieces.items) m }
     ensures reads { (kept : Kept) → (first : OnePart) → (more : List OnePart) → (period : Span)
         → IsRun kept first more period → (x : OnePart) → In x more
-        → part_read kept x ≡ part_read kept first }
+        → part_read kept x ≤ part_read kept first }
 {}
 
 /// The pieces of a query that is not refused, by the function: of those into which its items'

@@ -1,9 +1,9 @@
-use Rattle.query_exec.proofs.RunLaws.{run_rows, goes_reads}
+use Rattle.query_exec.proofs.RunLaws.{goes_mean, goes_reads}
 use Rattle.query_exec.proofs.laws.a_run_is_read_as_each_of_its_parts.Goals as goal
 
 pub returns-clause-rows : goal.returns-clause-rows
-returns-clause-rows c = λ kept first more period run x among p i m.
-    run_rows kept first x (run.each x among) p i m
+returns-clause-rows c = λ kept first more period run x among m inside l.
+    goes_mean kept first x (run.each x among) m inside l
 
 pub returns-clause-reads : goal.returns-clause-reads
 returns-clause-reads c = λ kept first more period run x among.

@@ -18,7 +18,7 @@ invariant-loop-piece g l = record {
   rows : (past : Past) → Represents l.groups past → (m : ℕ) → covers l.fn.period m ≡ true
       → (meant : Relation) → (h : IsMeant l.groups past l.version (shown_pieces l.pieces) m meant)
       → rows_at l.rows.items m ≡ all_mean (tables_of past h.version) (database_at past m)
-      (shown_pieces (take l.piece-index l.pieces));
+      (take l.piece-index h.pieces);
   inside : (m : ℕ) → covers l.fn.period m ≡ false → rows_at l.rows.items m ≡ [];
   borrowed : (which : BorrowedValues) → (columns : List Column)
       → AllPlainIn l.groups l.version l.fn.period which columns (shown_pieces l.pieces)

@@ -2,8 +2,14 @@ use Rattle.std.proofs.Common.{◌≡◌, ◌<◌, ℕ, List, length, get_or, tak
 use Rattle.query_exec.specs.declared.part_piece.PartPieces.{PartPieces}
 use Rattle.query_exec.specs.Runs.{IsRun}
 use Rattle.query_exec.proofs.ListSteps.{taken_is}
-use Rattle.query_exec.proofs.RunLaws.{one_more}
+use Rattle.query_exec.proofs.RunLaws.{none_more, one_more}
 use Rattle.query_exec.proofs.run.run_of.Goals as goal
+
+pub loop-next-init : goal.loop-next-init
+loop-next-init c = record {
+  count = omega arith;
+  run = none_more c.args.groups.now c.args.first.now c.ends_in_time.ensures;
+}
 
 pub loop-next-preserved : goal.loop-next-preserved
 loop-next-preserved c =
