@@ -21,7 +21,6 @@ use std::sync::ledger::Ledger;
 /// The history of one table. An id is a place among the keys; `live` has the ids of the current
 /// rows in the order of their rows, and each of `others` has them in the order of the values of a
 /// column that was asked for.
-#[derive(Drop)]
 pub struct StoredTable {
     alloc: Global,
     columns: Vec<(Name, ColType)>,
@@ -29,6 +28,20 @@ pub struct StoredTable {
     logs: Vec<Column>,
     live: RowIndex,
     others: Vec<ValueIndex>,
+}
+
+// Written out, not derived: each crate above would prove a derived one again.
+impl Drop for StoredTable {
+    fn drop(self) {
+        let StoredTable {
+            alloc: _alloc,
+            columns: _columns,
+            keys: _keys,
+            logs: _logs,
+            live: _live,
+            others: _others,
+        } = self;
+    }
 }
 
 impl Model for StoredTable {

@@ -20,12 +20,23 @@ pub(crate) struct StoredWrite {
 /// The writes of a column, in the order in which they were made, and their values at the same
 /// places. Of a write only `next` ever changes. For each id `first` and `last` have the places of
 /// its first and its last one.
-#[derive(Drop)]
 pub struct Column {
     writes: Vec<StoredWrite>,
     values: StoredValues,
     first: Vec<u32>,
     last: Vec<u32>,
+}
+
+// Written out, not derived: each crate above would prove a derived one again.
+impl Drop for Column {
+    fn drop(self) {
+        let Column {
+            writes: _writes,
+            values: _values,
+            first: _first,
+            last: _last,
+        } = self;
+    }
 }
 
 ghost use Rattle.std.specs.Prelude.{◌≡◌, nat_le};

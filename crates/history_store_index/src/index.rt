@@ -132,13 +132,25 @@ fn insert_reserved<T: Drop>(items: &mut Vec<T>, at: usize, item: T)
 }
 
 /// Ids in an order, in blocks.
-#[derive(Drop)]
 pub struct RowIndex {
     alloc: Global,
     blocks: Vec<Block>,
     starts: Vec<usize>,
     spare: Vec<Block>,
     count: usize,
+}
+
+// Written out, not derived: each crate above would prove a derived one again.
+impl Drop for RowIndex {
+    fn drop(self) {
+        let RowIndex {
+            alloc: _alloc,
+            blocks: _blocks,
+            starts: _starts,
+            spare: _spare,
+            count: _count,
+        } = self;
+    }
 }
 
 impl Model for RowIndex {

@@ -15,10 +15,19 @@ use thiserror::Error;
 
 /// A name of a table, a column or an alias: 1 to 63 ASCII letters, digits and `_`, no digit first.
 /// A contract sees it as its bytes. Names are ordered by their bytes.
-#[derive(Drop)]
 pub struct Name {
     alloc: Global,
     bytes: Vec<u8>,
+}
+
+// Written out, not derived: each crate above would prove a derived one again.
+impl Drop for Name {
+    fn drop(self) {
+        let Name {
+            alloc: _alloc,
+            bytes: _bytes,
+        } = self;
+    }
 }
 
 impl Model for Name {

@@ -8,10 +8,19 @@ use std::cmp::Ordering;
 use std::marker::Model;
 
 /// A row: a list of values. Rows are ordered value by value. A contract sees the list.
-#[derive(Drop)]
 pub struct Row {
     alloc: Global,
     values: Vec<Value>,
+}
+
+// Written out, not derived: each crate above would prove a derived one again.
+impl Drop for Row {
+    fn drop(self) {
+        let Row {
+            alloc: _alloc,
+            values: _values,
+        } = self;
+    }
 }
 
 impl Model for Row {

@@ -15,10 +15,19 @@ use thiserror::Error;
 
 /// A text value: 0 to 4,096 bytes, none of them below 0x20 and none 0x7F. A contract sees it as its
 /// bytes. Texts are ordered by their bytes; UTF-8 passes unchanged.
-#[derive(Drop)]
 pub struct Txt {
     alloc: Global,
     bytes: Vec<u8>,
+}
+
+// Written out, not derived: each crate above would prove a derived one again.
+impl Drop for Txt {
+    fn drop(self) {
+        let Txt {
+            alloc: _alloc,
+            bytes: _bytes,
+        } = self;
+    }
 }
 
 impl Model for Txt {

@@ -7,10 +7,19 @@ use std::marker::Model;
 /// The tables of one version. Schemas share the tables that they have in common: a copy, and one
 /// with a table more or less, costs a word a table, whatever their columns. A contract sees the map
 /// from their names to their columns.
-#[derive(Drop)]
 pub struct Schema {
     alloc: Global,
     tables: Vec<SharedTable>,
+}
+
+// Written out, not derived: each crate above would prove a derived one again.
+impl Drop for Schema {
+    fn drop(self) {
+        let Schema {
+            alloc: _alloc,
+            tables: _tables,
+        } = self;
+    }
 }
 
 impl Model for Schema {

@@ -5,10 +5,19 @@ use std::rc::Rc;
 
 /// A table: its name, and its columns in the order of their names, each once. A contract sees it as
 /// the pair of both.
-#[derive(Drop)]
 pub struct Table {
     name: Name,
     columns: Vec<(Name, ColType)>,
+}
+
+// Written out, not derived: each crate above would prove a derived one again.
+impl Drop for Table {
+    fn drop(self) {
+        let Table {
+            name: _name,
+            columns: _columns,
+        } = self;
+    }
 }
 
 impl Model for Table {
@@ -64,9 +73,15 @@ impl Table {
 }
 
 /// A table that several schemas have: the table itself stands once.
-#[derive(Drop)]
 pub(crate) struct SharedTable {
     table: Rc<Table>,
+}
+
+// Written out, not derived: each crate above would prove a derived one again.
+impl Drop for SharedTable {
+    fn drop(self) {
+        let SharedTable { table: _table } = self;
+    }
 }
 
 impl Model for SharedTable {

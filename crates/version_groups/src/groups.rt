@@ -16,7 +16,6 @@ use version_groups_tables::{
 
 /// The versions of an archive, and for each version its stored tables. A table that no operator
 /// makes or consumes is stored once over all its versions.
-#[derive(Drop)]
 pub struct Groups {
     alloc: Global,
     // version 0 has no table
@@ -28,6 +27,20 @@ pub struct Groups {
     // the newest: in the order of their names
     earlier: Vec<Vec<usize>>,
     newest: Vec<usize>,
+}
+
+// Written out, not derived: each crate above would prove a derived one again.
+impl Drop for Groups {
+    fn drop(self) {
+        let Groups {
+            alloc: _alloc,
+            nothing: _nothing,
+            versions: _versions,
+            stored: _stored,
+            earlier: _earlier,
+            newest: _newest,
+        } = self;
+    }
 }
 
 impl Model for Groups {
