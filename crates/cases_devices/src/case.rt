@@ -3,7 +3,8 @@
 use crate::answer::{write_end, write_file, write_opened};
 use crate::line::{Line, read_line};
 use crate::run::{
-    Devices, Played, Runs, open, play_crashes, play_fuse, play_moments, play_once, play_twice,
+    Devices, Played, Runs, last_image, open, play_crashes, play_fuse, play_moments, play_once,
+    play_twice,
 };
 use cases_text::{Groups, LinePlayer, play_lines, read_hex};
 use prima_base::NoMemory;
@@ -166,6 +167,16 @@ impl Case {
         };
         play_moments(self.alloc, runs, &mut self.answers)
     }
+
+    // Runs the case's script, and tells the bytes that a crash at its end leaves where all written
+    // ones are kept.
+    fn image(&mut self) -> Result<(), NoMemory> {
+        let image = last_image(self.alloc, self.runs())?;
+        self.answers.extend_from_slice(b"image")?;
+        write_file(&image, &mut self.answers)?;
+        self.answers.push(b'\n')?;
+        Ok(())
+    }
 }
 
 impl LinePlayer for Case {
@@ -190,6 +201,7 @@ impl LinePlayer for Case {
             Line::Fuses => self.play_each(Kind::Fuse),
             Line::Crashes => self.crash_each(),
             Line::Moments => self.crash_at_each_moment(),
+            Line::Image => self.image(),
             Line::Note => Ok(()),
         }
     }

@@ -21,6 +21,7 @@ pub(crate) enum Line<'a> {
     Fuses,
     Crashes,
     Moments,
+    Image,
     Note,
 }
 
@@ -43,6 +44,7 @@ pub(crate) fn read_line(line: &[u8]) -> Line<'_> {
         [b'f', b'u', b's', b'e', b's'] => Line::Fuses,
         [b'c', b'r', b'a', b's', b'h', b'e', b's'] => Line::Crashes,
         [b'm', b'o', b'm', b'e', b'n', b't', b's'] => Line::Moments,
+        [b'i', b'm', b'a', b'g', b'e'] => Line::Image,
         _ => Line::Note,
     }
 }

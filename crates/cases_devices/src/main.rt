@@ -27,7 +27,9 @@
 //! - `crashes` runs it over the same disks, and tells how many commands were acknowledged, and with
 //!   how many commands the files open that a crash may then leave: those of sixteen picks;
 //! - `moments` runs it over a disk that does not fail, and tells the same of each moment of the
-//!   run.
+//!   run;
+//! - `image` runs it over a disk that does not fail, and tells the file that a crash leaves at the
+//!   last moment, where all that was written is kept.
 //!
 //! Each goes on until a run over such a device ends well. A file that a crash leaves and that does
 //! not open, or has other records than the first ones of the whole run, is told by its pick.

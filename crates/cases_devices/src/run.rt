@@ -223,6 +223,16 @@ pub(crate) fn play_crashes(
     })
 }
 
+/// Runs a script over its file, and answers the crash image of the last moment under the pick 0:
+/// what a read gives there.
+pub(crate) fn last_image(alloc: Global, runs: Runs<'_>) -> Result<Vec<u8>, NoMemory> {
+    let bytes = Vec::from_slice(alloc, runs.file)?;
+    let mut disk = MemDisk::new(alloc, bytes, DISK_CALLS, DISK_ROOM)?;
+    run_over(alloc, runs, Devices::sure(alloc), &mut disk)?;
+    let last = disk.moment();
+    disk.crash_image(last, 0)
+}
+
 // Adds what the crash images of a moment open with.
 fn add_moment(
     alloc: Global,
