@@ -2,7 +2,8 @@
 use Rattle.std.proofs.Common.{◌≡◌, ◌+◌, ◌-◌, ◌≤◌, ◌<◌, ℕ, suc, List, [], ◌∷◌, ◌++◌, map, take, drop}
 use Rattle.std.proofs.Common.{length, get_or, drop-cons, add-one, append_assoc, refl, sym, ap}
 use Rattle.std.proofs.Common.{subst, ◌∙◌, arith}
-use Rattle.std.specs.Prelude.{◌==◌, true, false, Some, None}
+use Rattle.std.specs.Prelude.{◌==◌, true, false, Option, Some, None}
+use Rattle.std.specs.FinMap.{get}
 use Rattle.std.proofs.lemmas.List.{map-append, take_all, length-map}
 use Rattle.relations_spec.proofs.SetLaws.{in_map}
 use Rattle.schema_catalog.specs.Tables.{Tables}
@@ -24,6 +25,10 @@ use Rattle.smo_ops_versions_spec.specs.TableColumns.{HaveColumns}
 use Rattle.smo_ops_versions_spec.specs.Steps.{taken_back, Lead}
 use Rattle.smo_ops_versions_spec.specs.Ways.{step_by, step_back, back_over, over_version}
 use Rattle.smo_ops_versions_spec.specs.Ways.{back_over_version}
+use Rattle.smo_ops_versions_spec.specs.LostTables.{lost_tables}
+use Rattle.smo_ops_versions_spec.specs.ColumnLosses.{table_loss}
+use Rattle.smo_ops_versions_spec.specs.LostNames.{lost_names}
+use Rattle.smo_ops_versions_spec.proofs.MappedTables.{not_mapped}
 use Rattle.piece_ir_spec.specs.Pieces.{PlainPiece}
 use Rattle.piece_ir_spec.specs.Typed.{IsTyped, AllTyped}
 use Rattle.piece_ir_spec.specs.Rules.{Book, IsValidBook}
@@ -236,6 +241,13 @@ derived_is book before next op d ps news loss n q is =
 pub nothing_is : (book : Book) (before : Tables) (op : Operator) (ps : List PlainPiece)
     (loss : Loss) → derived before op ≡ None → ps ≡ brought book (step_back loss before op) ps
 nothing_is book before op ps loss q = stays_by before op loss book ps (way_back_over before op) q
+
+-- ---- a table that is not mapped is not lost
+
+pub not_lost : (versions : List PlainVersion) (v q : ℕ) (n : List ℕ) (o : Option Loss)
+    → o ≡ table_loss (lost_names versions v q) n → o ≡ None
+    → get (lost_tables versions v q) n ≡ None
+not_lost versions v q n o e h = not_mapped versions v q n (sym e ∙ h)
 
 -- ---- one version
 
