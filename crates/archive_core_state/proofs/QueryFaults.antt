@@ -1,5 +1,5 @@
 -- The first refusal of a query, test by test.
-use Rattle.std.proofs.Common.{◌≡◌, ◌≤◌, ℕ, true, List, [], ◌∷◌, ◌++◌, length, refl, sym, ap, subst}
+use Rattle.std.proofs.Common.{◌≡◌, ◌≤◌, ℕ, true, List, [], ◌∷◌, ◌++◌, length, sym, ap, subst}
 use Rattle.std.proofs.Common.{◌∙◌, arith}
 use Rattle.std.specs.Prelude.{nat_le, Option, Some, None, Result, Ok, Err, IfOk, MatchResult}
 use Rattle.std.proofs.lemmas.List.{length-map}
@@ -9,7 +9,6 @@ use Rattle.prima_base.specs.declared.fault.CallFault.{CallFault}
 use Rattle.prima_base.specs.declared.fault.CallFault.TheVariants.{Refused, NoMemory}
 use Rattle.prima_base.specs.declared.refusal.Refusal.{Refusal}
 use Rattle.prima_base.specs.declared.refusal.Refusal.TheVariants.{NoVersion}
-use Rattle.relations_spec.specs.Timed.{Entry}
 use Rattle.smo_ops_types.specs.Commands.{PlainVersion, version_of}
 use Rattle.version_groups.specs.Groups.{Kept, versions_in}
 use Rattle.version_groups.specs.Representation.{Represents}
@@ -17,7 +16,6 @@ use Rattle.schema_catalog.specs.Tables.{Tables}
 use Rattle.smo_ops_spec.specs.Checks.{Fault}
 use Rattle.smo_ops_spec.specs.First.{unless, first_refusal}
 use Rattle.smo_ops_spec.specs.Losses.{Loss}
-use Rattle.smo_ops_spec.specs.OneRow.{Row}
 use Rattle.smo_ops_spec.specs.Past.{Past, tables_of}
 use Rattle.smo_ops_spec.proofs.Firsts.{first_after, first_before, first_later, first_alone}
 use Rattle.temporal_lang_types.specs.Queries.{PlainQuery, query_of, IsLasting}
@@ -97,6 +95,16 @@ checked_over past query tables h (Err (Refused r)) is lasts =
     test_fails past query h.few h.there r (ap (λ (t : Tables). query_fault t query) (sym h.schema)
     ∙ is)
 checked_over past query tables h (Err NoMemory) is lasts = tt
+
+pub checked_there : (past : Past) (query : PlainQuery) (checked : Query)
+    → IsChecked past query checked → checked.version ≤ length past.versions
+checked_there past query checked h = subst (λ (n : ℕ). n ≤ length past.versions)
+    (sym (ap (λ (q : PlainQuery). q.version) h.atoms)) h.there
+
+pub checked_lasting : (past : Past) (query : PlainQuery) (checked : Query)
+    → IsChecked past query checked → IsLasting checked.when
+checked_lasting past query checked h = subst (λ (q : PlainQuery). IsLasting q.when)
+    (sym h.atoms) h.lasting
 
 pub within_kept : (kept : Kept) (past : Past) (n : ℕ) → Represents kept past
     → n ≤ length past.versions → n ≤ length kept.versions

@@ -1,5 +1,5 @@
 -- What an archive answers to a query, over all of history, and tells of it.
-use Rattle.std.specs.Prelude.{◌≡◌, ℕ, ◌≤◌, List, [], ◌∷◌, ◌++◌, length, Option, Some, None, Bool}
+use Rattle.std.specs.Prelude.{◌≡◌, ℕ, ◌≤◌, List, [], length, Some, None, Bool}
 use Rattle.std.specs.Prelude.{true, false, Result, Err, MatchResult}
 use Rattle.std.specs.declared.vec.Vec.{Vec}
 use Rattle.std.specs.declared.alloc.Global.{Global}
@@ -25,7 +25,7 @@ use Rattle.temporal_lang_spec.specs.Answers.{answer, IsListingOf}
 use Rattle.prima_base.specs.declared.refusal.OpKind.{OpKind}
 use Rattle.prima_base.specs.declared.refusal.Refusal.TheVariants.{NoInverse}
 use Rattle.temporal_lang_spec.specs.Accepted.{fault_of_query, HasNoWayBack}
-use Rattle.temporal_lang_spec.specs.Atoms.{with_atoms}
+pub use Rattle.temporal_lang_spec.specs.Losing.{query_asked}
 use Rattle.temporal_lang_spec.specs.Checking.{excess_of, query_tests}
 use Rattle.piece_ir.specs.ExplainedPieces.{PlainExplained, all_explained}
 use Rattle.piece_ir.specs.declared.explained.Explained.{Explained}
@@ -67,16 +67,13 @@ IsAsked past query result = MatchResult result (λ listing. IsListed past query 
     (λ fault. IsWrong past query fault)
 
 -- it is refused for want of a way back over a version only where there is none: at a moment of the
--- slice that version is gone back over, names no inverse, and loses a table of the query
+-- slice that version is gone back over, names no inverse, has none that is derived, and loses an
+-- item of the query
 abbrev pub TellsWayBack : Past → PlainQuery → Result Listing (CallFault Refusal) → Type 0
 TellsWayBack past query result = (k : ℕ) → (kind : OpKind)
     → result ≡ Err (Refused (NoInverse k kind)) → HasNoWayBack past query k kind
 
 -- ---- the pieces of a query
-
--- the query with each reference made one to an atom
-abbrev pub query_asked : Past → PlainQuery → PlainQuery
-query_asked past query = with_atoms (tables_of past query.version) query
 
 -- none where it is refused
 abbrev pub IfAccepted : Fault → Type 0 → List PlainExplained → Type 0

@@ -207,10 +207,11 @@ impl ArchiveState {
     /// the database of that moment, migrated to the version that it names; each row with its
     /// longest periods, ascending by row and start. Else the first refusal in the one order: its
     /// counts (38); the version (21); then the refusals of `check_query` over the version's tables;
-    /// and last (33), where by names alone a table of the query is lost on the way from a version
-    /// in force in its slice: only where at the least such moment the version that is told is gone
-    /// back over, names no inverse, and loses a table of the query. Of the entries those stay that
-    /// meet every condition of KEEP. Clause `asked` says this by the function of the listing,
+    /// and last (33), where by names alone an item of the query is lost on the way from a version
+    /// in force in its slice, its table or a column of it that its branch names: only where at the
+    /// least such moment the version that is told is gone back over, names no inverse, has none
+    /// that is derived, and loses the item. Of the entries those stay that meet every condition of
+    /// KEEP. Clause `asked` says this by the function of the listing,
     /// `listed` by what its entries are.
     ///
     /// It takes at most as many steps as there are, for each of the query's pieces, which are those

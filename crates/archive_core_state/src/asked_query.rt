@@ -68,7 +68,7 @@ fn no_way_back(versions: &Versions, loss: (u32, u32)) -> Refusal
     Refusal::NoInverse(loss.0, kind)
 }
 
-// No table of the query is lost at a moment of its slice. It passed all other tests.
+// No item of the query is lost at a moment of its slice. It passed all other tests.
 fn check_losses(
     alloc: Global,
     groups: &Groups,
@@ -82,7 +82,7 @@ fn check_losses(
         → MatchResult result (λ u. fault_of_query past (query_of query.now) ≡ None)
         (λ fault. IsWrong past (query_of query.now) fault) }
 {
-    let loss = first_loss_in_slice(alloc, groups, query)?;
+    let loss = first_loss_in_slice(alloc, groups, checked)?;
     match loss {
         None => Ok(()),
         Some(loss) => Err(AskFault::Refused(no_way_back(groups.versions(), loss))),

@@ -1,4 +1,4 @@
--- References: the atom that one is to, and those that are borrowed from trees.
+-- References: the atom that one is to, their names, and those that are borrowed from trees.
 use Rattle.std.specs.Prelude.{ℕ, ◌==◌, Bool, false, List, map}
 use Rattle.std.specs.Borrow.{Bor}
 use Rattle.cond_expr.specs.declared.expr.ColRef.{ColRef}
@@ -13,6 +13,10 @@ is_atom i (Atom j) = i == j
 
 abbrev pub is_to : ℕ → ColRef → Bool
 is_to i r = is_atom i r.whose
+
+-- the name of each reference
+abbrev pub written_names : List ColRef → List (List ℕ)
+written_names references = map (λ (r : ColRef). r.name) references
 
 -- the references that are borrowed
 abbrev pub borrowed : List (Bor ColRef) → List ColRef

@@ -23,11 +23,13 @@ use Rattle.smo_ops_spec.proofs.TouchedTables.{entry_stays, table_stays, table_go
 use Rattle.smo_ops_spec.proofs.MigratedDatabases.{migrated_with_losses}
 use Rattle.smo_ops_spec.proofs.ValueLaws.{migrated_values}
 use Rattle.smo_ops_versions_spec.specs.LostAsEmpty.{entry_emptied, whole}
-use Rattle.smo_ops_versions_spec.specs.Steps.{Step, carrying, undoing, tables_before, tables_behind}
-use Rattle.smo_ops_versions_spec.specs.Steps.{taken}
+use Rattle.smo_ops_spec.specs.WaysBack.{blank, filled_with}
+use Rattle.smo_ops_versions_spec.specs.Steps.{Step, carrying, filling, undoing, tables_before}
+use Rattle.smo_ops_versions_spec.specs.Steps.{tables_behind, taken}
 use Rattle.smo_ops_versions_spec.specs.Steps.{taken_back, IsLawful, Lead, AllSteps, StepHolds}
 use Rattle.smo_ops_versions_spec.specs.Migration.{undone, stepped}
 use Rattle.smo_ops_versions_spec.proofs.WayDatabases.{unnamed_at, unmade, unnamed_database}
+use Rattle.smo_ops_versions_spec.proofs.WayValues.{blank_is_valid}
 use Rattle.smo_ops_versions_spec.proofs.WholeDatabases.{whole_at, same_when_whole}
 use Rattle.piece_ir_spec.specs.Pieces.{PlainPiece, all_mean}
 use Rattle.piece_ir_spec.specs.Typed.{AllTyped, output_types}
@@ -292,6 +294,9 @@ module _ (book : Book) (valid : IsValidBook book) (H K : Type 0) where
       → IsStep H K (tables_before s) (tables_behind s) (stepped s) (brought book s)
   one_step (carrying tables op) l holds kept =
       operator_step book valid tables op l.valid l.accepted H K holds kept
+  one_step (filling loss tables f) l holds kept =
+      operator_step book valid tables (filled_with blank f) l.valid l.accepted H K
+      (λ x. blank_is_valid f.kind) (λ x. blank_is_valid f.kind)
   one_step (undoing loss tables op) l holds kept = undone_step loss tables op l.accepted H K
 
   pub steps_step : (before after : Tables) (steps : List Step) → Lead before steps after

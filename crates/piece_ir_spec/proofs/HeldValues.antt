@@ -6,7 +6,9 @@ use Rattle.std.specs.Option.{option_map}
 use Rattle.std.specs.FinMap.{get}
 use Rattle.schema_catalog.specs.Tables.{Tables}
 use Rattle.schema_catalog.specs.Databases.{DatabaseEntry, Rows, Lost, Database}
-use Rattle.smo_ops_types.specs.Operators.{Operator}
+use Rattle.smo_ops_types.specs.Operators.{Operator, nop, create_table, drop_table, rename_table}
+use Rattle.smo_ops_types.specs.Operators.{copy_table, merge_table, partition_table, decompose_table}
+use Rattle.smo_ops_types.specs.Operators.{join_table, add_column, drop_column, rename_column}
 use Rattle.smo_ops_types.specs.Commands.{PlainVersion, PlainBody, changing, evolving, PlainCommand}
 use Rattle.smo_ops_spec.specs.Touching.{makes, consumes}
 use Rattle.smo_ops_spec.specs.Losses.{IsDatabaseWithLosses, Loss}
@@ -16,8 +18,10 @@ use Rattle.smo_ops_spec.specs.Past.{next_version}
 use Rattle.smo_ops_spec.specs.History.{past_after}
 use Rattle.smo_ops_spec.specs.ValidValues.{EntryHolds, HoldsValues, BodyHolds, CommandsHold}
 use Rattle.smo_ops_versions_spec.specs.LostAsEmpty.{entry_emptied, whole}
-use Rattle.smo_ops_versions_spec.specs.Steps.{Step, carrying, undoing, carrying_each, AllSteps}
-use Rattle.smo_ops_versions_spec.specs.Ways.{back_over, over_version, back_over_version, way}
+use Rattle.smo_ops_versions_spec.specs.Steps.{Step, carrying, filling, undoing, carrying_each}
+use Rattle.smo_ops_versions_spec.specs.Steps.{AllSteps}
+use Rattle.smo_ops_versions_spec.specs.Ways.{step_back, back_over, over_version, back_over_version}
+use Rattle.smo_ops_versions_spec.specs.Ways.{way}
 use Rattle.smo_ops_versions_spec.specs.Migration.{undone}
 use Rattle.smo_ops_versions_spec.proofs.WaySteps.{way_all}
 use Rattle.smo_ops_versions_spec.proofs.WayDatabases.{unnamed_at}
@@ -56,7 +60,23 @@ undone_holds loss before op db accepted h = λ n.
 -- the constants of what is carried over are valid, all of them
 abbrev pub StepIsValid : Step → Type 0
 StepIsValid (carrying tables op) = ValidInOperator op
+StepIsValid (filling loss tables f) = ⊤
 StepIsValid (undoing loss tables op) = ⊤
+
+step_valid : (loss : Loss) (before : Tables) (op : Operator)
+    → StepIsValid (step_back loss before op)
+step_valid loss before nop = tt
+step_valid loss before (create_table r cs) = tt
+step_valid loss before (drop_table r) = tt
+step_valid loss before (rename_table r t) = tt
+step_valid loss before (copy_table r t) = tt
+step_valid loss before (merge_table r s t) = tt
+step_valid loss before (partition_table r s c t) = tt
+step_valid loss before (decompose_table r s xs t ys) = tt
+step_valid loss before (join_table r s t c) = tt
+step_valid loss before (add_column c e r) = tt
+step_valid loss before (drop_column c r) = tt
+step_valid loss before (rename_column b r c) = tt
 
 each_valid : (tables : Tables) (ops : List Operator) → ValidInOperators ops
     → AllSteps StepIsValid (carrying_each tables ops)
@@ -65,7 +85,7 @@ each_valid tables (op ∷ ops) h = (h.0, each_valid (schema_after tables op) ops
 
 back_valid : (k : ℕ) (before : Tables) (op : Operator) (after : Tables) (inverse : List Operator)
     → ValidInOperators inverse → AllSteps StepIsValid (back_over k before op after inverse)
-back_valid k before op after [] h = (tt, tt)
+back_valid k before op after [] h = (step_valid (k, 1) before op, tt)
 back_valid k before op after (i ∷ inverse) h = each_valid after (i ∷ inverse) h
 
 -- of a version, where there is one

@@ -9,7 +9,7 @@ use Rattle.smo_ops_spec.specs.Past.{no_tables, tables_from}
 use Rattle.smo_ops_spec.specs.ValidPast.{AreVersions}
 use Rattle.smo_ops_versions_spec.specs.Ways.{way}
 use Rattle.smo_ops_versions_spec.specs.Migration.{migrated_from}
-use Rattle.smo_ops_versions_spec.specs.LostNames.{lost_names}
+use Rattle.smo_ops_versions_spec.specs.LostTables.{lost_tables}
 use Rattle.smo_ops_versions_spec.proofs.WayDatabases.{none_is_lost}
 use Rattle.smo_ops_versions_spec.proofs.LossesByName.{losses_are, no_losses}
 use Rattle.piece_ir_spec.specs.Pieces.{PlainPiece, all_mean}
@@ -23,7 +23,7 @@ use Rattle.piece_ir_spec.proofs.ChainSteps.{Outputs, AllOutput}
 use Rattle.piece_ir_spec.proofs.Chains.{the_way}
 
 module _ (versions : List PlainVersion) (are : AreVersions None no_tables versions) (v q : ℕ) where
-  none_lost : (ps : List PlainPiece) → NoneNamed (lost_names versions v q) ps → (db : Database)
+  none_lost : (ps : List PlainPiece) → NoneNamed (lost_tables versions v q) ps → (db : Database)
       → IsValidDatabase (tables_from no_tables versions v) db
       → NoneLost (migrated_from versions v q db) ps
   none_lost ps n db h = λ p m name i. losses_are (way versions v q) empty db
@@ -31,7 +31,7 @@ module _ (versions : List PlainVersion) (are : AreVersions None no_tables versio
 
   module _ (book : Book) (valid : IsValidBook book) (ps : List PlainPiece)
       (typed : AllTyped (tables_from no_tables versions q) ps)
-      (none : NoneNamed (lost_names versions v q) ps) where
+      (none : NoneNamed (lost_tables versions v q) ps) where
     pub pieces_mean : VersionsHold versions → (db : Database)
         → IsValidDatabase (tables_from no_tables versions v) db
         → all_mean (tables_from no_tables versions v) db (unfolded_to book versions v q ps)

@@ -17,7 +17,7 @@ use Rattle.smo_ops_spec.specs.Past.{Past, no_tables, tables_from, tables_of, ver
 use Rattle.smo_ops_spec.specs.Past.{database_at}
 use Rattle.smo_ops_spec.specs.ValidPast.{AreVersions, IsPast}
 use Rattle.smo_ops_versions_spec.specs.Migration.{migrated_from, migrated}
-use Rattle.smo_ops_versions_spec.specs.LostNames.{lost_names}
+use Rattle.smo_ops_versions_spec.specs.LostTables.{lost_tables}
 use Rattle.smo_ops_versions_spec.proofs.WayLeads.{valid_at}
 use Rattle.plain_answers_spec.specs.Choosing.{answers_over}
 use Rattle.plain_answers_spec.specs.Branches.{Item, PlainBranch, item_columns, item_rows, plain}
@@ -59,20 +59,20 @@ one_valid t r h p (inl e) = subst ValidInPiece e (first_valid t r h)
 one_valid t r h p (inr m) = absurd m
 
 pub one_named : (versions : List PlainVersion) (v q : ℕ) (t : List ℕ) (r : Read)
-    → get (lost_names versions v q) t ≡ None → NoneNamed (lost_names versions v q)
+    → get (lost_tables versions v q) t ≡ None → NoneNamed (lost_tables versions v q)
     (first_piece t r ∷ [])
 one_named versions v q t r none p (inl e) n m =
     at_atom n (subst (λ (x : PlainPiece). In n x.atoms) (sym e) m)
   where
-    at_atom : (n : List ℕ) → In n (t ∷ []) → get (lost_names versions v q) n ≡ None
-    at_atom n (inl i) = subst (λ (x : List ℕ). get (lost_names versions v q) x ≡ None) i none
+    at_atom : (n : List ℕ) → In n (t ∷ []) → get (lost_tables versions v q) n ≡ None
+    at_atom n (inl i) = subst (λ (x : List ℕ). get (lost_tables versions v q) x ≡ None) i none
     at_atom n (inr i) = absurd i
 one_named versions v q t r none p (inr i) n m = absurd i
 
 module _ (versions : List PlainVersion) (are : AreVersions None no_tables versions) (book : Book)
     (valid : IsValidBook book) (v q : ℕ) (t : List ℕ) (r : Read)
     (asked : IsQuestion (tables_from no_tables versions q) t r)
-    (none : get (lost_names versions v q) t ≡ None) where
+    (none : get (lost_tables versions v q) t ≡ None) where
   begins_typed : AllTyped (tables_from no_tables versions q) (first_piece t r ∷ [])
   begins_typed = one_typed (tables_from no_tables versions q) (first_piece t r)
       (first_typed (tables_from no_tables versions q) (valid_at versions are q).schema t r asked)
@@ -115,7 +115,7 @@ module _ (versions : List PlainVersion) (are : AreVersions None no_tables versio
 module _ (book : Book) (valid : IsValidBook book) (past : Past) (is : IsPast past)
     (each : EachHolds past) (hold : VersionsHold past.versions) (m q : ℕ) where
   one_item : (t : List ℕ) (r : Read) → IsQuestion (tables_of past q) t r
-      → get (lost_names past.versions (version_at past m) q) t ≡ None
+      → get (lost_tables past.versions (version_at past m) q) t ≡ None
       → unfolded_read book past m q t r ≡ read_of r (columns_of (tables_of past q) t)
       (rows_under (get (migrated past m q) t))
   one_item t r asked none =
@@ -123,7 +123,7 @@ module _ (book : Book) (valid : IsValidBook book) (past : Past) (is : IsPast pas
       (database_at past m) (record { database = is.each m; values = each m })
 
   all_items : (reads : List Read) (from : List Item) → AreQuestions (tables_of past q) from reads
-      → ((i : Item) → In i from → get (lost_names past.versions (version_at past m) q) i.0 ≡ None)
+      → ((i : Item) → In i from → get (lost_tables past.versions (version_at past m) q) i.0 ≡ None)
       → unfolded_reads book past m q reads from
       ≡ read_rows reads (item_columns (tables_of past q) from)
       (item_rows (migrated past m q) from)
@@ -138,7 +138,8 @@ module _ (book : Book) (valid : IsValidBook book) (past : Past) (is : IsPast pas
 
   one_branch : (reads : PlainBranch → List Read) (b : PlainBranch)
       → Suffices (tables_of past q) (reads b) b
-      → ((i : Item) → In i b.from → get (lost_names past.versions (version_at past m) q) i.0 ≡ None)
+      → ((i : Item) → In i b.from → get (lost_tables past.versions (version_at past m) q) i.0
+          ≡ None)
       → unfolded_answers book past m q reads b
       ≡ answers_read (tables_of past q) (migrated past m q) reads b
   one_branch reads b s none =
@@ -149,7 +150,7 @@ module _ (book : Book) (valid : IsValidBook book) (past : Past) (is : IsPast pas
   all_branches : (reads : PlainBranch → List Read) (branches : List PlainBranch)
       → ((b : PlainBranch) → In b branches → Suffices (tables_of past q) (reads b) b)
       → ((b : PlainBranch) → In b branches → (i : Item) → In i b.from
-      → get (lost_names past.versions (version_at past m) q) i.0 ≡ None)
+      → get (lost_tables past.versions (version_at past m) q) i.0 ≡ None)
       → flat_map (unfolded_answers book past m q reads) branches
       ≡ flat_map (answers_read (tables_of past q) (migrated past m q) reads) branches
   all_branches reads [] s none = refl
@@ -161,7 +162,7 @@ module _ (book : Book) (valid : IsValidBook book) (past : Past) (is : IsPast pas
   pub moment_read : (reads : PlainBranch → List Read) (branches : List PlainBranch)
       → ((b : PlainBranch) → In b branches → Suffices (tables_of past q) (reads b) b)
       → ((b : PlainBranch) → In b branches → (i : Item) → In i b.from
-      → get (lost_names past.versions (version_at past m) q) i.0 ≡ None)
+      → get (lost_tables past.versions (version_at past m) q) i.0 ≡ None)
       → plain (tables_of past q) branches (migrated past m q)
       ≡ asked_by_pieces book past m q reads branches
   moment_read reads branches s none =

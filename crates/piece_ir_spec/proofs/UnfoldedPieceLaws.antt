@@ -5,7 +5,7 @@ use Rattle.std.specs.Prelude.{None}
 use Rattle.std.specs.FinMap.{get}
 use Rattle.smo_ops_types.specs.Commands.{PlainVersion}
 use Rattle.smo_ops_spec.specs.Past.{no_tables, tables_from}
-use Rattle.smo_ops_versions_spec.specs.LostNames.{lost_names}
+use Rattle.smo_ops_versions_spec.specs.LostTables.{lost_tables}
 use Rattle.smo_ops_versions_spec.proofs.WaySteps.{brought_stays, brought_forward, brought_back}
 use Rattle.plain_answers_spec.specs.Reading.{Read}
 use Rattle.piece_ir_spec.specs.Pieces.{PlainPiece}
@@ -14,7 +14,7 @@ use Rattle.piece_ir_spec.specs.Rules.{Book, IsValidBook}
 use Rattle.piece_ir_spec.specs.Chains.{brought, to_previous, to_next, unfolded_to}
 use Rattle.piece_ir_spec.specs.Beginnings.{first_piece}
 use Rattle.piece_ir_spec.specs.UnfoldedPieces.{MayBeAsked, StandFor}
-use Rattle.piece_ir_spec.proofs.StaysLost.{none_forward}
+use Rattle.smo_ops_versions_spec.proofs.MappedTables.{none_forward}
 use Rattle.piece_ir_spec.proofs.ReadMoments.{table_typed}
 
 module _ (book : Book) (versions : List PlainVersion) (v q : ℕ) (table : List ℕ) (r : Read) where
@@ -37,7 +37,7 @@ module _ (book : Book) (versions : List PlainVersion) (v q : ℕ) (table : List 
       }
 
   pub stand_next : (ps news : List PlainPiece) → q ≤ v
-      → get (lost_names versions (v + 1) q) table ≡ None → StandFor book versions v q table r ps
+      → get (lost_tables versions (v + 1) q) table ≡ None → StandFor book versions v q table r ps
       → news ≡ to_next book versions v ps → StandFor book versions (v + 1) q table r news
   stand_next ps news l kept h is = record {
     kept = kept;

@@ -9,10 +9,12 @@ use Rattle.schema_catalog.specs.Databases.{Database}
 use Rattle.smo_ops_types.specs.Operators.{Operator}
 use Rattle.smo_ops_types.specs.Commands.{PlainVersion}
 use Rattle.smo_ops_spec.specs.Losses.{loss_in}
-use Rattle.smo_ops_versions_spec.specs.Steps.{Step, carrying, undoing, carrying_each, taken_back}
+use Rattle.smo_ops_spec.specs.WaysBack.{blank, filled_with}
+use Rattle.smo_ops_versions_spec.specs.Steps.{Step, carrying, filling, undoing, carrying_each}
+use Rattle.smo_ops_versions_spec.specs.Steps.{taken_back}
 use Rattle.smo_ops_versions_spec.specs.Ways.{way}
 use Rattle.smo_ops_versions_spec.specs.Ways as ways
-use Rattle.smo_ops_versions_spec.specs.LostNames.{Losses}
+use Rattle.smo_ops_versions_spec.specs.LostTables.{LostTables}
 use Rattle.piece_ir_spec.specs.Pieces.{PlainPiece}
 use Rattle.piece_ir_spec.specs.Rules.{Book}
 
@@ -20,10 +22,11 @@ use Rattle.piece_ir_spec.specs.Rules.{Book}
 abbrev pub through : Book → Operator → Tables → List PlainPiece → List PlainPiece
 through book op tables ps = flat_map (book op tables) ps
 
--- pieces over the tables behind a step, brought to those before it: through its operator; where it
--- goes back over one they stay
+-- pieces over the tables behind a step, brought to those before it: through its operator, or that
+-- of its filling; where there is no way back they stay
 abbrev pub brought : Book → Step → List PlainPiece → List PlainPiece
 brought book (carrying tables op) ps = through book op tables ps
+brought book (filling loss tables f) ps = through book (filled_with blank f) tables ps
 brought book (undoing loss tables op) ps = ps
 
 -- through operators that stand one after the other, from the last to the first, each on the tables
@@ -50,5 +53,5 @@ abbrev pub NoneLost : Database → List PlainPiece → Type 0
 NoneLost db ps = (p : PlainPiece) → In p ps → (n : List ℕ) → In n p.atoms → loss_in db n ≡ None
 
 -- nor is one of them by names
-abbrev pub NoneNamed : Losses → List PlainPiece → Type 0
+abbrev pub NoneNamed : LostTables → List PlainPiece → Type 0
 NoneNamed losses ps = (p : PlainPiece) → In p ps → (n : List ℕ) → In n p.atoms → get losses n ≡ None

@@ -12,6 +12,7 @@ use Rattle.smo_ops_types.specs.Operators.{copy_table, merge_table, partition_tab
 use Rattle.smo_ops_types.specs.Operators.{join_table, add_column, drop_column, rename_column}
 use Rattle.smo_ops_spec.specs.Preconditions.{among}
 use Rattle.smo_ops_spec.specs.Effects.{columns_of}
+pub use Rattle.smo_ops_spec.specs.Making.{common_names}
 use Rattle.cond_expr.specs.Parts.{parts_but_true}
 use Rattle.piece_ir_spec.specs.Views.{PlainView, out_of, whole, Views}
 
@@ -37,10 +38,7 @@ abbrev pub unmet : Test → Test
 unmet (compared o a b) = compared (opposite o) a b
 unmet other = fails other
 
--- the names of the columns that both have, and of those that only the second has
-abbrev pub common_names : List Column → List Column → List (List ℕ)
-common_names cs ds = filter (λ n. among n (names_of ds)) (names_of cs)
-
+-- the names of the columns that only the second has
 abbrev pub second_names : List Column → List Column → List (List ℕ)
 second_names cs ds = filter (λ n. not (among n (names_of cs))) (names_of ds)
 

@@ -4,7 +4,7 @@ use Rattle.std.specs.FinMap.{get}
 use Rattle.smo_ops_types.specs.Commands.{PlainVersion}
 use Rattle.smo_ops_spec.specs.Past.{no_tables, tables_from}
 use Rattle.smo_ops_spec.specs.ValidPast.{AreVersions}
-use Rattle.smo_ops_versions_spec.specs.LostNames.{lost_names}
+use Rattle.smo_ops_versions_spec.specs.LostTables.{lost_tables}
 use Rattle.plain_answers_spec.specs.Reading.{Read}
 use Rattle.piece_ir_spec.specs.Pieces.{PlainPiece}
 use Rattle.piece_ir_spec.specs.Rules.{Book}
@@ -21,5 +21,5 @@ pub record MayBeAsked (versions : List PlainVersion) (q : ℕ) (table : List ℕ
 pub record StandFor (book : Book) (versions : List PlainVersion) (v q : ℕ) (table : List ℕ)
     (r : Read)
     (ps : List PlainPiece) : Type 0 where
-  pub kept : get (lost_names versions v q) table ≡ None
+  pub kept : get (lost_tables versions v q) table ≡ None
   pub unfolded : ps ≡ unfolded_to book versions v q (first_piece table r ∷ [])

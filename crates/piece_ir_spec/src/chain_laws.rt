@@ -12,7 +12,7 @@ ghost use Rattle.smo_ops_spec.specs.History.{past_of};
 ghost use Rattle.smo_ops_spec.specs.ValidPast.{AreVersions, IsPast};
 ghost use Rattle.smo_ops_spec.specs.ValidValues.{BodyHolds, CommandsHold, EachHolds};
 ghost use Rattle.smo_ops_versions_spec.specs.Migration.{migrated_from, migrated};
-ghost use Rattle.smo_ops_versions_spec.specs.LostNames.{lost_names};
+ghost use Rattle.smo_ops_versions_spec.specs.LostTables.{lost_tables};
 ghost use Rattle.plain_answers_spec.specs.Branches.{Item, PlainBranch, plain};
 ghost use Rattle.plain_answers_spec.specs.Reading.{Read, read_of};
 ghost use Rattle.piece_ir_spec.specs.Pieces.{PlainPiece, all_mean};
@@ -31,9 +31,9 @@ ghost use Rattle.piece_ir_spec.specs.Reading.{Suffices, asked_by_pieces};
 pub fn what_is_lost_stays_lost()
     ensures back { (versions : List PlainVersion) → (w : ℕ) → (v : ℕ) → (q : ℕ) → (n : List ℕ)
         → q ≤ v → v ≤ w
-        → get (lost_names versions w q) n ≡ None → get (lost_names versions v q) n ≡ None }
+        → get (lost_tables versions w q) n ≡ None → get (lost_tables versions v q) n ≡ None }
     ensures forward { (versions : List PlainVersion) → (v : ℕ) → (q : ℕ) → (n : List ℕ) → v ≤ q
-        → get (lost_names versions v q) n ≡ None }
+        → get (lost_tables versions v q) n ≡ None }
 {}
 
 /// The way of pieces, one version at a time: at their own version they stay, and each further
@@ -75,7 +75,7 @@ pub fn pieces_are_taken_along()
         → AreVersions None no_tables versions → VersionsHold versions
         → (v : ℕ) → (q : ℕ) → (ps : List PlainPiece)
         → AllTyped (tables_from no_tables versions q) ps
-        → NoneNamed (lost_names versions v q) ps
+        → NoneNamed (lost_tables versions v q) ps
         → (db : Database) → IsValidDatabase (tables_from no_tables versions v) db
         → all_mean (tables_from no_tables versions v) db (unfolded_to book versions v q ps)
         ≡ all_mean (tables_from no_tables versions q) (migrated_from versions v q db) ps }
@@ -83,13 +83,13 @@ pub fn pieces_are_taken_along()
         → AreVersions None no_tables versions
         → (v : ℕ) → (q : ℕ) → (ps : List PlainPiece)
         → AllTyped (tables_from no_tables versions q) ps
-        → NoneNamed (lost_names versions v q) ps
+        → NoneNamed (lost_tables versions v q) ps
         → AllTyped (tables_from no_tables versions v) (unfolded_to book versions v q ps) }
     ensures outputs { (book : Book) → IsValidBook book → (versions : List PlainVersion)
         → AreVersions None no_tables versions
         → (v : ℕ) → (q : ℕ) → (ps : List PlainPiece)
         → AllTyped (tables_from no_tables versions q) ps
-        → NoneNamed (lost_names versions v q) ps
+        → NoneNamed (lost_tables versions v q) ps
         → (outs : List (List ℕ × Option ColType))
         → ((p : PlainPiece) → In p ps → output_types (tables_from no_tables versions q) p
         ≡ outs)
@@ -99,7 +99,7 @@ pub fn pieces_are_taken_along()
         → AreVersions None no_tables versions → ValidInVersions versions
         → (v : ℕ) → (q : ℕ) → (ps : List PlainPiece)
         → AllTyped (tables_from no_tables versions q) ps
-        → NoneNamed (lost_names versions v q) ps
+        → NoneNamed (lost_tables versions v q) ps
         → ValidInPieces ps → ValidInPieces (unfolded_to book versions v q ps) }
 {}
 
@@ -111,7 +111,7 @@ pub fn the_pieces_of_a_table()
         → AreVersions None no_tables versions → VersionsHold versions
         → (v : ℕ) → (q : ℕ) → (table : List ℕ) → (r : Read)
         → IsQuestion (tables_from no_tables versions q) table r
-        → get (lost_names versions v q) table ≡ None
+        → get (lost_tables versions v q) table ≡ None
         → (db : Database) → IsValidDatabase (tables_from no_tables versions v) db
         → all_mean (tables_from no_tables versions v) db
         (unfolded_to book versions v q (first_piece table r ∷ []))
@@ -121,14 +121,14 @@ pub fn the_pieces_of_a_table()
         → AreVersions None no_tables versions
         → (v : ℕ) → (q : ℕ) → (table : List ℕ) → (r : Read)
         → IsQuestion (tables_from no_tables versions q) table r
-        → get (lost_names versions v q) table ≡ None
+        → get (lost_tables versions v q) table ≡ None
         → AllTyped (tables_from no_tables versions v)
         (unfolded_to book versions v q (first_piece table r ∷ [])) }
     ensures outputs { (book : Book) → IsValidBook book → (versions : List PlainVersion)
         → AreVersions None no_tables versions
         → (v : ℕ) → (q : ℕ) → (table : List ℕ) → (r : Read)
         → IsQuestion (tables_from no_tables versions q) table r
-        → get (lost_names versions v q) table ≡ None
+        → get (lost_tables versions v q) table ≡ None
         → (p : PlainPiece) → In p (unfolded_to book versions v q (first_piece table r ∷ []))
         → output_types (tables_from no_tables versions v) p
         ≡ output_types (tables_from no_tables versions q) (first_piece table r) }
@@ -136,7 +136,7 @@ pub fn the_pieces_of_a_table()
         → AreVersions None no_tables versions → ValidInVersions versions
         → (v : ℕ) → (q : ℕ) → (table : List ℕ) → (r : Read)
         → IsQuestion (tables_from no_tables versions q) table r
-        → get (lost_names versions v q) table ≡ None
+        → get (lost_tables versions v q) table ≡ None
         → ValidInTest r.test → ValidInPieces (unfolded_to book versions v q
         (first_piece table r ∷ [])) }
 {}
@@ -151,7 +151,7 @@ pub fn pieces_stand_for_a_table()
         → StandFor book versions q q table r (first_piece table r ∷ []) }
     ensures next { (book : Book) → (versions : List PlainVersion) → (v : ℕ) → (q : ℕ)
         → (table : List ℕ) → (r : Read) → (ps : List PlainPiece) → q ≤ v
-        → get (lost_names versions (v + 1) q) table ≡ None → StandFor book versions v q table r ps
+        → get (lost_tables versions (v + 1) q) table ≡ None → StandFor book versions v q table r ps
         → StandFor book versions (v + 1) q table r (to_next book versions v ps) }
     ensures previous { (book : Book) → (versions : List PlainVersion) → (v : ℕ) → (q : ℕ)
         → (table : List ℕ) → (r : Read) → (ps : List PlainPiece) → v < q
@@ -172,7 +172,7 @@ pub fn a_moment_is_read_by_pieces()
         → (reads : PlainBranch → List Read) → (branches : List PlainBranch)
         → ((b : PlainBranch) → In b branches → Suffices (tables_of past q) (reads b) b)
         → ((b : PlainBranch) → In b branches → (i : Item) → In i b.from
-        → get (lost_names past.versions (version_at past m) q) i.0 ≡ None)
+        → get (lost_tables past.versions (version_at past m) q) i.0 ≡ None)
         → plain (tables_of past q) branches (migrated past m q)
         ≡ asked_by_pieces book past m q reads branches }
 {}

@@ -1,12 +1,12 @@
 -- The columns that outputs and a condition name, atom by atom.
-use Rattle.std.specs.Prelude.{ℕ, ◌+◌, ◌++◌, List, [], ◌∷◌, map}
+use Rattle.std.specs.Prelude.{ℕ, ◌+◌, ◌++◌, List, [], ◌∷◌}
 use Rattle.std.specs.List.{filter, flat_map}
 use Rattle.relations_spec.specs.Sets.{In, set_of}
 use Rattle.prima_base.specs.Order.{bytes_cmp}
 use Rattle.cond_expr.specs.declared.expr.ColRef.{ColRef}
 use Rattle.cond_expr.specs.declared.expr.Whose.TheVariants.{Atom}
 use Rattle.cond_expr.specs.Trees.{Tree, Test}
-pub use Rattle.cond_expr.specs.References.{is_atom, is_to}
+pub use Rattle.cond_expr.specs.References.{is_atom, is_to, written_names}
 use Rattle.cond_expr.specs.Faults.{references, test_references}
 
 -- the references of outputs, and then of a condition, in written order
@@ -16,10 +16,6 @@ all_references outs cond = flat_map references outs ++ test_references cond
 -- the column of the atom with this name is named
 abbrev pub IsNamed : ℕ → List ColRef → List ℕ → Type 0
 IsNamed i references name = In (record { whose = Atom i; name = name }) references
-
--- the name of each reference
-abbrev pub written_names : List ColRef → List (List ℕ)
-written_names references = map (λ (r : ColRef). r.name) references
 
 -- the names, ascending, each once
 abbrev pub names_in : List ColRef → List (List ℕ)

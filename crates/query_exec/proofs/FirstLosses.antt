@@ -11,9 +11,9 @@ use Rattle.version_groups.specs.Groups.{Kept, versions_in}
 use Rattle.smo_ops_spec.specs.Losses.{Loss}
 use Rattle.smo_ops_spec.specs.Past.{Past, version_at}
 use Rattle.temporal_lang_types.specs.Queries.{PlainQuery, slice_of}
-use Rattle.temporal_lang_spec.specs.Losing.{first_lost}
+use Rattle.temporal_lang_spec.specs.Losing.{loss_from, first_loss_of}
 use Rattle.temporal_lang_spec.proofs.FirstLaws.{no_loss}
-use Rattle.query_pieces_spec.specs.Piecewise.{loss_from, IsAskedOf}
+use Rattle.query_pieces_spec.specs.Piecewise.{IsAskedOf}
 use Rattle.query_pieces_spec.proofs.LeastLoss.{none_before, least_lost}
 use Rattle.period_split.specs.Splitting.{Part, AscendFrom, HasMoment, split_by}
 use Rattle.query_exec.specs.Losing.{first_among, AllUpTo}
@@ -166,7 +166,7 @@ module _ (past : Past) (query : PlainQuery) where
       ⊎ (loss_from past.versions (version_at past m) query ≡ None)
 
   found_first : (low : ℕ) (parts : List Part) → AscendFrom low parts → AreAsked parts
-      → NoneElsewhere parts → first_among past.versions query parts ≡ first_lost past query
+      → NoneElsewhere parts → first_among past.versions query parts ≡ first_loss_of past query
   found_first low [] up asked others = sym (no_loss past query
       (λ m a b. none m (others m (record { from = a; to = b }))))
     where
@@ -205,9 +205,9 @@ module _ (past : Past) (query : PlainQuery) where
           from (inr i) = inl (h.0, i, h.2)
 
       step : (AreAsked parts → NoneElsewhere parts
-          → first_among past.versions query parts ≡ first_lost past query) → (o : Option Loss)
+          → first_among past.versions query parts ≡ first_loss_of past query) → (o : Option Loss)
           → loss_from past.versions p.1 query ≡ o
-          → first_among past.versions query (p ∷ parts) ≡ first_lost past query
+          → first_among past.versions query (p ∷ parts) ≡ first_loss_of past query
       step more (Some l) e =
           ap (λ (o : Option Loss). option_or o (first_among past.versions query parts)) e
           ∙ sym (least_lost past query p.0.start l here.0
@@ -223,7 +223,7 @@ module _ (past : Past) (query : PlainQuery) where
       → ((m : ℕ) → m < forever → covers (slice_of query.when) m ≡ true
       → HasMoment parts (version_at past m) m)
       → ((k m : ℕ) → HasMoment parts k m → (covers (slice_of query.when) m ≡ true)
-      × (version_at past m ≡ k)) → first_among past.versions query parts ≡ first_lost past query
+      × (version_at past m ≡ k)) → first_among past.versions query parts ≡ first_loss_of past query
   first_of_parts parts up ends each only = found_first 0 parts up in_slice there
     where
       in_slice : AreAsked parts

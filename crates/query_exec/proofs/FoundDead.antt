@@ -16,7 +16,7 @@ use Rattle.cond_expr.specs.Parts.{parts, Bound}
 use Rattle.smo_ops_types.specs.Commands.{PlainVersion}
 use Rattle.smo_ops_spec.specs.ValidPast.{IsPast}
 use Rattle.smo_ops_spec.specs.Past.{Past, no_tables, tables_from, tables_of}
-use Rattle.smo_ops_versions_spec.specs.LostNames.{lost_names}
+use Rattle.smo_ops_versions_spec.specs.LostTables.{lost_tables}
 use Rattle.plain_answers_spec.specs.Branches.{Item, PlainBranch}
 use Rattle.plain_answers_spec.specs.Naming.{all_references}
 use Rattle.plain_answers_spec.specs.Pushing.{are_own, own_parts, as_first, pushed_cond, pushed_from}
@@ -148,7 +148,7 @@ module _ (book : Book) (valid : IsValidBook book) (past : Past) (is : IsPast pas
 
   table_clear : (table : List ℕ) (r : Read) (branch atom : ℕ)
       → IsQuestion (tables_of past q) table r
-      → ((p : Part) → In p its_parts → get (lost_names past.versions p.1 q) table ≡ None)
+      → ((p : Part) → In p its_parts → get (lost_tables past.versions p.1 q) table ≡ None)
       → ValidInTest r.test → AllClear past.versions
       (table_pieces book past.versions q table r branch atom its_parts)
   table_clear table r branch atom asked none h e m =

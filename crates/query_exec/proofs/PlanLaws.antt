@@ -13,7 +13,7 @@ use Rattle.schema_catalog.specs.Databases.{IsDatabase}
 use Rattle.smo_ops_types.specs.Commands.{PlainVersion}
 use Rattle.smo_ops_spec.specs.Past.{Past, no_tables, tables_from, tables_of, version_at}
 use Rattle.smo_ops_spec.specs.Past.{database_at}
-use Rattle.smo_ops_versions_spec.specs.LostNames.{lost_names}
+use Rattle.smo_ops_versions_spec.specs.LostTables.{lost_tables}
 use Rattle.version_groups.specs.Groups.{Kept, versions_in}
 use Rattle.version_groups.specs.Representation.{Represents, IsInForce}
 use Rattle.version_groups.proofs.OwnMoments.{own_version}
@@ -27,7 +27,7 @@ use Rattle.piece_prune.proofs.Pruned.{mean_the_same}
 use Rattle.piece_ir_spec.specs.Beginnings.{first_piece}
 use Rattle.piece_ir_spec.specs.Chains.{unfolded_to}
 use Rattle.piece_ir_spec.specs.UnfoldedPieces.{StandFor}
-use Rattle.piece_ir_spec.proofs.StaysLost.{none_forward}
+use Rattle.smo_ops_versions_spec.proofs.MappedTables.{none_forward}
 use Rattle.piece_ir_spec.proofs.UnfoldedPieceLaws.{stand_typed}
 use Rattle.period_split.specs.Splitting.{Part}
 use Rattle.query_exec.specs.declared.part_piece.PartPieces.{PartPieces}
@@ -160,12 +160,12 @@ module _ (versions : List PlainVersion) (route : Route) (is : IsRoute versions r
     (table : List ℕ) (r : Read) (may : MayBeRead versions route table r) where
   -- the table is lost from none of their versions
   pub none_lost : (p : Part) → In p route.parts.items
-      → get (lost_names versions p.1 route.asked) table ≡ None
+      → get (lost_tables versions p.1 route.asked) table ≡ None
   none_lost p m = step (in_append p (reverse route.earlier.items) route.later.items
       (subst (λ (ps : List Part). In p ps) is.order m))
     where
       step : In p (reverse route.earlier.items) ⊎ In p route.later.items
-          → get (lost_names versions p.1 route.asked) table ≡ None
+          → get (lost_tables versions p.1 route.asked) table ≡ None
       step (inl k) = none_forward versions p.1 route.asked table
           (below route.asked route.earlier.items is.back p (from_reversed p route.earlier.items k))
       step (inr k) = may.kept p k

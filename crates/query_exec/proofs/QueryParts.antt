@@ -6,7 +6,7 @@ use Rattle.std.specs.FinMap.{get}
 use Rattle.relations_spec.specs.Sets.{In}
 use Rattle.smo_ops_spec.specs.ValidPast.{IsPast}
 use Rattle.smo_ops_spec.specs.Past.{Past, version_at}
-use Rattle.smo_ops_versions_spec.specs.LostNames.{lost_names}
+use Rattle.smo_ops_versions_spec.specs.LostTables.{lost_tables}
 use Rattle.version_groups.proofs.OwnMoments.{own_version}
 use Rattle.plain_answers_spec.specs.Branches.{Item, PlainBranch}
 use Rattle.temporal_lang_spec.specs.Accepted.{fault_of_query}
@@ -24,7 +24,7 @@ module _ (past : Past) (query : PlainQuery) where
   -- none of the tables is lost on the way from a part's version
   abbrev pub NoneLost : List Item → Type 0
   NoneLost from = (x : Item) → In x from → (p : Part) → In p asked_parts
-      → get (lost_names past.versions p.1 query.version) x.0 ≡ None
+      → get (lost_tables past.versions p.1 query.version) x.0 ≡ None
 
   module _ (is : IsPast past) (accepted : fault_of_query past query ≡ None) where
     part_asked : (p : Part) → In p asked_parts → IsAskedOf query p.0.start
@@ -42,5 +42,5 @@ module _ (past : Past) (query : PlainQuery) where
     pub none_lost : (b : PlainBranch) → In b (asked_branches past query) → NoneLost b.from
     none_lost b m x k p i =
         let a = part_asked p i in
-        subst (λ (v : ℕ). get (lost_names past.versions v query.version) x.0 ≡ None) a.1
+        subst (λ (v : ℕ). get (lost_tables past.versions v query.version) x.0 ≡ None) a.1
         (items_kept past query accepted p.0.start a.0 b m x k)

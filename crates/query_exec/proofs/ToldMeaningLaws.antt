@@ -10,7 +10,7 @@ use Rattle.smo_ops_types.specs.Commands.{PlainVersion}
 use Rattle.smo_ops_spec.specs.ValidPast.{IsPast}
 use Rattle.smo_ops_spec.specs.ValidValues.{PastHolds}
 use Rattle.smo_ops_spec.specs.Past.{Past, no_tables, tables_from, tables_of}
-use Rattle.smo_ops_versions_spec.specs.LostNames.{lost_names}
+use Rattle.smo_ops_versions_spec.specs.LostTables.{lost_tables}
 use Rattle.plain_answers_spec.specs.Branches.{Item, PlainBranch}
 use Rattle.plain_answers_spec.specs.Naming.{all_references}
 use Rattle.plain_answers_spec.specs.Pushing.{pushed_from, pushed_reads}
@@ -97,7 +97,7 @@ module _ (book : Book) (valid : IsValidBook book) (past : Past) (is : IsPast pas
 
   module _ (table : List ℕ) (r : Read) (asked : IsQuestion (tables_of past q) table r)
       (branch atom : ℕ) where
-    of_part : (p : Part) → get (lost_names past.versions p.1 q) table ≡ None
+    of_part : (p : Part) → get (lost_tables past.versions p.1 q) table ≡ None
         → (es : List PlainExplained)
         → AreAlive past.versions (part_pieces book past.versions q table r branch atom p) es
         → AreOfPart past.versions q table r branch atom p es
@@ -116,7 +116,7 @@ module _ (book : Book) (valid : IsValidBook book) (past : Past) (is : IsPast pas
         }
 
     of_table : (parts : List Part)
-        → ((p : Part) → In p parts → get (lost_names past.versions p.1 q) table ≡ None)
+        → ((p : Part) → In p parts → get (lost_tables past.versions p.1 q) table ≡ None)
         → (es : List PlainExplained)
         → AreAlive past.versions (table_pieces book past.versions q table r branch atom parts) es
         → AreOfTable past.versions q table r branch atom parts es

@@ -10,14 +10,14 @@ use Rattle.version_groups.specs.Representation.{Represents, IsInForce}
 use Rattle.version_groups.proofs.OwnMoments.{own_version}
 use Rattle.smo_ops_types.specs.Commands.{PlainVersion}
 use Rattle.smo_ops_spec.specs.Past.{Past, no_tables, tables_from, tables_of, database_at}
-use Rattle.smo_ops_versions_spec.specs.LostNames.{lost_names}
+use Rattle.smo_ops_versions_spec.specs.LostTables.{lost_tables}
 use Rattle.plain_answers_spec.specs.Reading.{Read}
 use Rattle.piece_ir_spec.specs.Pieces.{PlainPiece, all_mean}
 use Rattle.piece_ir_spec.specs.Typed.{AllTyped}
 use Rattle.piece_ir_spec.specs.Rules.{Book, IsValidBook}
 use Rattle.piece_ir_spec.specs.UnfoldedPieces.{MayBeAsked, StandFor}
 use Rattle.piece_ir_spec.proofs.UnfoldedPieceLaws.{stand_typed}
-use Rattle.piece_ir_spec.proofs.StaysLost.{none_forward}
+use Rattle.smo_ops_versions_spec.proofs.MappedTables.{none_forward}
 use Rattle.rewrite.specs.WalkedPieces.{LeadsAway, AreAway}
 use Rattle.period_split.specs.Splitting.{Part, AscendFrom}
 use Rattle.query_exec.specs.declared.route.Route.{Route}
@@ -120,9 +120,9 @@ module _ (kept : Kept) (book : Book) (versions : List PlainVersion)
   asked_here = subst (λ (vs : List PlainVersion). MayBeAsked vs asked table r) (sym same)
       along.question
 
-  pub kept_here : (p : Part) → In p parts → get (lost_names versions p.1 asked) table ≡ None
+  pub kept_here : (p : Part) → In p parts → get (lost_tables versions p.1 asked) table ≡ None
   kept_here p i = subst (λ (vs : List PlainVersion).
-      get (lost_names vs p.1 asked) table ≡ None) (sym same) (along.kept p i)
+      get (lost_tables vs p.1 asked) table ≡ None) (sym same) (along.kept p i)
 
   pub ready_here : (v : ℕ) (ps : List PlainPiece) (p : Part) → In p parts → LeadsAway asked v p.1
       → StandFor book versions v asked table r ps → AreAway book versions v p.1 ps

@@ -20,7 +20,7 @@ use Rattle.smo_ops_spec.specs.ValidPast.{IsPast}
 use Rattle.smo_ops_spec.specs.OneRow.{Row, Relation}
 use Rattle.smo_ops_spec.specs.Past.{Past, tables_of, version_at}
 use Rattle.smo_ops_spec.proofs.Firsts.{none_of_first, none_mapped}
-use Rattle.smo_ops_versions_spec.specs.LostNames.{lost_names}
+use Rattle.smo_ops_versions_spec.specs.LostTables.{lost_tables}
 use Rattle.smo_ops_versions_spec.specs.Migration.{migrated}
 use Rattle.version_groups.specs.Groups.{Kept, versions_in}
 use Rattle.version_groups.specs.Representation.{Represents}
@@ -54,7 +54,7 @@ module _ (versions : List PlainVersion) (route : Route) where
   -- none of the tables is lost on the way from a part's version
   abbrev NoneLost : List Item → Type 0
   NoneLost from = (x : Item) → In x from → (p : Part) → In p route.later.items
-      → get (lost_names versions p.1 route.asked) x.0 ≡ None
+      → get (lost_tables versions p.1 route.asked) x.0 ≡ None
 
 module _ (past : Past) (is : IsPast past) (route : Route) where
   may_items : (outs : List Tree) (c : Test) (i : ℕ) (from : List Item)
@@ -135,8 +135,9 @@ module _ (kept_ : Kept) (past : Past) (asked query : PlainQuery)
         → NoneLost past.versions route b.from
     none_lost b m x k p i =
         let a = part_asked p i in
-        subst (λ (q : ℕ). get (lost_names past.versions p.1 q) x.0 ≡ None) (sym (at ∙ same_version))
-        (subst (λ (v : ℕ). get (lost_names past.versions v asked.version) x.0 ≡ None) a.1
+        subst (λ (q : ℕ). get (lost_tables past.versions p.1 q) x.0 ≡ None)
+            (sym (at ∙ same_version))
+        (subst (λ (v : ℕ). get (lost_tables past.versions v asked.version) x.0 ≡ None) a.1
         (items_kept past asked h.accepted p.0.start a.0 b m x k))
 
     may_asked : MayBranches past.versions route (asked_branches past asked)

@@ -5,7 +5,7 @@ use Rattle.smo_ops_types.specs.Commands.{PlainVersion}
 use Rattle.smo_ops_spec.specs.Losses.{Loss}
 use Rattle.period_split.specs.Splitting.{Part}
 use Rattle.temporal_lang_types.specs.Queries.{PlainQuery}
-use Rattle.query_pieces_spec.specs.Piecewise.{loss_from}
+use Rattle.temporal_lang_spec.specs.Losing.{loss_from}
 
 -- the loss from the first of the parts' versions from which there is one
 abbrev pub first_among : List PlainVersion → PlainQuery → List Part → Option Loss

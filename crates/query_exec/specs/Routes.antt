@@ -7,7 +7,7 @@ use Rattle.std.specs.FinMap.{get}
 use Rattle.relations_spec.specs.Sets.{In}
 use Rattle.relations_spec.specs.Spans.{Span, covers, forever}
 use Rattle.smo_ops_types.specs.Commands.{PlainVersion}
-use Rattle.smo_ops_versions_spec.specs.LostNames.{lost_names}
+use Rattle.smo_ops_versions_spec.specs.LostTables.{lost_tables}
 use Rattle.version_groups.specs.Representation.{IsInForce}
 use Rattle.plain_answers_spec.specs.Reading.{Read}
 use Rattle.piece_ir_spec.specs.UnfoldedPieces.{MayBeAsked}
@@ -60,7 +60,7 @@ pub record MayBeRead (versions : List PlainVersion) (route : Route) (table : Lis
     Type 0 where
   pub question : MayBeAsked versions route.asked table r
   pub kept : (p : Part) → In p route.later.items
-      → get (lost_names versions p.1 route.asked) table ≡ None
+      → get (lost_tables versions p.1 route.asked) table ≡ None
 
 -- from version v the way to each part's version leads away from the asked one
 abbrev pub LeadAway : ℕ → ℕ → List Part → Type 0
@@ -75,4 +75,4 @@ pub record AreAlong (versions : List PlainVersion) (asked : ℕ) (table : List �
   pub here : asked ≤ length versions
   pub way : LeadAway asked asked parts
   pub there : (p : Part) → In p parts → p.1 ≤ length versions
-  pub kept : (p : Part) → In p parts → get (lost_names versions p.1 asked) table ≡ None
+  pub kept : (p : Part) → In p parts → get (lost_tables versions p.1 asked) table ≡ None

@@ -3,9 +3,10 @@
 ghost use Rattle.std.specs.Prelude.{◌≡◌, ◌≤◌, IfOk, None, length, take, vec_len};
 ghost use Rattle.std.specs.Option.{option_or};
 ghost use Rattle.smo_ops_types.specs.Commands.{versions_of};
-ghost use Rattle.smo_ops_spec.specs.Past.{Past};
+ghost use Rattle.smo_ops_spec.specs.Past.{Past, no_tables};
+ghost use Rattle.smo_ops_spec.specs.ValidPast.{AreVersions};
 ghost use Rattle.temporal_lang_types.specs.Queries.{query_of, IsLasting};
-ghost use Rattle.temporal_lang_spec.specs.Losing.{first_lost};
+ghost use Rattle.temporal_lang_spec.specs.Losing.{first_loss_of};
 ghost use Rattle.version_groups.specs.Representation.{Represents};
 ghost use Rattle.period_split.specs.Splitting.{AscendFrom};
 ghost use Rattle.query_exec.specs.Losing.{first_among, AllUpTo};
@@ -20,7 +21,7 @@ use temporal_lang::{Query, slice};
 use version_groups::Groups;
 
 // The loss from the first of the parts' versions from which there is one, of which none is before
-// the first place; at the second place, or after it, the loss that was found is the first. A table
+// the first place; at the second place, or after it, the loss that was found is the first. An item
 // that is lost on the way from one version is lost on the way from each later one, so the parts
 // between are halved.
 fn first_between(
@@ -33,6 +34,7 @@ fn first_between(
     found: Option<(u32, u32)>,
 ) -> Result<Option<(u32, u32)>, NoMemory>
     requires asked { query.now.version ≤ vec_len versions.now.list }
+    requires versions { AreVersions None no_tables (versions_of versions.now) }
     requires there { AllUpTo (vec_len versions.now.list) parts.now }
     requires ascending { AscendFrom 0 parts.now }
     requires order { low ≤ high }
@@ -66,6 +68,7 @@ fn decided(
     parts: &[(Period, u32)],
 ) -> Result<Option<(u32, u32)>, NoMemory>
     requires asked { query.now.version ≤ vec_len versions.now.list }
+    requires versions { AreVersions None no_tables (versions_of versions.now) }
     requires there { AllUpTo (vec_len versions.now.list) parts.now }
     requires ascending { AscendFrom 0 parts.now }
     ensures { IfOk result (λ loss. loss ≡ first_among (versions_of versions.now)
@@ -83,11 +86,11 @@ fn decided(
     }
 }
 
-/// The loss that is found first in the query's slice: that of the first of its tables that is lost,
+/// The loss that is found first in the query's slice: that of the first of its items that is lost,
 /// by names alone, on the way from the version in force at the least moment at which one is. `None`
-/// exactly where none is. For n versions in the slice it is one walk along the versions where
-/// nothing is lost, else one more each time that n doubles. The one error is `NoMemory`, where
-/// memory runs out.
+/// exactly where none is. Each reference of the query is to an item. For n versions in the slice it
+/// is one walk along the versions where nothing is lost, else one more each time that n doubles.
+/// The one error is `NoMemory`, where memory runs out.
 pub fn first_loss_in_slice(
     alloc: Global,
     groups: &Groups,
@@ -97,7 +100,7 @@ pub fn first_loss_in_slice(
     requires asked { query.now.version ≤ length groups.now.versions }
     requires lasting { IsLasting query.now.when }
     ensures { (past : Past) → Represents groups.now past
-        → IfOk result (λ loss. loss ≡ first_lost past (query_of query.now)) }
+        → IfOk result (λ loss. loss ≡ first_loss_of past (query_of query.now)) }
 {
     let slice = slice(query);
     ends_in_time(slice);

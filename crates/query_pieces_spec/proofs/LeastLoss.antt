@@ -1,55 +1,20 @@
--- Which version decides what is lost first: the least of those in force in the slice from which a
--- table is lost.
+-- Which version decides what is lost first: the least of those in force in the slice from which an
+-- item is lost. The references of the query are to items.
 use Rattle.std.proofs.Common.{◌≡◌, ◌+◌, ◌-◌, ◌<◌, ◌≤◌, ℕ, zero, suc, Bool, true, false, cond, List}
 use Rattle.std.proofs.Common.{[], ◌∷◌, length, refl, sym, ap, ◌∙◌, inl, inr, arith}
 use Rattle.std.specs.Prelude.{◌⊎◌, nat_le, Option, Some, None}
 use Rattle.std.specs.Option.{option_or}
-use Rattle.std.specs.FinMap.{get}
 use Rattle.std.proofs.lemmas.Bool.Decides.{nat_tests}
-use Rattle.relations_spec.specs.Sets.{In}
 use Rattle.relations_spec.proofs.ListingLaws.{at_or_above, at_or_below}
 use Rattle.smo_ops_types.specs.Commands.{PlainVersion}
-use Rattle.smo_ops_spec.specs.Losses.{Loss, first_loss}
+use Rattle.smo_ops_spec.specs.Losses.{Loss}
 use Rattle.smo_ops_spec.specs.Past.{Past, begun_at, version_at}
 use Rattle.smo_ops_spec.proofs.PastLaws.{at_least}
-use Rattle.smo_ops_versions_spec.specs.LostNames.{lost_names}
-use Rattle.piece_ir_spec.proofs.StaysLost.{stays_lost, none_forward}
 use Rattle.temporal_lang_types.specs.Queries.{PlainQuery, slice_of}
-use Rattle.temporal_lang_spec.specs.Losing.{query_tables, loss_at, first_from, first_lost}
+use Rattle.temporal_lang_spec.specs.Losing.{loss_from, loss_then, first_from, first_loss_of}
 use Rattle.temporal_lang_spec.proofs.FirstLaws.{first_is, no_loss}
-use Rattle.query_pieces_spec.specs.Piecewise.{loss_from, IsAskedOf}
-
--- ---- of several names
-
-module _ (f : List ℕ → Option Loss) where
-  pub none_at : (names : List (List ℕ)) → first_loss f names ≡ None → (n : List ℕ) → In n names
-      → f n ≡ None
-  none_at [] e n i = absurd i
-  none_at (x ∷ names) e n i = step (none_at names) (f x) refl e i
-    where
-      step : (first_loss f names ≡ None → (m : List ℕ) → In m names → f m ≡ None)
-          → (o : Option Loss) → f x ≡ o → option_or o (first_loss f names) ≡ None → In n (x ∷ names)
-          → f n ≡ None
-      step more (Some l) q e i = absurd (cc)
-      step more None q e (inl s) = ap f (sym s) ∙ q
-      step more None q e (inr i) = more e n i
-
-  none_all : ((n : List ℕ) → f n ≡ None) → (names : List (List ℕ)) → first_loss f names ≡ None
-  none_all h [] = refl
-  none_all h (n ∷ names) = ap (λ (o : Option Loss). option_or o (first_loss f names)) (h n)
-      ∙ none_all h names
-
-  none_too : (g : List ℕ → Option Loss) → ((n : List ℕ) → g n ≡ None → f n ≡ None)
-      → (names : List (List ℕ)) → first_loss g names ≡ None → first_loss f names ≡ None
-  none_too g h [] e = refl
-  none_too g h (n ∷ names) e = step (none_too g h names) (g n) refl e
-    where
-      step : (first_loss g names ≡ None → first_loss f names ≡ None) → (o : Option Loss) → g n ≡ o
-          → option_or o (first_loss g names) ≡ None
-          → option_or (f n) (first_loss f names) ≡ None
-      step more (Some l) q e = absurd (cc)
-      step more None q e = ap (λ (o : Option Loss). option_or o (first_loss f names)) (h n q)
-          ∙ more e
+use Rattle.temporal_lang_spec.proofs.ItemsLost.{items_stay_lost, no_item_forward}
+use Rattle.query_pieces_spec.specs.Piecewise.{IsAskedOf}
 
 -- what is not lost from a version is lost from none before it
 pub none_before : (versions : List PlainVersion) (v w : ℕ) (query : PlainQuery) → v ≤ w
@@ -57,15 +22,8 @@ pub none_before : (versions : List PlainVersion) (v w : ℕ) (query : PlainQuery
 none_before versions v w query l e = step (at_or_below v query.version)
   where
     step : (v < query.version) ⊎ (query.version ≤ v) → loss_from versions v query ≡ None
-    step (inl k) =
-        none_all (get (lost_names versions v query.version))
-        (λ n. none_forward versions v query.version n (omega (arith, k)))
-        (query_tables query.branches)
-    step (inr k) =
-        none_too (get (lost_names versions v query.version))
-        (get (lost_names versions w query.version))
-        (λ n f. stays_lost versions w v query.version n k l f)
-        (query_tables query.branches) e
+    step (inl k) = no_item_forward versions v query.version (omega (arith, k)) query.branches
+    step (inr k) = items_stay_lost versions w v query.version k l query.branches e
 
 -- ---- of several moments
 
@@ -144,7 +102,7 @@ module _ (past : Past) (query : PlainQuery) where
   end = (slice_of query.when).end
 
   pub none_lost : (w : ℕ) → ((m : ℕ) → IsAskedOf query m → version_at past m ≤ w)
-      → loss_from past.versions w query ≡ None → first_lost past query ≡ None
+      → loss_from past.versions w query ≡ None → first_loss_of past query ≡ None
   none_lost w below e = no_loss past query (λ m a b.
       none_before past.versions (version_at past m) w query (below m (record { from = a; to = b }))
       e)
@@ -153,31 +111,31 @@ module _ (past : Past) (query : PlainQuery) where
       → loss_from past.versions (version_at past m) query ≡ Some loss
       → ((n : ℕ) → IsAskedOf query n → version_at past n < version_at past m
       → loss_from past.versions (version_at past n) query ≡ None)
-      → first_lost past query ≡ Some loss
+      → first_loss_of past query ≡ Some loss
   least_lost m loss asked some none =
       let a = asked.from in
       let b = asked.to in
-      first_of_one (loss_at past query) start (end - start) loss (m - start) (omega (arith, a, b))
-      (ap (loss_at past query) (from_start start m a) ∙ some) each
+      first_of_one (loss_then past query) start (end - start) loss (m - start) (omega (arith, a, b))
+      (ap (loss_then past query) (from_start start m a) ∙ some) each
     where
-      each : (j : ℕ) → j < m - start → (loss_at past query (start + j) ≡ None)
-          ⊎ (loss_at past query (start + j) ≡ Some loss)
+      each : (j : ℕ) → j < m - start → (loss_then past query (start + j) ≡ None)
+          ⊎ (loss_then past query (start + j) ≡ Some loss)
       each j l = step (at_or_above (version_at past (start + j)) (version_at past m)
           (begun_more (start + j) m past.versions (let a = asked.from in omega (arith, l, a))))
         where
           step : (version_at past (start + j) ≡ version_at past m)
               ⊎ (version_at past (start + j) < version_at past m)
-              → (loss_at past query (start + j) ≡ None)
-              ⊎ (loss_at past query (start + j) ≡ Some loss)
+              → (loss_then past query (start + j) ≡ None)
+              ⊎ (loss_then past query (start + j) ≡ Some loss)
           step (inl s) = inr (ap (λ v. loss_from past.versions v query) s ∙ some)
           step (inr s) =
               inl (none (start + j) (let a = asked.from in let b = asked.to in
               record { from = omega arith; to = omega (arith, l, a, b) }) s)
 
-  pub kept_at : first_lost past query ≡ None → (m : ℕ) → IsAskedOf query m
+  pub kept_at : first_loss_of past query ≡ None → (m : ℕ) → IsAskedOf query m
       → loss_from past.versions (version_at past m) query ≡ None
   kept_at e m asked =
       let a = asked.from in
       let b = asked.to in
-      ap (loss_at past query) (sym (from_start start m a))
-      ∙ each_none (loss_at past query) start (end - start) (m - start) (omega (arith, a, b)) e
+      ap (loss_then past query) (sym (from_start start m a))
+      ∙ each_none (loss_then past query) start (end - start) (m - start) (omega (arith, a, b)) e

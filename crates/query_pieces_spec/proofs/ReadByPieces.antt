@@ -1,6 +1,6 @@
 -- What is read by pieces at each moment of the slice, listed, is the answer.
-use Rattle.std.proofs.Common.{◌≡◌, ◌<◌, ◌≤◌, ℕ, List, [], ◌∷◌, ◌++◌, map, sym, ap, subst, ◌∙◌, inl}
-use Rattle.std.proofs.Common.{inr, arith}
+use Rattle.std.proofs.Common.{◌≡◌, ◌<◌, ◌≤◌, ℕ, List, [], ◌∷◌, ◌++◌, map, sym, ap, subst, ◌∙◌}
+use Rattle.std.proofs.Common.{arith}
 use Rattle.std.specs.Prelude.{◌↔◌, None, nat_lt}
 use Rattle.std.specs.FinMap.{get}
 use Rattle.std.proofs.lemmas.Bool.Decides.{nat_tests}
@@ -8,7 +8,6 @@ use Rattle.relations_spec.specs.Sets.{In}
 use Rattle.relations_spec.specs.Spans.{forever}
 use Rattle.relations_spec.specs.Timed.{Entry}
 use Rattle.relations_spec.specs.Listing.{IsListing}
-use Rattle.relations_spec.proofs.SetLaws.{in_map, in_left, in_right}
 use Rattle.relations_spec.proofs.ListingLaws.{listing_same, one_listing}
 use Rattle.prima_base.specs.Order.{row_cmp}
 use Rattle.prima_base.specs.OrderLaws.{row_exact}
@@ -21,7 +20,9 @@ use Rattle.smo_ops_spec.specs.ValidPast.{IsPast}
 use Rattle.smo_ops_spec.specs.ValidValues.{PastHolds}
 use Rattle.smo_ops_spec.specs.OneRow.{Row, Relation}
 use Rattle.smo_ops_spec.proofs.Firsts.{none_of_first, none_of_both, none_mapped, met}
+use Rattle.smo_ops_versions_spec.specs.LostTables.{lost_tables}
 use Rattle.smo_ops_versions_spec.specs.LostNames.{lost_names}
+use Rattle.smo_ops_versions_spec.proofs.MappedTables.{not_mapped}
 use Rattle.plain_answers_spec.specs.Branches.{Item, PlainBranch}
 use Rattle.plain_answers_spec.specs.Pushing.{pushed_reads}
 use Rattle.plain_answers_spec.specs.Reading.{needed_reads}
@@ -31,36 +32,21 @@ use Rattle.piece_ir_spec.proofs.ReadMoments.{moment_read}
 use Rattle.temporal_lang_types.specs.declared.when.When.{When}
 use Rattle.temporal_lang_types.specs.declared.when.When.TheVariants.{Always, AsOf, During}
 use Rattle.temporal_lang_types.specs.Queries.{PlainQuery, slice_of, IsLasting}
-use Rattle.temporal_lang_spec.specs.Atoms.{branch_with_atoms, branches_with_atoms}
-use Rattle.temporal_lang_spec.specs.Losing.{branch_tables, query_tables, first_lost}
+use Rattle.temporal_lang_spec.specs.Atoms.{branches_with_atoms}
+use Rattle.temporal_lang_spec.specs.Losing.{first_lost, query_asked}
 use Rattle.temporal_lang_spec.specs.Checking.{excess_of, excess_fault, query_tests, names_tests}
 use Rattle.temporal_lang_spec.specs.Checking.{types_from, arities, output_kinds, typing_tests}
 use Rattle.temporal_lang_spec.specs.Checking.{period_tests, when_fault, keep_fault}
 use Rattle.temporal_lang_spec.specs.Accepted.{no_way_back, loss_fault, version_fault}
 use Rattle.temporal_lang_spec.specs.Accepted.{fault_of_query}
 use Rattle.temporal_lang_spec.specs.Answers.{asked_at, listing, answer}
+use Rattle.temporal_lang_spec.proofs.ItemsLost.{tables_there}
 use Rattle.temporal_lang_spec.proofs.StageLaws.{listing_is}
 use Rattle.query_pieces_spec.specs.Piecewise.{asked_branches, pieces_at, pushed_at, IsAskedOf}
 use Rattle.query_pieces_spec.specs.Piecewise.{IsReadByPieces}
-use Rattle.query_pieces_spec.proofs.LeastLoss.{none_at, kept_at}
+use Rattle.query_pieces_spec.proofs.LeastLoss.{kept_at}
 use Rattle.query_pieces_spec.proofs.AskedQuestions.{suffices}
 use Rattle.query_pieces_spec.proofs.PushedQuestions.{pushed_suffices}
-
--- the table of an item is one of the query's
-item_there : (tables : Tables) (branches : List PlainBranch) (b : PlainBranch)
-    → In b (branches_with_atoms tables branches) → (i : Item) → In i b.from
-    → In i.0 (query_tables branches)
-item_there tables [] b m i k = absurd m
-item_there tables (x ∷ branches) b m i k = in_both (λ h. item_there tables branches b h i k) m
-  where
-    in_both : (In b (branches_with_atoms tables branches) → In i.0 (query_tables branches))
-        → In b (branch_with_atoms tables x ∷ branches_with_atoms tables branches)
-        → In i.0 (branch_tables x ++ query_tables branches)
-    in_both more (inl e) =
-        in_left i.0 (branch_tables x) (query_tables branches)
-        (in_map (λ (j : Item). j.0) i x.from
-        (subst (λ (c : PlainBranch). In i c.from) (sym e) k))
-    in_both more (inr h) = in_right i.0 (branch_tables x) (query_tables branches) (more h)
 
 -- a slice that is not refused has moments
 lasting : (when : When) → when_fault when ≡ None → IsLasting when
@@ -129,11 +115,12 @@ module _ (past : Past) (query : PlainQuery) (accepted : fault_of_query past quer
   -- no table of an item is lost on the way from a version in force in the slice
   pub items_kept : (m : ℕ) → IsAskedOf query m → (b : PlainBranch)
       → In b (asked_branches past query) → (i : Item) → In i b.from
-      → get (lost_names past.versions (version_at past m) query.version) i.0 ≡ None
+      → get (lost_tables past.versions (version_at past m) query.version) i.0 ≡ None
   items_kept m asked b k i j =
-      none_at (get (lost_names past.versions (version_at past m) query.version))
-      (query_tables query.branches) (kept_at past query not_lost m asked) i.0
-      (item_there tables query.branches b k i j)
+      not_mapped past.versions (version_at past m) query.version i.0
+      (tables_there (lost_names past.versions (version_at past m) query.version)
+      (asked_branches past query) (kept_at past (query_asked past query) not_lost m
+      (record { from = asked.from; to = asked.to })) b k i j)
 
   module _ (book : Book) (valid : IsValidBook book) (is : IsPast past)
       (holds : PastHolds past) where

@@ -14,7 +14,7 @@ ghost use Rattle.smo_ops_spec.specs.Losses.{Loss};
 ghost use Rattle.smo_ops_spec.specs.Past.{Past, tables_of, version_at, database_at};
 ghost use Rattle.smo_ops_spec.specs.ValidPast.{IsPast};
 ghost use Rattle.smo_ops_spec.specs.ValidValues.{PastHolds};
-ghost use Rattle.smo_ops_versions_spec.specs.LostNames.{lost_names};
+ghost use Rattle.smo_ops_versions_spec.specs.LostTables.{lost_tables};
 ghost use Rattle.plain_answers_spec.specs.Branches.{Item, PlainBranch, item_columns};
 ghost use Rattle.plain_answers_spec.specs.Choosing.{answers_over};
 ghost use Rattle.plain_answers_spec.specs.Pushing.{pushed_reads};
@@ -25,39 +25,39 @@ ghost use Rattle.piece_prune.specs.DeadPieces.{AreLiving};
 ghost use Rattle.piece_ir_spec.specs.Reading.{Suffices, unfolded_read, unfolded_reads};
 ghost use Rattle.piece_ir_spec.specs.UnfoldedPieces.{StandFor};
 ghost use Rattle.temporal_lang_types.specs.Queries.{PlainQuery, slice_of, IsLasting};
-ghost use Rattle.temporal_lang_spec.specs.Losing.{first_lost};
+ghost use Rattle.temporal_lang_spec.specs.Losing.{loss_from, first_loss_of, first_lost};
 ghost use Rattle.temporal_lang_spec.specs.Accepted.{fault_of_query};
 ghost use Rattle.temporal_lang_spec.specs.Answers.{asked_at, answer};
 ghost use Rattle.query_pieces_spec.specs.Gathering.{IsOfPart, IsGathered, HasMoment};
-ghost use Rattle.query_pieces_spec.specs.Piecewise.{loss_from, asked_branches, pieces_at};
+ghost use Rattle.query_pieces_spec.specs.Piecewise.{asked_branches, pieces_at};
 ghost use Rattle.query_pieces_spec.specs.Piecewise.{pushed_at};
 ghost use Rattle.query_pieces_spec.specs.Piecewise.{IsAskedOf, IsReadByPieces};
 
 /// The first loss of a query is decided version by version. From an earlier version no more is
 /// lost. None is lost where none is from a version that is at least each one in force in the slice.
-/// Else the loss is that of the least of these versions from which a table is lost; and where there
-/// is no first loss, none of them loses a table.
+/// Else the loss is that of the least of these versions from which an item is lost; and where there
+/// is no first loss, none of them loses an item. The references of the query are to items.
 pub fn the_least_lost_version_decides()
     ensures before { (versions : List PlainVersion) → (v : ℕ) → (w : ℕ) → (query : PlainQuery)
         → v ≤ w
         → loss_from versions w query ≡ None → loss_from versions v query ≡ None }
     ensures none { (past : Past) → (query : PlainQuery) → (w : ℕ)
         → ((m : ℕ) → IsAskedOf query m → version_at past m ≤ w)
-        → loss_from past.versions w query ≡ None → first_lost past query ≡ None }
+        → loss_from past.versions w query ≡ None → first_loss_of past query ≡ None }
     ensures some { (past : Past) → (query : PlainQuery) → (m : ℕ) → (loss : Loss)
         → IsAskedOf query m → loss_from past.versions (version_at past m) query ≡ Some loss
         → ((n : ℕ) → IsAskedOf query n → version_at past n < version_at past m
         → loss_from past.versions (version_at past n) query ≡ None)
-        → first_lost past query ≡ Some loss }
-    ensures each { (past : Past) → (query : PlainQuery) → first_lost past query ≡ None → (m : ℕ)
+        → first_loss_of past query ≡ Some loss }
+    ensures each { (past : Past) → (query : PlainQuery) → first_loss_of past query ≡ None → (m : ℕ)
         → IsAskedOf query m
         → loss_from past.versions (version_at past m) query ≡ None }
 {}
 
 /// A query that is not refused has a slice with moments; of the table of each item it asks a
 /// question, that of the columns which its branch names, and these are enough for the branch; so it
-/// does of the rows alone that meet the pushed condition; and no such table is lost on the way from
-/// a version in force in the slice.
+/// does of the rows alone that meet the pushed condition. No item of it is lost at a moment of the
+/// slice, and no such table on the way from a version in force in the slice.
 pub fn an_accepted_query_asks_questions()
     ensures lasting { (past : Past) → (query : PlainQuery) → fault_of_query past query ≡ None
         → IsLasting query.when }
@@ -67,10 +67,12 @@ pub fn an_accepted_query_asks_questions()
     ensures pushed { (past : Past) → (query : PlainQuery) → fault_of_query past query ≡ None
         → (b : PlainBranch) → In b (asked_branches past query)
         → Suffices (tables_of past query.version) (pushed_reads b) b }
+    ensures found { (past : Past) → (query : PlainQuery) → fault_of_query past query ≡ None
+        → first_lost past query ≡ None }
     ensures kept { (past : Past) → (query : PlainQuery) → fault_of_query past query ≡ None → (m : ℕ)
         → IsAskedOf query m
         → (b : PlainBranch) → In b (asked_branches past query) → (i : Item) → In i b.from
-        → get (lost_names past.versions (version_at past m) query.version) i.0 ≡ None }
+        → get (lost_tables past.versions (version_at past m) query.version) i.0 ≡ None }
 {}
 
 /// A query that is not refused asks of each moment of its slice what its branches answer over the

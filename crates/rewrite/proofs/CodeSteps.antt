@@ -2,8 +2,9 @@
 use Rattle.std.proofs.Common.{◌≡◌, ◌+◌, ◌-◌, ◌≤◌, ◌<◌, ℕ, suc, List, [], ◌∷◌, ◌++◌, map, take, drop}
 use Rattle.std.proofs.Common.{length, get_or, drop-cons, add-one, append_assoc, refl, sym, ap}
 use Rattle.std.proofs.Common.{subst, ◌∙◌, arith}
-use Rattle.std.specs.Prelude.{◌==◌, true, false, Some, None, slice_get}
-use Rattle.std.proofs.lemmas.List.{map-append, take_all}
+use Rattle.std.specs.Prelude.{◌==◌, true, false, Option, Some, None}
+use Rattle.std.specs.FinMap.{get}
+use Rattle.std.proofs.lemmas.List.{map-append, take_all, length-map}
 use Rattle.relations_spec.proofs.SetLaws.{in_map}
 use Rattle.schema_catalog.specs.Tables.{Tables}
 use Rattle.smo_ops_types.specs.Operators.{Operator, operator_of, operators_of}
@@ -14,13 +15,20 @@ use Rattle.smo_ops_spec.specs.After.{op_fault, schema_after, IsValid, HaveFewNod
 use Rattle.smo_ops_spec.specs.Inverses.{inverse_fault, schema_after_each, AllOperatorsAccepted}
 use Rattle.smo_ops_spec.specs.Past.{no_tables, tables_from}
 use Rattle.smo_ops_spec.specs.ValidPast.{AreVersions}
-use Rattle.smo_ops_spec.proofs.CountedOperators.{counted_inverse}
 use Rattle.smo_ops_spec.proofs.ValidInverses.{accepted_leads_back}
 use Rattle.smo_ops_spec.proofs.NextSchemas.{next_is_valid}
-use Rattle.smo_ops_versions_spec.proofs.VersionSteps.{Leads, leads}
-use Rattle.smo_ops_versions_spec.proofs.WayLeads.{valid_at}
-use Rattle.smo_ops_versions_spec.specs.Steps.{taken_back}
-use Rattle.smo_ops_versions_spec.specs.Ways.{back_over, over_version, back_over_version}
+use Rattle.smo_ops_spec.specs.Losses.{Loss}
+use Rattle.smo_ops_versions_spec.proofs.WayLeads.{valid_at, step_leads}
+use Rattle.smo_ops_spec.specs.WaysBack.{WayBack, by_inverse, by_filling, no_way, way_back_over}
+use Rattle.smo_ops_spec.specs.WaysBack.{blank, filled_with, operator_of_way, derived}
+use Rattle.smo_ops_versions_spec.specs.TableColumns.{HaveColumns}
+use Rattle.smo_ops_versions_spec.specs.Steps.{taken_back, Lead}
+use Rattle.smo_ops_versions_spec.specs.Ways.{step_by, step_back, back_over, over_version}
+use Rattle.smo_ops_versions_spec.specs.Ways.{back_over_version}
+use Rattle.smo_ops_versions_spec.specs.LostTables.{lost_tables}
+use Rattle.smo_ops_versions_spec.specs.ColumnLosses.{table_loss}
+use Rattle.smo_ops_versions_spec.specs.LostNames.{lost_names}
+use Rattle.smo_ops_versions_spec.proofs.MappedTables.{not_mapped}
 use Rattle.piece_ir_spec.specs.Pieces.{PlainPiece}
 use Rattle.piece_ir_spec.specs.Typed.{IsTyped, AllTyped}
 use Rattle.piece_ir_spec.specs.Rules.{Book, IsValidBook}
@@ -29,7 +37,8 @@ use Rattle.piece_ir.specs.declared.piece.Piece.{Piece}
 use Rattle.piece_ir_spec.specs.Chains.{through, brought, through_each}
 use Rattle.piece_ir_spec.specs.Chains.{to_previous, to_next}
 use Rattle.piece_ir_spec.proofs.ChainSteps.{all_typed}
-use Rattle.rewrite.proofs.Places.{version_at_place, in_at}
+use Rattle.rewrite_losses.proofs.Places.{in_at}
+use Rattle.rewrite_losses.proofs.Sides.{here, sides}
 
 -- ---- one operator
 
@@ -173,6 +182,73 @@ all_are book tables next (x ∷ xs) op ps news all l e n is so =
     (is ∙ ap (λ (ys : List Op). through_each book next (operators_of ys) ps) rest
     ∙ ap (λ (t : Tables). through_each book t (operators_of xs) ps) now)
 
+-- ---- back over one operator, where no inverse is named
+
+module _ (before : Tables) (op : Operator) (loss : Loss) where
+  leads_by : (w : WayBack) → Lead (schema_after before op) (step_by loss before op w ∷ []) before
+      → (d : Operator) → operator_of_way w ≡ Some d
+      → (op_fault (schema_after before op) d ≡ None)
+      × (schema_after (schema_after before op) d ≡ before)
+  leads_by (by_inverse e) l d q = (let same : e ≡ d = cc in
+      subst (λ (x : Operator). (op_fault (schema_after before op) x ≡ None)
+      × (schema_after (schema_after before op) x ≡ before)) same (l.0.accepted, l.2))
+  leads_by (by_filling f) l d q = (let same : filled_with blank f ≡ d = cc in
+      subst (λ (x : Operator). (op_fault (schema_after before op) x ≡ None)
+      × (schema_after (schema_after before op) x ≡ before)) same (l.0.accepted, l.2))
+  leads_by no_way l d q = absurd (cc)
+
+  through_by : (book : Book) (ps : List PlainPiece) (w : WayBack) (d : Operator)
+      → operator_of_way w ≡ Some d
+      → through book d (schema_after before op) ps ≡ brought book (step_by loss before op w) ps
+  through_by book ps (by_inverse e) d q = (let same : d ≡ e = cc in
+      ap (λ (x : Operator). through book x (schema_after before op) ps) same)
+  through_by book ps (by_filling f) d q = (let same : d ≡ filled_with blank f = cc in
+      ap (λ (x : Operator). through book x (schema_after before op) ps) same)
+  through_by book ps no_way d q = absurd (cc)
+
+  stays_by : (book : Book) (ps : List PlainPiece) (w : WayBack) → operator_of_way w ≡ None
+      → ps ≡ brought book (step_by loss before op w) ps
+  stays_by book ps (by_inverse e) q = absurd (cc)
+  stays_by book ps (by_filling f) q = absurd (cc)
+  stays_by book ps no_way q = refl
+
+module _ (before : Tables) (op : Operator) (good : IsValid before) (have : HaveColumns before)
+    (accepted : op_fault before op ≡ None) where
+  pub derived_accepted : (next : Tables) (d : Operator) → next ≡ schema_after before op
+      → derived before op ≡ Some d → op_fault next d ≡ None
+  derived_accepted next d n q = subst (λ (t : Tables). op_fault t d ≡ None) (sym n)
+      (leads_by before op (0, 1) (way_back_over before op)
+      (step_leads (0, 1) before op good have accepted) d q).0
+
+  pub derived_valid : (next : Tables) → next ≡ schema_after before op → IsValid next
+  derived_valid next n = subst IsValid (sym n) (next_is_valid before op good accepted)
+
+  pub derived_typed : (next : Tables) (d : Operator) (ps : List PlainPiece)
+      → next ≡ schema_after before op → derived before op ≡ Some d → AllTyped before ps
+      → AllTyped (schema_after next d) ps
+  derived_typed next d ps n q y = subst (λ (t : Tables). AllTyped t ps)
+      (sym (ap (λ (t : Tables). schema_after t d) n
+      ∙ (leads_by before op (0, 1) (way_back_over before op)
+      (step_leads (0, 1) before op good have accepted) d q).1)) y
+
+pub derived_is : (book : Book) (before next : Tables) (op d : Operator) (ps news : List PlainPiece)
+    (loss : Loss) → next ≡ schema_after before op → derived before op ≡ Some d
+    → news ≡ through book d next ps → news ≡ brought book (step_back loss before op) ps
+derived_is book before next op d ps news loss n q is =
+    is ∙ ap (λ (t : Tables). through book d t ps) n
+    ∙ through_by before op loss book ps (way_back_over before op) d q
+
+pub nothing_is : (book : Book) (before : Tables) (op : Operator) (ps : List PlainPiece)
+    (loss : Loss) → derived before op ≡ None → ps ≡ brought book (step_back loss before op) ps
+nothing_is book before op ps loss q = stays_by before op loss book ps (way_back_over before op) q
+
+-- ---- a table that is not mapped is not lost
+
+pub not_lost : (versions : List PlainVersion) (v q : ℕ) (n : List ℕ) (o : Option Loss)
+    → o ≡ table_loss (lost_names versions v q) n → o ≡ None
+    → get (lost_tables versions v q) n ≡ None
+not_lost versions v q n o e h = not_mapped versions v q n (sym e ∙ h)
+
 -- ---- one version
 
 module _ (vs : List Version) (are : AreVersions None no_tables (map version_of vs)) (k : ℕ)
@@ -183,27 +259,11 @@ module _ (vs : List Version) (are : AreVersions None no_tables (map version_of v
   abbrev pub at : ℕ → Tables
   at j = tables_from no_tables (map version_of vs) j
 
-  here : slice_get (map version_of vs) k ≡ Some (version_of v)
-  here = version_at_place vs k v l e
-
-  sides : Leads (tables_from no_tables (map version_of vs) k)
-      (tables_from no_tables (map version_of vs) (k + 1)) (version_of v)
-  sides = leads None no_tables (map version_of vs) k (version_of v) are
-      (version_at_place vs k v l e)
-
-  -- to the version before
-
-  pub step_valid : (before : Tables) → before ≡ at k → IsValid before
-  step_valid before b = subst IsValid (sym b) (valid_at all are k)
-
-  pub step_accepted : (before : Tables) → before ≡ at k → op_fault before (operator_of v.op) ≡ None
-  step_accepted before b = subst (λ (t : Tables). op_fault t (operator_of v.op) ≡ None) (sym b)
-      sides.accepted
-
   pub step_typed : (before : Tables) (ps : List PlainPiece) → before ≡ at k
       → AllTyped (at (k + 1)) ps → AllTyped (schema_after before (operator_of v.op)) ps
   step_typed before ps b y =
-      subst (λ (t : Tables). AllTyped t ps) (sides.next ∙ sides.tables
+      subst (λ (t : Tables). AllTyped t ps) ((sides vs are k v l e).next
+          ∙ (sides vs are k v l e).tables
       ∙ ap (λ (t : Tables). schema_after t (operator_of v.op)) (sym b)) y
 
   pub step_is : (book : Book) (before : Tables) (ps news : List PlainPiece) → before ≡ at k
@@ -211,28 +271,16 @@ module _ (vs : List Version) (are : AreVersions None no_tables (map version_of v
       → news ≡ to_previous book (map version_of vs) k ps
   step_is book before ps news b is =
       is ∙ ap (λ (t : Tables). through book (operator_of v.op) t ps) b
-      ∙ ap (λ o. taken_back (brought book) (over_version (at k) o) ps) (sym here)
+      ∙ ap (λ o. taken_back (brought book) (over_version (at k) o) ps) (sym (here vs are k v l e))
 
   -- to the next version
 
   pub back_valid : IsValid v.schema
-  back_valid = subst IsValid sides.next (valid_at all are (k + 1))
-
-  pub back_few : HaveFewNodes (operators_of v.inverse.items)
-  back_few = counted_inverse (operator_of v.op) (operators_of v.inverse.items) sides.counted
-
-  pub back_accepted : AllOperatorsAccepted v.schema (operators_of v.inverse.items)
-  back_accepted = step (operators_of v.inverse.items) sides.inverse
-    where
-      step : (ops : List Operator) → inverse_fault (at k) (operator_of v.op) ops ≡ None
-          → AllOperatorsAccepted v.schema ops
-      step [] i = tt
-      step (x ∷ inverse) i = subst (λ (t : Tables). AllOperatorsAccepted t (x ∷ inverse))
-          (sym sides.tables) (accepted_leads_back (at k) (operator_of v.op) x inverse i).0
+  back_valid = subst IsValid (sides vs are k v l e).next (valid_at all are (k + 1))
 
   pub back_typed : (ps : List PlainPiece) → (length v.inverse.items ≡ 0 → ⊥) → AllTyped (at k) ps
       → AllTyped (schema_after_each v.schema (operators_of v.inverse.items)) ps
-  back_typed ps some y = step v.inverse.items some sides.inverse
+  back_typed ps some y = step v.inverse.items some (sides vs are k v l e).inverse
     where
       step : (ops : List Op) → (length ops ≡ 0 → ⊥)
           → inverse_fault (at k) (operator_of v.op) (operators_of ops) ≡ None
@@ -240,28 +288,41 @@ module _ (vs : List Version) (are : AreVersions None no_tables (map version_of v
       step [] s i = absurd (s refl)
       step (x ∷ inverse) s i =
           subst (λ (t : Tables). AllTyped t ps)
-          (sym (ap (λ (t : Tables). schema_after_each t (operators_of (x ∷ inverse))) sides.tables
+          (sym (ap (λ (t : Tables). schema_after_each t (operators_of (x ∷ inverse)))
+              (sides vs are k v l e).tables
           ∙ (accepted_leads_back (at k) (operator_of v.op) (operator_of x) (operators_of inverse)
           i).1)) y
 
-  through_back : (book : Book) (ps : List PlainPiece) (ops : List Operator)
-      → through_each book v.schema ops ps
+  named_back : (book : Book) (ps : List PlainPiece) (ops : List Operator)
+      → (ops ≡ [] → ⊥) → through_each book v.schema ops ps
       ≡ taken_back (brought book) (back_over (k + 1) (at k) (operator_of v.op) v.schema ops) ps
-  through_back book ps [] = refl
-  through_back book ps (x ∷ ops) = refl
+  named_back book ps [] h = absurd (h refl)
+  named_back book ps (x ∷ ops) h = refl
 
-  pub back_is : (book : Book) (ps news : List PlainPiece)
+  pub back_is : (book : Book) (ps news : List PlainPiece) → (length v.inverse.items ≡ 0 → ⊥)
       → news ≡ through_each book v.schema (operators_of v.inverse.items) ps
       → news ≡ to_next book (map version_of vs) k ps
-  back_is book ps news is =
-      is ∙ through_back book ps (operators_of v.inverse.items)
-      ∙ ap (λ o. taken_back (brought book) (back_over_version (k + 1) (at k) o) ps) (sym here)
+  back_is book ps news some is =
+      is ∙ named_back book ps (operators_of v.inverse.items)
+      (λ (e : operators_of v.inverse.items ≡ []). some (sym (length-map v.inverse.items operator_of)
+      ∙ ap length e))
+      ∙ ap (λ o. taken_back (brought book) (back_over_version (k + 1) (at k) o) ps)
+          (sym (here vs are k v l e))
 
-  pub back_stays : (book : Book) (ps : List PlainPiece) → length v.inverse.items ≡ 0
-      → ps ≡ to_next book (map version_of vs) k ps
-  back_stays book ps none = back_is book ps ps (step v.inverse.items none)
+  -- where none is named
+  pub unnamed_is : (book : Book) (before : Tables) (ps news : List PlainPiece) → before ≡ at k
+      → length v.inverse.items ≡ 0
+      → news ≡ brought book (step_back (k + 1, 1) before (operator_of v.op)) ps
+      → news ≡ to_next book (map version_of vs) k ps
+  unnamed_is book before ps news b none is =
+      is ∙ ap (λ (t : Tables). brought book (step_back (k + 1, 1) t (operator_of v.op)) ps) b
+      ∙ step v.inverse.items none
+      ∙ ap (λ o. taken_back (brought book) (back_over_version (k + 1) (at k) o) ps)
+          (sym (here vs are k v l e))
     where
       step : (ops : List Op) → length ops ≡ 0
-          → ps ≡ through_each book v.schema (operators_of ops) ps
+          → brought book (step_back (k + 1, 1) (at k) (operator_of v.op)) ps
+          ≡ taken_back (brought book) (back_over (k + 1) (at k) (operator_of v.op) v.schema
+          (operators_of ops)) ps
       step [] z = refl
       step (x ∷ ops) z = absurd (omega arith)

@@ -4,14 +4,18 @@ use Rattle.relations_spec.specs.Spans.{forever}
 use Rattle.relations_spec.specs.Listing.{IsListing}
 use Rattle.prima_base.specs.Order.{row_cmp}
 use Rattle.prima_base.specs.Keeping.{kept}
+use Rattle.prima_base.specs.declared.value.Value.{Value}
+use Rattle.prima_base.specs.declared.value.ColType.{ColType}
 use Rattle.prima_base.specs.declared.refusal.OpKind.{OpKind}
 use Rattle.prima_base.specs.declared.refusal.Refusal.TheVariants.{NoInverse}
+use Rattle.cond_expr.specs.Kinds.{value_kind}
 use Rattle.smo_ops_types.specs.Commands.{PlainCommand}
 use Rattle.smo_ops_spec.specs.Accepts.{command_fault}
 use Rattle.smo_ops_spec.specs.Past.{beginning, database_at, next_database, past_with}
 use Rattle.temporal_lang_types.specs.Queries.{PlainQuery, slice_of}
 use Rattle.temporal_lang_spec.specs.Accepted.{fault_of_query, HasNoWayBack}
 use Rattle.temporal_lang_spec.specs.Answers.{asked_at, listing, answer}
+use Rattle.temporal_lang_losses_spec.specs.Filled.{asked_with}
 use Rattle.piece_ir_spec.specs.Rules.{Book}
 use Rattle.archive_core_file_spec.specs.LogRecords.{LogRecord, AreEncoded, AreAccepted, AreSound}
 use Rattle.archive_core_file_spec.specs.LogRecords.{past_recorded}
@@ -93,13 +97,22 @@ pub record OutputLaws (book : Book) : Type 0 where
       → let now = recorded_after (given_by limit book) (recorded opening) statements in
       reading text ≡ Whole (explain query) → fault_of_query now.past query ≡ None
       → TellsPieces (given_by limit book) now text query
-  -- A query is refused for want of a way back only by an operator on the way that names no inverse:
-  -- at the least moment of the query's slice at which a table of it is lost, the version that is
-  -- told is gone back over, names none, and loses a table of the query.
+  -- A query is refused for want of a way back only by an operator on the way without a named or
+  -- derived inverse: at the least moment of the query's slice at which an item of it is lost, the
+  -- version that is told is gone back over, names none, its operator has none that is derived, and
+  -- it loses the item: its table, or the first lost column of it that the branch names.
   pub inverse : (limit : Given) (opening : List LogRecord) (statements : List StatementPart)
       (query : PlainQuery) (k : ℕ) (kind : OpKind)
       → let past = (recorded_after limit (recorded opening) statements).past in
       fault_of_query past query ≡ Some (NoInverse k kind) → HasNoWayBack past query k kind
+  -- No answer shows a filling: what a query that is not refused asks of a moment of its slice is
+  -- the same with any other constants in the dropped columns that are filled on the way.
+  pub fillings : (limit : Given) (opening : List LogRecord) (statements : List StatementPart)
+      (query : PlainQuery) (constants : ColType → Value) (m : ℕ) → AreEncoded opening
+      → AreAccepted beginning opening → ((k : ColType) → value_kind (constants k) ≡ k)
+      → let past = (recorded_after limit (recorded opening) statements).past in
+      fault_of_query past query ≡ None → (slice_of query.when).start ≤ m
+      → m < (slice_of query.when).end → asked_at past query m ≡ asked_with constants past query m
   -- a reply counts as an error exactly where its line begins with `error `
   pub errors : (limit : Given) (now : Recorded) (text : List ℕ)
       → (reply limit now text).is_error ≡ is_error_line (reply limit now text).text

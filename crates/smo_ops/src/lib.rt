@@ -19,7 +19,7 @@ pub use effect::{inserted_row, make_set, row_meets, row_value, row_with_sets};
 pub use prima_base::OpRefusal;
 pub use smo_ops_columns::OwnColumns;
 pub use smo_ops_operators::{
-    Made, after, check_inverse, check_way_back, consumed, made, made_of, operator_refusal,
+    Made, after, check_inverse, check_way_back, consumed, derived, made, made_of, operator_refusal,
     schema_after,
 };
 pub use smo_ops_spec::{
@@ -44,5 +44,6 @@ pub use smo_ops_versions_spec::{
     a_lost_table_may_be_taken_for_an_empty_one, copied_and_dropped_is_as_before,
     names_tell_what_is_lost, partitioned_and_merged_is_as_before, renamed_back_is_as_before,
     the_way_is_step_by_step, the_way_keeps_a_database, the_way_keeps_valid_values,
+    what_is_derived_leads_back, what_is_lost_has_no_inverse,
 };
 pub use version::begins_at;

@@ -1,13 +1,15 @@
 //! The schema after a schema modification operator, the tables that one makes, makes them of and
-//! consumes, and whether an inverse leads back.
+//! consumes, whether an inverse leads back, and the one that is derived where none is named.
 #![tactic(auto)]
 
+mod derived_inverse;
 mod inverse;
 mod made_schema;
 mod name;
 mod operator;
 mod touched;
 
+pub use derived_inverse::derived;
 pub use inverse::{check_inverse, check_way_back};
 pub use name::Made;
 pub use operator::{after, operator_refusal, schema_after};

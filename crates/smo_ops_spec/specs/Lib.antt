@@ -11,6 +11,7 @@ pub mod Agreeing
 pub mod OperatorKinds
 pub mod RowMeaning
 pub mod After
+pub mod WaysBack
 pub mod Checks
 pub mod Counts
 pub mod Inverses

@@ -40,6 +40,10 @@ with_column name kind columns = put_in column_cmp (name, kind) columns
 abbrev pub type_of_value : List Column → Tree → ColType
 type_of_value columns t = unwrap_or (kind_of (own_kinds columns) t) INT
 
+-- the names of the columns that both have
+abbrev pub common_names : List Column → List Column → List (List ℕ)
+common_names cs ds = filter (λ n. among n (names_of ds)) (names_of cs)
+
 abbrev pub joined_columns : List Column → List Column → List Column
 joined_columns cs ds = in_order (cs ++ ds)
 

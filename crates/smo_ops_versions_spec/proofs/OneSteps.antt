@@ -17,8 +17,9 @@ use Rattle.smo_ops_spec.specs.Losses.{Loss}
 use Rattle.smo_ops_spec.specs.Past.{no_tables, tables_from}
 use Rattle.smo_ops_spec.proofs.TouchedTables.{lost_others}
 use Rattle.smo_ops_versions_spec.specs.Steps.{carrying, undoing, carrying_each}
-use Rattle.smo_ops_versions_spec.specs.Ways.{back_over, over_version, back_over_version, to_next}
-use Rattle.smo_ops_versions_spec.specs.Ways.{from_next}
+use Rattle.smo_ops_spec.specs.WaysBack.{WayBack, no_way, way_back_over}
+use Rattle.smo_ops_versions_spec.specs.Ways.{step_by, step_back, back_over, over_version}
+use Rattle.smo_ops_versions_spec.specs.Ways.{back_over_version, to_next, from_next}
 use Rattle.smo_ops_versions_spec.specs.Migration.{lost_by, undone}
 
 module _ (versions : List PlainVersion) (k : ℕ) (v : PlainVersion)
@@ -39,9 +40,13 @@ module _ (versions : List PlainVersion) (k : ℕ) (v : PlainVersion)
       ∙ sym (ap (λ (ops : List Operator). carrying_each v.tables ops) e)
 
   pub unnamed_is : v.inverse ≡ []
-      → from_next versions k ≡ undoing (k + 1, 1) (tables_from no_tables versions k) v.op ∷ []
+      → from_next versions k ≡ step_back (k + 1, 1) (tables_from no_tables versions k) v.op ∷ []
   unnamed_is e = back_is ∙ ap (λ (ops : List Operator).
       back_over (k + 1) before v.op v.tables ops) e
+
+  pub no_way_is : v.inverse ≡ [] → way_back_over (tables_from no_tables versions k) v.op ≡ no_way
+      → from_next versions k ≡ undoing (k + 1, 1) (tables_from no_tables versions k) v.op ∷ []
+  no_way_is e n = unnamed_is e ∙ ap (λ (w : WayBack). step_by (k + 1, 1) before v.op w ∷ []) n
 
 -- ---- back over an operator with no inverse, table by table
 

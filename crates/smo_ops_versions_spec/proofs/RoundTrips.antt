@@ -66,7 +66,7 @@ module _ {X : Type 0} where
       step q false e true f = sym (ap (get m) (same_is q t f) ∙ free)
       step q false e false f = refl
 
-  dropped_again : (m : FinMap bytes_cmp X) (t : List ℕ) (x : X) → get m t ≡ None
+  pub dropped_again : (m : FinMap bytes_cmp X) (t : List ℕ) (x : X) → get m t ≡ None
       → remove (insert m t x) t ≡ m
   dropped_again m t x free = same_map nat_list_cmp_total
       (slice_cmp-IsAntisymmetric nat_cmp-IsAntisymmetric) _ _ (λ q.
@@ -120,7 +120,7 @@ free_table : (tables : Tables) (r t : List ℕ) → is_free tables (r ∷ []) t 
 free_table tables r t e d = absent (get tables t)
     (λ h. let k = free_name tables (r ∷ []) t e h in let n = ap (λ b. b || false) d in cc)
 
-new_table : (tables : Tables) (t : List ℕ) → is_free tables [] t ≡ None → get tables t ≡ None
+pub new_table : (tables : Tables) (t : List ℕ) → is_free tables [] t ≡ None → get tables t ≡ None
 new_table tables t e = absent (get tables t) (λ h. let k = free_name tables [] t e h in cc)
 
 no_entry : (o : Option (List Column)) (x : Option DatabaseEntry) → IsEntryOrLost o x → o ≡ None
@@ -139,15 +139,15 @@ itself : (x : DatabaseEntry) → from_one (λ rows. rows) (Some x) ≡ x
 itself (Rows rows) = refl
 itself (Lost k i) = refl
 
-is_there_now : (tables : Tables) (n : List ℕ) → contains_key tables n ≡ true
+pub is_there_now : (tables : Tables) (n : List ℕ) → contains_key tables n ≡ true
     → is_there tables n ≡ None
 is_there_now tables n e = ap (λ b. unless b (NoTable n)) e
 
-named_now : (tables : Tables) (n : List ℕ) (cs : List Column) → get tables n ≡ Some cs
+pub named_now : (tables : Tables) (n : List ℕ) (cs : List Column) → get tables n ≡ Some cs
     → is_there tables n ≡ None
 named_now tables n cs e = is_there_now tables n (ap is_some e)
 
-columns_now : (tables : Tables) (n : List ℕ) (cs : List Column) → get tables n ≡ Some cs
+pub columns_now : (tables : Tables) (n : List ℕ) (cs : List Column) → get tables n ≡ Some cs
     → columns_of tables n ≡ cs
 columns_now tables n cs e = ap (λ o. unwrap_or o []) e
 
@@ -180,7 +180,7 @@ module _ (tables : Tables) (r t : List ℕ) (e : op_fault tables (rename_table r
       ∙ get-remove nat_list_cmp_total tables r r
       ∙ ap (λ (b : Bool). cond b None (get tables r)) (same_itself r)
 
-  back_accepted : op_fault (schema_after tables (rename_table r t)) (rename_table t r) ≡ None
+  pub back_accepted : op_fault (schema_after tables (rename_table r t)) (rename_table t r) ≡ None
   back_accepted = all_met (line (schema_after tables (rename_table r t))
       (rename_table t r)).preconditions (
         named_now (schema_after tables (rename_table r t)) t (columns_of tables r) new_there,
@@ -194,7 +194,8 @@ module _ (tables : Tables) (r t : List ℕ) (e : op_fault tables (rename_table r
         ),
       )
 
-  back_schema : schema_after (schema_after tables (rename_table r t)) (rename_table t r) ≡ tables
+  pub back_schema : schema_after (schema_after tables (rename_table r t)) (rename_table t r)
+      ≡ tables
   back_schema =
       ap (insert (remove (schema_after tables (rename_table r t)) t) r)
       (columns_now (schema_after tables (rename_table r t)) t (columns_of tables r) new_there)
@@ -222,19 +223,23 @@ module _ (tables : Tables) (r t : List ℕ) (e : op_fault tables (rename_table r
 -- ---- COPY TABLE r INTO t, and DROP TABLE t
 
 module _ (tables : Tables) (r t : List ℕ) (e : op_fault tables (copy_table r t) ≡ None) where
-  copy_free : get tables t ≡ None
+  pub copy_free : get tables t ≡ None
   copy_free = new_table tables t (all_preconditions tables (copy_table r t) e).1.0
 
+  pub copy_back_accepted : op_fault (schema_after tables (copy_table r t)) (drop_table t) ≡ None
+  copy_back_accepted = all_met (line (schema_after tables (copy_table r t))
+      (drop_table t)).preconditions (
+        named_now (schema_after tables (copy_table r t)) t (columns_of tables r)
+            (there tables t (columns_of tables r)),
+        tt,
+      )
+
+  pub copy_back_schema : schema_after (schema_after tables (copy_table r t)) (drop_table t) ≡ tables
+  copy_back_schema = dropped_again tables t (columns_of tables r) copy_free
+
   pub copy_inverse : inverse_fault tables (copy_table r t) (drop_table t ∷ []) ≡ None
-  copy_inverse = accepted_so tables (copy_table r t) (drop_table t ∷ []) (
-    all_met (line (schema_after tables (copy_table r t)) (drop_table t)).preconditions (
-      named_now (schema_after tables (copy_table r t)) t (columns_of tables r)
-          (there tables t (columns_of tables r)),
-      tt,
-    ),
-    tt,
-  )
-      (dropped_again tables t (columns_of tables r) copy_free)
+  copy_inverse = accepted_so tables (copy_table r t) (drop_table t ∷ []) (copy_back_accepted, tt)
+      copy_back_schema
 
   pub copy_back : (db : Database) → IsDatabaseWithLosses tables db
       → migrate (schema_after tables (copy_table r t)) (drop_table t)
@@ -317,7 +322,7 @@ module _ (tables : Tables) (r s t : List ℕ) (c : Test)
       (columns_now parts t its (second_part tables its its))
       ∙ ap (λ b. unless b (ColumnsDiffer s t)) (alike_itself its)
 
-  merge_accepted : op_fault parts (merge_table s t r) ≡ None
+  pub merge_accepted : op_fault parts (merge_table s t r) ≡ None
   merge_accepted = all_met (line parts (merge_table s t r)).preconditions (
     named_now parts s its (first_part tables its its),
     (
@@ -326,7 +331,7 @@ module _ (tables : Tables) (r s t : List ℕ) (c : Test)
     ),
   )
 
-  merge_schema : schema_after parts (merge_table s t r) ≡ tables
+  pub merge_schema : schema_after parts (merge_table s t r) ≡ tables
   merge_schema =
       ap (insert (remove (remove parts s) t) r)
       (columns_now parts s its (first_part tables its its))

@@ -17,8 +17,9 @@ use Rattle.smo_ops_spec.specs.After.{op_fault, schema_after, lose_all}
 use Rattle.smo_ops_spec.specs.Losses.{IsEntryOrLost, IsDatabaseWithLosses, Loss}
 use Rattle.smo_ops_spec.specs.Past.{no_tables, tables_from}
 use Rattle.smo_ops_spec.specs.ValidPast.{AreVersions}
-use Rattle.smo_ops_versions_spec.specs.Steps.{Step, carrying, undoing, tables_before, tables_behind}
-use Rattle.smo_ops_versions_spec.specs.Steps.{taken}
+use Rattle.smo_ops_spec.specs.WaysBack.{blank, filled_with}
+use Rattle.smo_ops_versions_spec.specs.Steps.{Step, carrying, filling, undoing, tables_before}
+use Rattle.smo_ops_versions_spec.specs.Steps.{tables_behind, taken}
 use Rattle.smo_ops_versions_spec.specs.Steps.{IsLawful, Lead}
 use Rattle.smo_ops_versions_spec.specs.Ways.{to_next, from_next, way}
 use Rattle.smo_ops_versions_spec.specs.Migration.{lost_by, undone, stepped, migrate_along, back}
@@ -107,6 +108,8 @@ pub step_database : (s : Step) (db : Database) → IsLawful s
     → IsDatabaseWithLosses (tables_behind s) (stepped s db)
 step_database (carrying tables op) db l h = migrated_with_losses tables op db l.valid.schema
     l.accepted h
+step_database (filling loss tables f) db l h =
+    migrated_with_losses tables (filled_with blank f) db l.valid.schema l.accepted h
 step_database (undoing loss tables op) db l h = unnamed_database loss tables op l.accepted db h
 
 pub steps_database : (before after : Tables) (steps : List Step) (db : Database)

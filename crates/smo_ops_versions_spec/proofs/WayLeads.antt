@@ -3,24 +3,43 @@
 use Rattle.std.proofs.Common.{◌≡◌, ◌+◌, ◌-◌, ℕ, zero, suc, Bool, true, false, List, [], ◌∷◌, refl}
 use Rattle.std.proofs.Common.{sym, subst, ◌∙◌, arith}
 use Rattle.std.specs.Prelude.{nat_le, if◌then◌else◌, Option, Some, None, slice_get}
+use Rattle.prima_base.specs.declared.value.ColType.{ColType}
+use Rattle.prima_base.specs.declared.value.ColType.TheVariants.{Int as INT, Text as TEXT}
 use Rattle.schema_catalog.specs.Tables.{Tables}
-use Rattle.smo_ops_types.specs.Operators.{Operator}
+use Rattle.cond_expr.specs.Kinds.{value_kind}
+use Rattle.smo_ops_types.specs.Operators.{Operator, nop, create_table, drop_table, rename_table}
+use Rattle.smo_ops_types.specs.Operators.{copy_table, merge_table, partition_table, decompose_table}
+use Rattle.smo_ops_types.specs.Operators.{join_table, add_column, drop_column, rename_column}
 use Rattle.smo_ops_types.specs.Commands.{PlainVersion}
 use Rattle.smo_ops_spec.specs.After.{op_fault, schema_after, IsValid}
 use Rattle.smo_ops_spec.specs.Inverses.{inverse_fault, schema_after_each, AllOperatorsAccepted}
+use Rattle.std.specs.FinMap.{get}
+use Rattle.smo_ops_spec.specs.Effects.{columns_of}
+use Rattle.smo_ops_spec.specs.Losses.{Loss}
+use Rattle.smo_ops_spec.specs.WaysBack.{WayBack, by_inverse, by_filling, no_way, way_back_over}
+use Rattle.smo_ops_spec.specs.WaysBack.{blank, WayLeadsBack}
 use Rattle.smo_ops_spec.specs.Past.{no_tables, tables_from}
 use Rattle.smo_ops_spec.specs.ValidPast.{AreVersions}
-use Rattle.smo_ops_spec.proofs.NextSchemas.{next_is_valid}
+use Rattle.smo_ops_spec.proofs.NextSchemas.{next_is_valid, all_preconditions, is_table}
+use Rattle.smo_ops_spec.proofs.MetPreconditions.{add_met}
+use Rattle.smo_ops_spec.proofs.WholeTables.{found}
 use Rattle.smo_ops_spec.proofs.PastSteps.{beginning_is_past}
 use Rattle.smo_ops_spec.proofs.VersionsInTurn.{valid_from}
 use Rattle.smo_ops_spec.proofs.ValidInverses.{accepted_leads_back}
 use Rattle.smo_ops_versions_spec.specs.TableColumns.{HaveColumns}
 use Rattle.smo_ops_versions_spec.specs.Steps.{carrying_each, Lead}
-use Rattle.smo_ops_versions_spec.specs.Ways.{back_over, over_version, back_over_version, to_next}
-use Rattle.smo_ops_versions_spec.specs.Ways.{from_next}
+use Rattle.smo_ops_versions_spec.specs.Ways.{step_by, step_back, back_over, over_version, back_over_version}
+use Rattle.smo_ops_versions_spec.specs.Ways.{to_next, from_next}
 use Rattle.smo_ops_versions_spec.specs.Ways.{forward, backward, way}
 use Rattle.smo_ops_versions_spec.proofs.StepLaws.{lead_both}
 use Rattle.smo_ops_versions_spec.proofs.SomeColumns.{no_tables_have, columns_from}
+use Rattle.smo_ops_versions_spec.proofs.RoundTrips.{back_accepted, back_schema, copy_back_accepted}
+use Rattle.smo_ops_versions_spec.proofs.RoundTrips.{copy_back_schema, merge_accepted, merge_schema}
+use Rattle.smo_ops_versions_spec.proofs.WaysBackLaws.{create_back_accepted, create_back_schema}
+use Rattle.smo_ops_versions_spec.proofs.WaysBackLaws.{add_back_accepted, add_back_schema}
+use Rattle.smo_ops_versions_spec.proofs.WaysBackLaws.{fill_accepted}
+use Rattle.smo_ops_versions_spec.proofs.WaysBackLaws.{fill_schema, rename_column_accepted}
+use Rattle.smo_ops_versions_spec.proofs.WaysBackLaws.{rename_column_schema}
 use Rattle.smo_ops_versions_spec.proofs.VersionSteps.{leads, stands}
 
 pub carrying_leads : (tables : Tables) (ops : List Operator) → IsValid tables
@@ -34,11 +53,73 @@ carrying_leads tables (op ∷ ops) good a = (
       (next_is_valid tables op good a.0) a.1,
 )
 
+-- ---- back over one operator
+
+pub each_leads_back : (before : Tables) (op : Operator) → IsValid before → HaveColumns before
+    → op_fault before op ≡ None → WayLeadsBack before op (way_back_over before op)
+each_leads_back before nop good have a = record { accepted = refl; leads = refl }
+each_leads_back before (create_table r cs) good have a = record {
+  accepted = create_back_accepted before r cs a;
+  leads = create_back_schema before r cs a;
+}
+each_leads_back before (drop_table r) good have a = tt
+each_leads_back before (rename_table r t) good have a = record {
+  accepted = back_accepted before r t a;
+  leads = back_schema before r t a;
+}
+each_leads_back before (copy_table r t) good have a = record {
+  accepted = copy_back_accepted before r t a;
+  leads = copy_back_schema before r t a;
+}
+each_leads_back before (merge_table r s t) good have a = tt
+each_leads_back before (partition_table r s c t) good have a = record {
+  accepted = merge_accepted before r s t c a;
+  leads = merge_schema before r s t c a;
+}
+each_leads_back before (decompose_table r s xs t ys) good have a = tt
+each_leads_back before (join_table r s t c) good have a = tt
+each_leads_back before (add_column c e r) good have a = record {
+  accepted = add_back_accepted before c e r a (have r (columns_of before r)
+      (sym (found (get before r)
+      (is_table before r (add_met e (all_preconditions before (add_column c e r) a)).there))));
+  leads = add_back_schema before c e r a;
+}
+each_leads_back before (drop_column c r) good have a = λ v k. record {
+  accepted = fill_accepted before c r a v k good;
+  leads = fill_schema before c r a v k good.schema;
+}
+each_leads_back before (rename_column b r c) good have a = record {
+  accepted = rename_column_accepted before b r c a good;
+  leads = rename_column_schema before b r c a good;
+}
+
+pub blank_kind : (k : ColType) → value_kind (blank k) ≡ k
+blank_kind INT = refl
+blank_kind TEXT = refl
+
+pub step_leads : (loss : Loss) (before : Tables) (op : Operator) → IsValid before
+    → HaveColumns before → op_fault before op ≡ None
+    → Lead (schema_after before op) (step_back loss before op ∷ []) before
+step_leads loss before op good have a =
+    by_way (way_back_over before op) (each_leads_back before op good have a)
+  where
+    next : IsValid (schema_after before op)
+    next = next_is_valid before op good a
+
+    by_way : (way : WayBack) → WayLeadsBack before op way
+        → Lead (schema_after before op) (step_by loss before op way ∷ []) before
+    by_way (by_inverse d) h = (record { valid = next; accepted = h.accepted }, refl, h.leads)
+    by_way (by_filling f) h =
+        let filled = h (blank f.kind) (blank_kind f.kind) in
+        (record { valid = next; accepted = filled.accepted }, refl, filled.leads)
+    by_way no_way h = (record { valid = good; accepted = a }, refl, refl)
+
 back_leads_over : (k : ℕ) (before : Tables) (op : Operator) (inverse : List Operator)
-    → IsValid before → op_fault before op ≡ None → inverse_fault before op inverse ≡ None
+    → IsValid before → HaveColumns before → op_fault before op ≡ None
+    → inverse_fault before op inverse ≡ None
     → Lead (schema_after before op) (back_over k before op (schema_after before op) inverse) before
-back_leads_over k before op [] good a i = (record { valid = good; accepted = a }, refl, refl)
-back_leads_over k before op (x ∷ inverse) good a i =
+back_leads_over k before op [] good have a i = step_leads (k, 1) before op good have a
+back_leads_over k before op (x ∷ inverse) good have a i =
     let r = accepted_leads_back before op x inverse i in
     subst (λ t. Lead (schema_after before op) (carrying_each (schema_after before op)
     (x ∷ inverse)) t) r.1
@@ -78,7 +159,8 @@ module _ (versions : List PlainVersion) (are : AreVersions None no_tables versio
           (sym (s.next ∙ s.tables))
           (subst (λ t. Lead (schema_after (at k) v.op) (back_over (k + 1) (at k) v.op t v.inverse)
           (at k)) (sym s.tables)
-          (back_leads_over (k + 1) (at k) v.op v.inverse (valid_at k) s.accepted s.inverse))
+          (back_leads_over (k + 1) (at k) v.op v.inverse (valid_at k) (columns_at k) s.accepted
+          s.inverse))
 
   forward_leads : (v n : ℕ) → Lead (at v) (forward (to_next versions) v n) (at (v + n))
   forward_leads v zero = (let here : v ≡ v + 0 = omega arith in

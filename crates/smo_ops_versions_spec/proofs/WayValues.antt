@@ -1,10 +1,17 @@
 -- Valid values stay valid on the way.
-use Rattle.std.proofs.Common.{◌+◌, ℕ, zero, suc, true, false, List, [], ◌∷◌, sym, subst}
+use Rattle.std.proofs.Common.{◌+◌, ℕ, zero, suc, true, false, List, [], ◌∷◌, refl, sym, subst}
+use Rattle.std.proofs.Common.{arith}
 use Rattle.std.specs.Prelude.{cond, Option, Some, None, slice_get, ⊤}
 use Rattle.std.specs.FinMap.{get}
 use Rattle.schema_catalog.specs.Tables.{Tables}
 use Rattle.schema_catalog.specs.Databases.{Lost, Database}
-use Rattle.smo_ops_types.specs.Operators.{Operator}
+use Rattle.smo_ops_types.specs.Operators.{Operator, nop, create_table, drop_table, rename_table}
+use Rattle.smo_ops_types.specs.Operators.{copy_table, merge_table, partition_table, decompose_table}
+use Rattle.smo_ops_types.specs.Operators.{join_table, add_column, drop_column, rename_column}
+use Rattle.prima_base.specs.declared.value.ColType.{ColType}
+use Rattle.prima_base.specs.declared.value.ColType.TheVariants.{Int as INT, Text as TEXT}
+use Rattle.prima_base.specs.Columns.{IsValid}
+use Rattle.smo_ops_spec.specs.WaysBack.{blank, filled_with}
 use Rattle.smo_ops_types.specs.Commands.{PlainVersion}
 use Rattle.smo_ops_spec.specs.ValidValues.{EntryHolds, HoldsValues, OperatorHolds, OperatorsHold}
 use Rattle.smo_ops_spec.specs.ValidValues.{VersionsHold}
@@ -13,14 +20,15 @@ use Rattle.smo_ops_spec.specs.OperatorTable.{line, made_names}
 use Rattle.smo_ops_spec.specs.After.{schema_after, lose_all}
 use Rattle.smo_ops_spec.specs.Losses.{Loss}
 use Rattle.smo_ops_spec.specs.Past.{no_tables, tables_from}
-use Rattle.smo_ops_versions_spec.specs.Steps.{Step, carrying, undoing, carrying_each, AllSteps}
-use Rattle.smo_ops_versions_spec.specs.Steps.{StepHolds}
-use Rattle.smo_ops_versions_spec.specs.Ways.{back_over, over_version, back_over_version, to_next}
-use Rattle.smo_ops_versions_spec.specs.Ways.{from_next}
+use Rattle.smo_ops_versions_spec.specs.Steps.{Step, carrying, filling, undoing, carrying_each}
+use Rattle.smo_ops_versions_spec.specs.Steps.{AllSteps, StepHolds}
+use Rattle.smo_ops_versions_spec.specs.Ways.{step_back, back_over, over_version, back_over_version}
+use Rattle.smo_ops_versions_spec.specs.Ways.{to_next, from_next}
 use Rattle.smo_ops_versions_spec.specs.Ways.{way}
 use Rattle.smo_ops_versions_spec.specs.Migration.{lost_by, stepped, migrate_along, back}
 use Rattle.smo_ops_versions_spec.specs.Migration.{migrated_from}
 use Rattle.smo_ops_spec.proofs.ValueLaws.{less_valid, migrated_values}
+use Rattle.cond_expr.proofs.ConstantLaws.{small_number}
 use Rattle.smo_ops_versions_spec.proofs.StepLaws.{taken_kept}
 use Rattle.smo_ops_versions_spec.proofs.WaySteps.{way_all}
 use Rattle.smo_ops_versions_spec.proofs.WayDatabases.{lost_by_at}
@@ -34,9 +42,15 @@ lost_values loss names db h n =
       | false ↦ h n
     ])
 
+pub blank_is_valid : (k : ColType) → IsValid (blank k)
+blank_is_valid INT = small_number 0 (omega arith)
+blank_is_valid TEXT = (omega arith, refl)
+
 pub step_values : (s : Step) (db : Database) → StepHolds s → HoldsValues db
     → HoldsValues (stepped s db)
 step_values (carrying tables op) db g h = migrated_values tables op db g h
+step_values (filling loss tables f) db g h =
+    migrated_values tables (filled_with blank f) db (blank_is_valid f.kind) h
 step_values (undoing loss before op) db g h =
     lost_values loss (line before op).consumed (lose_all (made_names (line before op).made) db)
     (less_valid (made_names (line before op).made) db h)
@@ -48,9 +62,23 @@ pub each_hold : (tables : Tables) (ops : List Operator) → OperatorsHold ops
 each_hold tables [] h = tt
 each_hold tables (op ∷ ops) h = (h.0, each_hold (schema_after tables op) ops h.1)
 
+step_holds : (loss : Loss) (before : Tables) (op : Operator) → StepHolds (step_back loss before op)
+step_holds loss before nop = tt
+step_holds loss before (create_table r cs) = tt
+step_holds loss before (drop_table r) = tt
+step_holds loss before (rename_table r t) = tt
+step_holds loss before (copy_table r t) = tt
+step_holds loss before (merge_table r s t) = tt
+step_holds loss before (partition_table r s c t) = tt
+step_holds loss before (decompose_table r s xs t ys) = tt
+step_holds loss before (join_table r s t c) = tt
+step_holds loss before (add_column c e r) = tt
+step_holds loss before (drop_column c r) = tt
+step_holds loss before (rename_column b r c) = tt
+
 back_hold : (k : ℕ) (before : Tables) (op : Operator) (after : Tables) (inverse : List Operator)
     → OperatorsHold inverse → AllSteps StepHolds (back_over k before op after inverse)
-back_hold k before op after [] h = (tt, tt)
+back_hold k before op after [] h = (step_holds (k, 1) before op, tt)
 back_hold k before op after (i ∷ inverse) h = each_hold after (i ∷ inverse) h
 
 -- the constants of a version, where there is one

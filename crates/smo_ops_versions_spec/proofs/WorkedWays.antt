@@ -23,7 +23,7 @@ use Rattle.smo_ops_spec.specs.After.{schema_after}
 use Rattle.smo_ops_spec.specs.Counts.{first_excess}
 use Rattle.smo_ops_spec.specs.Past.{no_tables}
 use Rattle.smo_ops_versions_spec.specs.Migration.{migrated_from}
-use Rattle.smo_ops_versions_spec.specs.LostNames.{lost_names}
+use Rattle.smo_ops_versions_spec.specs.LostTables.{lost_tables}
 use Rattle.smo_ops_versions_spec.proofs.WorkedWords.{a, r, s, t, u, int, text, at_atom, a_columns}
 use Rattle.smo_ops_versions_spec.proofs.WorkedWords.{t_there}
 use Rattle.smo_ops_versions_spec.proofs.WorkedWords.{s_there, u_there, r_there, r_under_s}
@@ -320,13 +320,13 @@ dropped_versions = record {
 lost_table : (db : Database) → get (migrated_from dropped_versions 2 1 db) t ≡ Some (Lost 2 1)
 lost_table db = t_there db (Lost 2 1)
 
-lost_name : get (lost_names dropped_versions 2 1) t ≡ Some (2, 1)
+lost_name : get (lost_tables dropped_versions 2 1) t ≡ Some (2, 1)
 lost_name = t_there empty (2, 1)
 
 -- from version 3 too, whose table of this name goes away first
-lost_further : get (lost_names dropped_versions 3 1) t ≡ Some (2, 1)
+lost_further : get (lost_tables dropped_versions 3 1) t ≡ Some (2, 1)
 lost_further = t_there (remove empty t) (2, 1)
 
 -- forward it is gone, and then empty, and not lost
-not_lost_forward : get (lost_names dropped_versions 1 3) t ≡ None
+not_lost_forward : get (lost_tables dropped_versions 1 3) t ≡ None
 not_lost_forward = get-remove nat_list_cmp_total (remove empty t) t t

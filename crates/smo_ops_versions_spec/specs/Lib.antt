@@ -2,6 +2,8 @@ pub mod TableColumns
 pub mod Steps
 pub mod Ways
 pub mod Migration
+pub mod LostTables
+pub mod ColumnLosses
 pub mod LostNames
 pub mod LostAsEmpty
 pub mod Lifelines

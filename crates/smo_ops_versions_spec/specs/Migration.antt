@@ -1,6 +1,8 @@
 -- Databases on the way from one version to another.
 use Rattle.std.specs.Prelude.{ℕ, List, [], ◌∷◌}
 use Rattle.std.specs.FinMap.{insert}
+use Rattle.prima_base.specs.declared.value.Value.{Value}
+use Rattle.prima_base.specs.declared.value.ColType.{ColType}
 use Rattle.schema_catalog.specs.Tables.{Tables}
 use Rattle.schema_catalog.specs.Databases.{Lost, Database}
 use Rattle.smo_ops_types.specs.Operators.{Operator}
@@ -9,7 +11,9 @@ use Rattle.smo_ops_spec.specs.OperatorTable.{line, made_names}
 use Rattle.smo_ops_spec.specs.After.{migrate, lose_all}
 use Rattle.smo_ops_spec.specs.Losses.{Loss}
 use Rattle.smo_ops_spec.specs.Past.{Past, version_at, database_at}
-use Rattle.smo_ops_versions_spec.specs.Steps.{Step, carrying, undoing, carrying_each, taken}
+use Rattle.smo_ops_versions_spec.specs.Steps.{Step, carrying, filling, undoing, carrying_each}
+use Rattle.smo_ops_versions_spec.specs.Steps.{taken}
+use Rattle.smo_ops_spec.specs.WaysBack.{blank, filled_with}
 use Rattle.smo_ops_versions_spec.specs.Ways.{to_next, from_next, way}
 
 -- these have this loss
@@ -23,10 +27,14 @@ abbrev pub undone : Loss → Tables → Operator → Database → Database
 undone loss before op db =
     lost_by loss (line before op).consumed (lose_all (made_names (line before op).made) db)
 
--- a database over one step
+-- a database over one step, where a dropped column is filled with the constant of its type
+abbrev pub stepped_with : (ColType → Value) → Step → Database → Database
+stepped_with constants (carrying tables op) db = migrate tables op db
+stepped_with constants (filling loss tables f) db = migrate tables (filled_with constants f) db
+stepped_with constants (undoing loss before op) db = undone loss before op db
+
 abbrev pub stepped : Step → Database → Database
-stepped (carrying tables op) db = migrate tables op db
-stepped (undoing loss before op) db = undone loss before op db
+stepped = stepped_with blank
 
 -- a database carried over operators, first to last
 abbrev pub migrate_over : Tables → List Operator → Database → Database

@@ -7,13 +7,25 @@ use Rattle.std.specs.Prelude.{slice_get, if◌then◌else◌}
 use Rattle.schema_catalog.specs.Tables.{Tables}
 use Rattle.smo_ops_types.specs.Operators.{Operator}
 use Rattle.smo_ops_types.specs.Commands.{PlainVersion}
+use Rattle.smo_ops_spec.specs.After.{schema_after}
+use Rattle.smo_ops_spec.specs.Losses.{Loss}
 use Rattle.smo_ops_spec.specs.Past.{no_tables, tables_from}
-use Rattle.smo_ops_versions_spec.specs.Steps.{Step, carrying, undoing, carrying_each}
+use Rattle.smo_ops_spec.specs.WaysBack.{WayBack, by_inverse, by_filling, no_way, way_back_over}
+use Rattle.smo_ops_versions_spec.specs.Steps.{Step, carrying, filling, undoing, carrying_each}
+
+-- back over one operator, which stands after the tables `before`, where no inverse is named
+abbrev pub step_by : Loss → Tables → Operator → WayBack → Step
+step_by loss before op (by_inverse inverse) = carrying (schema_after before op) inverse
+step_by loss before op (by_filling f) = filling loss (schema_after before op) f
+step_by loss before op no_way = undoing loss before op
+
+abbrev pub step_back : Loss → Tables → Operator → Step
+step_back loss before op = step_by loss before op (way_back_over before op)
 
 -- Back over the operator of version k: over the operators of its inverse, first to last, where one
 -- is named. `before` and `after` are the tables on its two sides.
 abbrev pub back_over : ℕ → Tables → Operator → Tables → List Operator → List Step
-back_over k before op after [] = undoing (k, 1) before op ∷ []
+back_over k before op after [] = step_back (k, 1) before op ∷ []
 back_over k before op after (i ∷ inverse) = carrying_each after (i ∷ inverse)
 
 -- over the operator of a version after the tables, and back over it; where there is no such

@@ -15,5 +15,6 @@ pub use round_trip::{
 pub use way_laws::{
     a_lost_table_may_be_taken_for_an_empty_one, a_step_is_over_its_version,
     each_table_has_a_column, names_tell_what_is_lost, the_way_is_step_by_step,
-    the_way_keeps_a_database, the_way_keeps_valid_values, what_is_lost_has_no_named_inverse,
+    the_way_keeps_a_database, the_way_keeps_valid_values, what_is_derived_leads_back,
+    what_is_lost_has_no_inverse, what_is_lost_is_lost_from_later_versions,
 };

@@ -11,14 +11,17 @@ ghost use Rattle.smo_ops_spec.specs.After.{op_fault, schema_after, migrate, IsVa
 ghost use Rattle.smo_ops_spec.specs.Past.{no_tables, tables_from};
 ghost use Rattle.smo_ops_spec.specs.ValidPast.{AreVersions};
 ghost use Rattle.smo_ops_spec.specs.ValidValues.{HoldsValues, VersionsHold};
+ghost use Rattle.smo_ops_spec.specs.WaysBack.{no_way, way_back_over, WayLeadsBack};
 ghost use Rattle.smo_ops_versions_spec.specs.TableColumns.{HaveColumns};
 ghost use Rattle.smo_ops_versions_spec.specs.Steps.{carrying_each, taken};
 ghost use Rattle.smo_ops_versions_spec.specs.Ways.{to_next, from_next};
 ghost use Rattle.smo_ops_versions_spec.specs.Migration.{migrate_over, migrate_along, back};
 ghost use Rattle.smo_ops_versions_spec.specs.Migration.{migrated_from};
-ghost use Rattle.smo_ops_versions_spec.specs.LostNames.{Losses, AreLosses, losses_stepped};
-ghost use Rattle.smo_ops_versions_spec.specs.LostNames.{losses_over};
-ghost use Rattle.smo_ops_versions_spec.specs.LostNames.{losses_undone, lost_names, IsUnnamed};
+ghost use Rattle.smo_ops_versions_spec.specs.LostTables.{LostTables, AreLosses, lost_stepped};
+ghost use Rattle.smo_ops_versions_spec.specs.LostTables.{lost_over};
+ghost use Rattle.smo_ops_versions_spec.specs.LostTables.{lost_undone, lost_tables};
+ghost use Rattle.smo_ops_versions_spec.specs.ColumnLosses.{table_loss, column_loss, NothingLost};
+ghost use Rattle.smo_ops_versions_spec.specs.LostNames.{lost_names, IsUnnamed};
 ghost use Rattle.smo_ops_versions_spec.specs.LostAsEmpty.{whole};
 
 /// The way from version to version, one step at a time and by way of a version between: to where
@@ -46,13 +49,13 @@ pub fn the_way_is_step_by_step()
         → migrated_from versions v q database
         ≡ migrated_from versions m q (migrated_from versions v m database) }
     ensures losses_stay { (versions : List PlainVersion) → (v : ℕ)
-        → lost_names versions v v ≡ empty }
+        → lost_tables versions v v ≡ empty }
     ensures losses_forward { (versions : List PlainVersion) → (v : ℕ) → (q : ℕ) → v ≤ q
-        → lost_names versions v (q + 1)
-        ≡ taken losses_stepped (to_next versions q) (lost_names versions v q) }
+        → lost_tables versions v (q + 1)
+        ≡ taken lost_stepped (to_next versions q) (lost_tables versions v q) }
     ensures losses_back { (versions : List PlainVersion) → (v : ℕ) → (q : ℕ) → q < v
-        → lost_names versions v q
-        ≡ taken losses_stepped (from_next versions q) (lost_names versions v (q + 1)) }
+        → lost_tables versions v q
+        ≡ taken lost_stepped (from_next versions q) (lost_tables versions v (q + 1)) }
 {}
 
 /// What one step of a way is, at the version number `k + 1`, the one after the tables of version
@@ -78,33 +81,37 @@ pub fn a_step_is_over_its_version()
     ensures lost { (versions : List PlainVersion) → (k : ℕ) → (v : PlainVersion)
         → (database : Database) → (n : List ℕ)
         → slice_get versions k ≡ Some v → v.inverse ≡ []
+        → way_back_over (tables_from no_tables versions k) v.op ≡ no_way
         → consumes (tables_from no_tables versions k) v.op n ≡ true
         → get (back versions k database) n ≡ Some (Lost (k + 1) 1) }
     ensures gone { (versions : List PlainVersion) → (k : ℕ) → (v : PlainVersion)
         → (database : Database) → (n : List ℕ)
         → slice_get versions k ≡ Some v → v.inverse ≡ []
+        → way_back_over (tables_from no_tables versions k) v.op ≡ no_way
         → makes (tables_from no_tables versions k) v.op n ≡ true
         → consumes (tables_from no_tables versions k) v.op n ≡ false
         → get (back versions k database) n ≡ None }
     ensures others { (versions : List PlainVersion) → (k : ℕ) → (v : PlainVersion)
         → (database : Database) → (n : List ℕ)
         → slice_get versions k ≡ Some v → v.inverse ≡ []
+        → way_back_over (tables_from no_tables versions k) v.op ≡ no_way
         → makes (tables_from no_tables versions k) v.op n ≡ false
         → consumes (tables_from no_tables versions k) v.op n ≡ false
         → get (back versions k database) n ≡ get database n }
     ensures losses_over { (versions : List PlainVersion) → (k : ℕ) → (v : PlainVersion)
-        → (losses : Losses) → slice_get versions k ≡ Some v
-        → taken losses_stepped (to_next versions k) losses
-        ≡ losses_over (tables_from no_tables versions k) v.op losses }
+        → (losses : LostTables) → slice_get versions k ≡ Some v
+        → taken lost_stepped (to_next versions k) losses
+        ≡ lost_over (tables_from no_tables versions k) v.op losses }
     ensures losses_named { (versions : List PlainVersion) → (k : ℕ) → (v : PlainVersion)
-        → (losses : Losses) → (op : Operator) → (rest : List Operator)
+        → (losses : LostTables) → (op : Operator) → (rest : List Operator)
         → slice_get versions k ≡ Some v → v.inverse ≡ op ∷ rest
-        → taken losses_stepped (from_next versions k) losses
-        ≡ taken losses_stepped (carrying_each v.tables v.inverse) losses }
+        → taken lost_stepped (from_next versions k) losses
+        ≡ taken lost_stepped (carrying_each v.tables v.inverse) losses }
     ensures losses_undone { (versions : List PlainVersion) → (k : ℕ) → (v : PlainVersion)
-        → (losses : Losses) → slice_get versions k ≡ Some v → v.inverse ≡ []
-        → taken losses_stepped (from_next versions k) losses
-        ≡ losses_undone (k + 1, 1) (tables_from no_tables versions k) v.op losses }
+        → (losses : LostTables) → slice_get versions k ≡ Some v → v.inverse ≡ []
+        → way_back_over (tables_from no_tables versions k) v.op ≡ no_way
+        → taken lost_stepped (from_next versions k) losses
+        ≡ lost_undone (k + 1, 1) (tables_from no_tables versions k) v.op losses }
 {}
 
 /// What is taken along the versions of a past is a database of the version that is reached, in
@@ -139,20 +146,51 @@ pub fn the_way_keeps_valid_values()
         → VersionsHold versions → HoldsValues database → HoldsValues (back versions k database) }
 {}
 
-/// The tables that are lost on the way from one version to another, by names alone, are just those
-/// that are lost in a database of the first that is taken along, each by the same loss.
+/// The tables that are lost in a database on the way from one version to another are told by names
+/// alone, each with its loss. A table that is not mapped by the losses of tables and columns is none
+/// of them.
 pub fn names_tell_what_is_lost()
-    ensures { (versions : List PlainVersion) → (v : ℕ) → (q : ℕ) → (database : Database)
+    ensures database { (versions : List PlainVersion) → (v : ℕ) → (q : ℕ) → (database : Database)
         → IsDatabase (tables_from no_tables versions v) database
-        → AreLosses (lost_names versions v q) (migrated_from versions v q database) }
+        → AreLosses (lost_tables versions v q) (migrated_from versions v q database) }
+    ensures mapped { (versions : List PlainVersion) → (v : ℕ) → (q : ℕ) → (n : List ℕ)
+        → table_loss (lost_names versions v q) n ≡ None
+        → get (lost_tables versions v q) n ≡ None }
 {}
 
-/// A table that is lost on the way from one version to another is lost by a version that is gone
-/// back over on that way, and that names no inverse. So nothing is lost on the way forward, nor
-/// back over versions that name their inverses.
-pub fn what_is_lost_has_no_named_inverse()
-    ensures { (versions : List PlainVersion) → (v : ℕ) → (q : ℕ) → (n : List ℕ) → (loss : Loss)
-        → get (lost_names versions v q) n ≡ Some loss → IsUnnamed versions v q loss }
+/// A table or a column that is lost on the way from one version to another is lost by a version that
+/// is gone back over on that way, that names no inverse, and whose operator has no derived one. So
+/// nothing is lost on the way forward, nor back over versions with a named or a derived inverse.
+pub fn what_is_lost_has_no_inverse()
+    ensures table { (versions : List PlainVersion) → (v : ℕ) → (q : ℕ) → (n : List ℕ)
+        → (loss : Loss)
+        → table_loss (lost_names versions v q) n ≡ Some loss → IsUnnamed versions v q loss }
+    ensures column { (versions : List PlainVersion) → (v : ℕ) → (q : ℕ) → (n : List ℕ)
+        → (c : List ℕ) → (loss : Loss)
+        → column_loss (lost_names versions v q) n c ≡ Some loss → IsUnnamed versions v q loss }
+{}
+
+/// What is lost on the way back to a version is lost on the way from each later version too, be it a
+/// table or a column; and forward nothing is lost.
+pub fn what_is_lost_is_lost_from_later_versions()
+    ensures table { (versions : List PlainVersion) → (w : ℕ) → (v : ℕ) → (q : ℕ) → (n : List ℕ)
+        → q ≤ v → v ≤ w → table_loss (lost_names versions w q) n ≡ None
+        → table_loss (lost_names versions v q) n ≡ None }
+    ensures column { (versions : List PlainVersion) → (w : ℕ) → (v : ℕ) → (q : ℕ) → (n : List ℕ)
+        → (c : List ℕ)
+        → q ≤ v → v ≤ w → table_loss (lost_names versions w q) n ≡ None
+        → column_loss (lost_names versions w q) n c ≡ None
+        → column_loss (lost_names versions v q) n c ≡ None }
+    ensures forward { (versions : List PlainVersion) → (v : ℕ) → (q : ℕ) → v ≤ q
+        → NothingLost (lost_names versions v q) }
+{}
+
+/// Where each table has a column, and so it is behind each accepted operator, a derived inverse is
+/// accepted behind its operator and leads back to the tables before it, and so does the filling of
+/// a dropped column by any constant of the column's type.
+pub fn what_is_derived_leads_back()
+    ensures { (before : Tables) → (op : Operator) → IsValid before → HaveColumns before
+        → op_fault before op ≡ None → WayLeadsBack before op (way_back_over before op) }
 {}
 
 /// Each table of an accepted schema has a column: none of no tables lacks one, each operator that

@@ -30,7 +30,7 @@ pub use temporal_lang_grammar_spec::{
     overflows_tell_what_is_too_much, queries_are_correct, queries_are_one,
 };
 pub use temporal_lang_spec::{
-    a_query_is_refused_for_want_of_a_named_inverse_alone, first_loss_is_at_the_least_moment,
+    a_query_is_refused_for_want_of_an_inverse_alone, first_loss_is_at_the_least_moment,
     listing_is_the_one_list,
 };
 pub use temporal_lang_types::{AggItem, Branch, Query, Relation, When, slice};

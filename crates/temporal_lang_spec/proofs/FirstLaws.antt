@@ -5,7 +5,7 @@ use Rattle.std.specs.Option.{option_or}
 use Rattle.smo_ops_spec.specs.Past.{Past}
 use Rattle.smo_ops_spec.specs.Losses.{Loss}
 use Rattle.temporal_lang_types.specs.Queries.{PlainQuery, slice_of}
-use Rattle.temporal_lang_spec.specs.Losing.{loss_at, first_from, first_lost}
+use Rattle.temporal_lang_spec.specs.Losing.{loss_then, first_from, first_loss_of}
 
 module _ {X : Type 0} (at : ℕ → Option X) where
   later : (m n : ℕ) → at m ≡ None → first_from at m (suc n) ≡ first_from at (m + 1) n
@@ -38,28 +38,28 @@ module _ {X : Type 0} (at : ℕ → Option X) where
       later m n (ap at (omega arith) ∙ none 0 (omega arith))
       ∙ first_none (m + 1) n (λ j k. ap at (sym (moved m j)) ∙ none (suc j) (omega arith))
 
--- ---- of a query
+-- ---- of a query whose references are to items
 
 from_start : (a m : ℕ) → a ≤ m → a + (m - a) ≡ m
 from_start a m l = omega arith
 
 pub least_loss : (past : Past) (query : PlainQuery) (m : ℕ) (loss : Loss)
     → (slice_of query.when).start ≤ m → m < (slice_of query.when).end
-    → ((n : ℕ) → (slice_of query.when).start ≤ n → n < m → loss_at past query n ≡ None)
-    → loss_at past query m ≡ Some loss → first_lost past query ≡ Some loss
+    → ((n : ℕ) → (slice_of query.when).start ≤ n → n < m → loss_then past query n ≡ None)
+    → loss_then past query m ≡ Some loss → first_loss_of past query ≡ Some loss
 least_loss past query m loss a b none some =
     let from : ℕ = (slice_of query.when).start in
     let to : ℕ = (slice_of query.when).end in
-    first_is (loss_at past query) from (to - from) (m - from) loss (omega (arith, a, b))
+    first_is (loss_then past query) from (to - from) (m - from) loss (omega (arith, a, b))
     (λ j l. none (from + j) (omega arith) (omega (arith, a, l)))
-    (ap (loss_at past query) (from_start from m a) ∙ some)
+    (ap (loss_then past query) (from_start from m a) ∙ some)
 
 pub no_loss : (past : Past) (query : PlainQuery)
     → ((n : ℕ) → (slice_of query.when).start ≤ n → n < (slice_of query.when).end
-    → loss_at past query n ≡ None)
-    → first_lost past query ≡ None
+    → loss_then past query n ≡ None)
+    → first_loss_of past query ≡ None
 no_loss past query none =
     let from : ℕ = (slice_of query.when).start in
     let to : ℕ = (slice_of query.when).end in
-    first_none (loss_at past query) from (to - from)
+    first_none (loss_then past query) from (to - from)
     (λ j l. none (from + j) (omega arith) (omega (arith, l)))

@@ -1,6 +1,7 @@
 pub mod Slicing
 pub mod StageLaws
 pub mod FirstLaws
+pub mod ItemsLost
 pub mod WayBackLaws
 pub mod FillLaws
 pub mod KnownLaws

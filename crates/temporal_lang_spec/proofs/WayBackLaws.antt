@@ -1,12 +1,12 @@
--- A query is refused for want of a way back only where at a moment of its slice a table of it is
--- lost by a version that is gone back over and names no inverse.
+-- A query is refused for want of a way back only where at a moment of its slice an item of it is
+-- lost by a version that is gone back over, names no inverse and has none that is derived.
 use Rattle.std.specs.Prelude.{◌≡◌, ℕ, zero, suc, ◌+◌, ◌-◌, ◌<◌, ◌≤◌, List, [], ◌∷◌, ◌++◌, Bool}
 use Rattle.std.specs.Prelude.{true, false, map, length, nat_le, nat_lt, Option, Some, None}
 use Rattle.std.specs.Prelude.{slice_get, ⊤}
-use Rattle.std.specs.List.{flat_map, find}
-use Rattle.std.specs.FinMap.{get, contains_key}
+use Rattle.std.specs.List.{filter, flat_map, find}
+use Rattle.std.specs.FinMap.{contains_key}
 use Rattle.std.specs.Option.{option_or, option_map}
-use Rattle.std.proofs.Common.{refl, sym, ap, ◌∙◌, ◌⊎◌, arith, inl, inr}
+use Rattle.std.proofs.Common.{refl, sym, ap, subst, ◌∙◌, ◌⊎◌, arith, inl, inr}
 use Rattle.std.proofs.lemmas.Option.{same_Some}
 use Rattle.relations_spec.specs.Sets.{In}
 use Rattle.prima_base.specs.declared.value.ColType.{ColType}
@@ -22,6 +22,7 @@ use Rattle.schema_catalog.specs.Tables.{Tables}
 use Rattle.cond_expr.specs.declared.expr.ColRef.{ColRef}
 use Rattle.cond_expr.specs.declared.expr.Whose.{Whose}
 use Rattle.cond_expr.specs.declared.expr.Whose.TheVariants.{Free, Alias, Atom}
+use Rattle.cond_expr.specs.References.{is_to, written_names}
 use Rattle.cond_expr.specs.Trees.{Tree}
 use Rattle.cond_expr.specs.Kinds.{Kinds}
 use Rattle.cond_expr.specs.Sizes.{nodes_of}
@@ -31,10 +32,15 @@ use Rattle.smo_ops_spec.specs.Checks.{Fault}
 use Rattle.smo_ops_spec.specs.Counts.{Excess}
 use Rattle.smo_ops_spec.specs.Preconditions.{among}
 use Rattle.smo_ops_spec.specs.Past.{Past, version_at, tables_of}
-use Rattle.smo_ops_spec.specs.Losses.{Loss, first_loss}
-use Rattle.smo_ops_versions_spec.specs.LostNames.{lost_names}
-use Rattle.smo_ops_versions_spec.proofs.LossCauses.{loss_cause}
+use Rattle.smo_ops_types.specs.Commands.{PlainVersion}
+use Rattle.smo_ops_spec.specs.Losses.{Loss}
+use Rattle.smo_ops_spec.specs.WaysBack.{way_back_over}
+use Rattle.smo_ops_spec.proofs.Firsts.{first_after, first_before}
+use Rattle.smo_ops_versions_spec.specs.ColumnLosses.{Losses, table_loss, column_loss}
+use Rattle.smo_ops_versions_spec.specs.LostNames.{first_named, lost_names, Loses, IsUnnamed}
+use Rattle.smo_ops_versions_spec.proofs.LossCauses.{one_is_first, table_cause, column_cause}
 use Rattle.plain_answers_spec.specs.Branches.{Item, PlainBranch}
+use Rattle.plain_answers_spec.specs.Naming.{all_references}
 use Rattle.temporal_lang_types.specs.declared.when.When.{When}
 use Rattle.temporal_lang_types.specs.declared.when.When.TheVariants.{Always, AsOf, During}
 use Rattle.temporal_lang_spec.specs.Atoms.{Source, sources_of, has_column, has_alias, atom_kinds}
@@ -48,7 +54,8 @@ use Rattle.temporal_lang_spec.specs.Checking.{types_from, output_kinds, alike, a
 use Rattle.temporal_lang_spec.specs.Checking.{arities}
 use Rattle.temporal_lang_spec.specs.Checking.{when_fault, keep_fault, query_tests}
 use Rattle.temporal_lang_spec.specs.Checking.{excess_fault, excess_of}
-use Rattle.temporal_lang_spec.specs.Losing.{query_tables, loss_at, first_from, first_lost}
+use Rattle.temporal_lang_spec.specs.Losing.{item_loss, items_from, branch_losses, items_loss}
+use Rattle.temporal_lang_spec.specs.Losing.{loss_at, first_from, first_lost, query_asked}
 use Rattle.temporal_lang_spec.specs.Accepted.{version_kind, no_way_back, loss_fault, version_fault}
 use Rattle.temporal_lang_spec.specs.Accepted.{fault_of_query, HasNoWayBack}
 
@@ -263,19 +270,90 @@ module _ {X : Type 0} (at : ℕ → Option X) where
   is_first m zero x e = absurd (cc)
   is_first m (suc n) x e = here_or_later m n x (at m) refl (is_first (m + 1) n x) e
 
--- the first loss of several is that of one of them
-first_or_later : (loss : List ℕ → Option Loss) (n : List ℕ) (names : List (List ℕ)) (l : Loss)
-    → (first_loss loss names ≡ Some l → (m : List ℕ) × In m names × (loss m ≡ Some l))
-    → (o : Option Loss) → loss n ≡ o → option_or o (first_loss loss names) ≡ Some l → (m : List ℕ)
-    × In m (n ∷ names) × (loss m ≡ Some l)
-first_or_later loss n names l rest None p q = let r = rest q in (r.0, inr r.1, r.2)
-first_or_later loss n names l rest (Some k) p q = (n, inl refl, p ∙ q)
+-- ---- the loss of a query is that of one of its items
 
-one_of_them : (loss : List ℕ → Option Loss) (names : List (List ℕ)) (l : Loss)
-    → first_loss loss names ≡ Some l → (m : List ℕ) × In m names × (loss m ≡ Some l)
-one_of_them loss [] l e = absurd (cc)
-one_of_them loss (n ∷ names) l e = first_or_later loss n names l (one_of_them loss names l) (loss n)
-    refl e
+-- one of the items of a branch, which has this loss
+abbrev IsItem : Losses → PlainBranch → ℕ → List Item → Loss → Type 0
+IsItem losses b n from l = (i : ℕ) × (item : Item) × (slice_get from i ≡ Some item)
+    × (item_loss losses b (n + i) item.0 ≡ Some l)
+
+later_item : (losses : Losses) (b : PlainBranch) (n : ℕ) (x : Item) (from : List Item) (l : Loss)
+    → IsItem losses b (n + 1) from l → IsItem losses b n (x ∷ from) l
+later_item losses b n x from l h = (
+  suc h.0,
+  h.1,
+  h.2,
+  ap (λ k. item_loss losses b k h.1.0) (let e : n + suc h.0 ≡ n + 1 + h.0 = omega arith in e) ∙ h.3,
+)
+
+item_of : (losses : Losses) (b : PlainBranch) (n : ℕ) (from : List Item) (l : Loss)
+    → first_refusal (items_from losses b n from) ≡ Some l → IsItem losses b n from l
+item_of losses b n [] l e = absurd (cc)
+item_of losses b n (x ∷ from) l e = step (item_loss losses b n x.0) refl
+    (item_of losses b (n + 1) from l) e
+  where
+    step : (o : Option Loss) → item_loss losses b n x.0 ≡ o
+        → (first_refusal (items_from losses b (n + 1) from) ≡ Some l
+        → IsItem losses b (n + 1) from l)
+        → first_refusal (o ∷ items_from losses b (n + 1) from) ≡ Some l
+        → IsItem losses b n (x ∷ from) l
+    step None p more q = later_item losses b n x from l (more q)
+    step (Some k) p more q = (
+      0,
+      x,
+      refl,
+      ap (λ m. item_loss losses b m x.0) (let z : n + 0 ≡ n = omega arith in z) ∙ p ∙ q,
+    )
+
+-- one of the branches, and an item of it
+abbrev IsItemOf : Losses → List PlainBranch → Loss → Type 0
+IsItemOf losses branches l = (b : PlainBranch) × In b branches × (i : ℕ) × (item : Item)
+    × (slice_get b.from i ≡ Some item) × (item_loss losses b i item.0 ≡ Some l)
+
+from_nought : (i : ℕ) → i ≡ 0 + i
+from_nought i = omega arith
+
+branch_of_loss : (losses : Losses) (branches : List PlainBranch) (l : Loss)
+    → items_loss losses branches ≡ Some l → IsItemOf losses branches l
+branch_of_loss losses [] l e = absurd (cc)
+branch_of_loss losses (b ∷ branches) l e =
+    step (first_refusal (branch_losses losses b)) refl (branch_of_loss losses branches l)
+  where
+    step : (o : Option Loss) → first_refusal (branch_losses losses b) ≡ o
+        → (items_loss losses branches ≡ Some l → IsItemOf losses branches l)
+        → IsItemOf losses (b ∷ branches) l
+    step None p more =
+        let r = more (sym (first_after (branch_losses losses b)
+        (flat_map (branch_losses losses) branches) p) ∙ e) in
+        (r.0, inr r.1, r.2, r.3, r.4, r.5)
+    step (Some k) p more =
+        let s : Some k ≡ Some l = sym (first_before (branch_losses losses b)
+        (flat_map (branch_losses losses) branches) k p) ∙ e in
+        let h = item_of losses b 0 b.from l (p ∙ s) in
+        (
+          b,
+          inl refl,
+          h.0,
+          h.1,
+          h.2,
+          ap (λ m. item_loss losses b m h.1.0) (from_nought h.0) ∙ h.3,
+        )
+
+-- and that item's loss is that of its table or of a column
+item_cause : (versions : List PlainVersion) (v q : ℕ) (b : PlainBranch) (i : ℕ) (table : List ℕ)
+    (l : Loss) → item_loss (lost_names versions v q) b i table ≡ Some l → IsUnnamed versions v q l
+item_cause versions v q b i table l e = step (table_loss (lost_names versions v q) table) refl e
+  where
+    named : List ColRef
+    named = filter (is_to i) (all_references b.outs b.cond)
+
+    step : (o : Option Loss) → table_loss (lost_names versions v q) table ≡ o
+        → option_or o (first_named (column_loss (lost_names versions v q) table) named) ≡ Some l
+        → IsUnnamed versions v q l
+    step None p f =
+        let c = one_is_first (column_loss (lost_names versions v q) table) (written_names named) l f in
+        column_cause versions v q table c.0 l c.1
+    step (Some k) p f = table_cause versions v q table l (p ∙ f)
 
 -- ---- the refusal
 
@@ -291,15 +369,18 @@ module _ (past : Past) (query : PlainQuery) where
   lasts : (a b m : ℕ) → a ≤ m → m < a + (b - a) → m < b
   lasts a b m l h = omega (arith, l, h)
 
+  abbrev asked_query : PlainQuery
+  asked_query = query_asked past query
+
   from_loss : (loss : Loss) (k : ℕ) (kind : OpKind) → first_lost past query ≡ Some loss
       → no_way_back past.versions loss ≡ NoInverse k kind → HasNoWayBack past query k kind
   from_loss loss k kind f e =
       let slice = slice_of query.when in
       let first = is_first (loss_at past query) slice.start (slice.end - slice.start) loss f in
-      let found = one_of_them (get (lost_names past.versions (version_at past first.0)
-      query.version)) (query_tables query.branches) loss first.3 in
-      let cause = loss_cause past.versions (version_at past first.0) query.version found.0 loss
-      found.2 in
+      let losses : Losses = lost_names past.versions (version_at past first.0) query.version in
+      let found = branch_of_loss losses asked_query.branches loss first.3 in
+      let cause = item_cause past.versions (version_at past first.0) query.version found.0 found.2
+      found.3.0 loss found.5 in
       let number : loss.0 ≡ k = ap number_of e in
       let following : cause.before + 1 ≡ k = sym (ap (λ (l : Loss). l.0) cause.lost) ∙ number in
       let place : k - 1 ≡ cause.before = omega (arith, following) in
@@ -312,13 +393,18 @@ module _ (past : Past) (query : PlainQuery) where
         moment = first.0;
         after = first.1;
         until = lasts slice.start slice.end first.0 first.1 first.2;
-        table = found.0;
+        branch = found.0;
         asked = found.1;
-        lost = found.2 ∙ ap (λ (l : Loss). Some l) (cause.lost ∙ ap (λ n. (n, 1)) following);
+        number = found.2;
+        item = found.3;
+        there = found.4;
+        lost = found.5 ∙ ap (λ (l : Loss). Some l) (cause.lost ∙ ap (λ n. (n, 1)) following);
         first = first.4;
         by = cause.by;
         is = ap (slice_get past.versions) place ∙ cause.is;
         unnamed = cause.unnamed;
+        underived = subst (λ n. Loses (way_back_over (tables_of past n) cause.by.op)) (sym place)
+            cause.underived;
         of_kind = sym (ap version_kind here) ∙ ap (kind_in kind) e;
         later = omega (arith, from, following);
         reached = omega (arith, to, following);

@@ -5,7 +5,9 @@ use Rattle.std.specs.Prelude.{◌≡◌, ◌==◌, ℕ, zero, suc, ◌+◌, ◌<
 use Rattle.std.specs.Prelude.{Option, Some, None, if◌then◌else◌}
 use Rattle.std.proofs.Common.{refl, ap, subst, ◌∙◌, arith}
 use Rattle.std.specs.Option.{option_or, option_map}
-use Rattle.std.specs.FinMap.{get, insert, remove, len, empty, get-remove, get-empty, len-empty}
+use Rattle.std.specs.List.{filter, flat_map}
+use Rattle.std.specs.FinMap.{FinMap, get, insert, remove, len, empty, get-remove, get-empty}
+use Rattle.std.specs.FinMap.{len-empty}
 use Rattle.std.specs.Cmp.Lexicographic.{nat_list_cmp_total}
 use Rattle.relations_spec.specs.Sets.{set_of}
 use Rattle.relations_spec.specs.Spans.{span, forever}
@@ -14,7 +16,9 @@ use Rattle.prima_base.specs.Order.{bytes_cmp, row_cmp}
 use Rattle.prima_base.specs.Keeping.{kept}
 use Rattle.schema_catalog.specs.Tables.{Tables}
 use Rattle.schema_catalog.specs.Databases.{Rows, Database}
+use Rattle.cond_expr.specs.declared.expr.ColRef.{ColRef}
 use Rattle.cond_expr.specs.declared.expr.Whose.TheVariants.{Free}
+use Rattle.cond_expr.specs.References.{is_to, written_names}
 use Rattle.cond_expr.specs.Trees.{column, always}
 use Rattle.prima_base.specs.declared.refusal.OpKind.TheVariants.{DropTable}
 use Rattle.prima_base.specs.declared.refusal.Refusal.TheVariants.{NoInverse}
@@ -39,16 +43,20 @@ use Rattle.smo_ops_spec.specs.Sizes.{Size, sizes_changed, sizes_evolved}
 use Rattle.smo_ops_spec.specs.Past.{Past, State, a_state, no_tables, no_database, beginning}
 use Rattle.smo_ops_spec.specs.Past.{changed_to, past_with, from_stamp}
 use Rattle.smo_ops_spec.specs.History.{past_of, IsHistory}
-use Rattle.smo_ops_versions_spec.specs.LostNames.{Losses}
+use Rattle.smo_ops_versions_spec.specs.ColumnLosses.{TableLoss, WholeTable, OfColumns, Losses}
+use Rattle.smo_ops_versions_spec.specs.ColumnLosses.{whole_loss, lost_columns}
+use Rattle.smo_ops_versions_spec.specs.LostNames.{first_named}
+use Rattle.smo_ops_versions_spec.proofs.LossMaps.{first_none as first_named_none}
 use Rattle.smo_ops_versions_spec.specs.Migration.{migrated}
 use Rattle.smo_ops_versions_spec.proofs.WorkedWords.{a, t, int, a_columns, t_there}
 use Rattle.smo_ops_versions_spec.proofs.WorkedWays.{dropped_versions}
 use Rattle.temporal_lang_types.specs.declared.when.When.TheVariants.{Always, During}
 use Rattle.temporal_lang_types.specs.Queries.{PlainQuery, a_query}
-use Rattle.plain_answers_spec.specs.Branches.{plain}
+use Rattle.plain_answers_spec.specs.Branches.{PlainBranch, plain}
+use Rattle.plain_answers_spec.specs.Naming.{all_references}
 use Rattle.temporal_lang_spec.specs.Atoms.{branches_with_atoms}
 use Rattle.temporal_lang_spec.specs.Answers.{asked_at, stages, answer}
-use Rattle.temporal_lang_spec.specs.Losing.{loss_at, first_lost}
+use Rattle.temporal_lang_spec.specs.Losing.{items_loss, loss_at, first_lost, query_asked}
 use Rattle.temporal_lang_spec.specs.Accepted.{no_way_back, loss_fault, fault_of_query}
 use Rattle.temporal_lang_spec.proofs.FirstLaws.{first_is, first_none}
 use Rattle.temporal_lang_spec.proofs.WorkedPast.{history_is_past}
@@ -211,19 +219,41 @@ on_version_1 = a_query 1 (select t (column Free a ∷ []) always) Always []
 abbrev before_4 : PlainQuery
 before_4 = a_query 1 (select t (column Free a ∷ []) always) (During 0 4) []
 
-alone : (losses : Losses) (o : Option Loss) → get losses t ≡ o
-    → option_or (get losses t) None ≡ option_or o None
-alone losses o h = ap (λ p. option_or p None) h
+-- the branch that is asked, and its references to t
+abbrev asked_branches : List PlainBranch
+asked_branches = (query_asked dropped on_version_1).branches
+
+abbrev named : List ColRef
+named = filter (is_to 0) (flat_map (λ (b : PlainBranch). all_references b.outs b.cond)
+    asked_branches)
+
+abbrev loss_by : Option TableLoss → Option Loss → Option Loss
+loss_by o whole = first_refusal (option_or whole (first_named (λ c. get (lost_columns o) c) named)
+    ∷ [])
+
+t_lost : (losses : Losses) (l : Loss) → get losses t ≡ Some (WholeTable l)
+    → items_loss losses asked_branches ≡ Some l
+t_lost losses l h = ap (λ (o : Option TableLoss). loss_by o (whole_loss o)) h
+
+t_kept : (losses : Losses) (o : Option TableLoss) → get losses t ≡ o → whole_loss o ≡ None
+    → lost_columns o ≡ empty → items_loss losses asked_branches ≡ None
+t_kept losses o h w e = ap (λ (p : Option TableLoss). loss_by p (whole_loss p)) h
+    ∙ ap (loss_by o) w
+    ∙ ap (λ (p : Option Loss). first_refusal (p ∷ []))
+    (first_named_none (λ c. get (lost_columns o) c) (written_names named)
+    (λ n m. ap (λ (x : FinMap bytes_cmp Loss). get x n) e ∙ get-empty bytes_cmp n))
 
 none_before : (m : ℕ) → m < 4 → loss_at dropped on_version_1 (0 + m) ≡ None
-none_before zero l = alone (remove empty t) None (get-remove nat_list_cmp_total empty t t)
-none_before (suc zero) l = alone empty None (get-empty bytes_cmp t)
-none_before (suc (suc zero)) l = alone empty None (get-empty bytes_cmp t)
-none_before (suc (suc (suc zero))) l = alone empty None (get-empty bytes_cmp t)
+unfolding set_of
+none_before zero l = t_kept (insert empty t (OfColumns empty)) (Some (OfColumns empty))
+    (t_there empty (OfColumns empty)) refl refl
+none_before (suc zero) l = t_kept empty None (get-empty bytes_cmp t) refl refl
+none_before (suc (suc zero)) l = t_kept empty None (get-empty bytes_cmp t) refl refl
+none_before (suc (suc (suc zero))) l = t_kept empty None (get-empty bytes_cmp t) refl refl
 none_before (suc (suc (suc (suc m)))) l = absurd (omega arith)
 
 lost_at_4 : loss_at dropped on_version_1 (0 + 4) ≡ Some (2, 1)
-lost_at_4 = alone (insert empty t (2, 1)) (Some (2, 1)) (t_there empty (2, 1))
+lost_at_4 = t_lost (insert empty t (WholeTable (2, 1))) (2, 1) (t_there empty (WholeTable (2, 1)))
 
 -- the first loss is that of version 2, by its DROP TABLE; there is none where nothing from moment 4
 -- on is asked

@@ -2,7 +2,6 @@
 use Rattle.std.specs.Prelude.{◌≡◌, ℕ, ◌-◌, ◌<◌, ◌≤◌, List, [], ◌∷◌, ◌++◌, length, nat_le, Option}
 use Rattle.std.specs.Prelude.{Some, None, slice_get}
 use Rattle.std.specs.Option.{option_map}
-use Rattle.std.specs.FinMap.{get}
 use Rattle.relations_spec.specs.Sets.{In}
 use Rattle.prima_base.specs.declared.refusal.OpKind.{OpKind}
 use Rattle.prima_base.specs.declared.refusal.OpKind.TheVariants.{Nop}
@@ -14,10 +13,12 @@ use Rattle.smo_ops_spec.specs.Checks.{Fault}
 use Rattle.smo_ops_spec.specs.Past.{Past, tables_of, version_at}
 use Rattle.smo_ops_spec.specs.Losses.{Loss}
 use Rattle.smo_ops_spec.specs.OperatorKinds.{operator_kind}
-use Rattle.smo_ops_versions_spec.specs.LostNames.{lost_names}
+use Rattle.smo_ops_spec.specs.WaysBack.{way_back_over}
+use Rattle.smo_ops_versions_spec.specs.LostNames.{lost_names, Loses}
+use Rattle.plain_answers_spec.specs.Branches.{Item, PlainBranch}
 use Rattle.temporal_lang_types.specs.Queries.{PlainQuery, slice_of}
 use Rattle.temporal_lang_spec.specs.Checking.{excess_of, excess_fault, query_tests}
-use Rattle.temporal_lang_spec.specs.Losing.{query_tables, loss_at, first_lost}
+use Rattle.temporal_lang_spec.specs.Losing.{item_loss, loss_at, first_lost, query_asked}
 
 -- the operator's kind
 abbrev pub version_kind : Option PlainVersion → OpKind
@@ -45,22 +46,27 @@ tests_of_query past query = excess_fault (excess_of query) ∷ version_fault pas
 abbrev pub fault_of_query : Past → PlainQuery → Fault
 fault_of_query past query = first_refusal (tests_of_query past query)
 
--- There is no way back over version k: at a moment of the query's slice a table of the query is
+-- There is no way back over version k: at a moment of the query's slice an item of the query is
 -- lost, by names alone, on the way from the version in force back to the query's one, by version k,
--- whose operator is of this kind and which names no inverse. At no earlier moment of the slice is a
--- table of the query lost.
+-- whose operator is of this kind, names no inverse and has none that is derived. At no earlier
+-- moment of the slice is an item of the query lost.
 pub record HasNoWayBack (past : Past) (query : PlainQuery) (k : ℕ) (kind : OpKind) : Type 0 where
   pub moment : ℕ
   pub after : (slice_of query.when).start ≤ moment
   pub until : moment < (slice_of query.when).end
-  pub table : List ℕ
-  pub asked : In table (query_tables query.branches)
-  pub lost : get (lost_names past.versions (version_at past moment) query.version) table
+  pub branch : PlainBranch
+  pub asked : In branch (query_asked past query).branches
+  pub number : ℕ
+  pub item : Item
+  pub there : slice_get branch.from number ≡ Some item
+  pub lost : item_loss (lost_names past.versions (version_at past moment) query.version) branch
+      number item.0
       ≡ Some (k, 1)
   pub first : (m : ℕ) → (slice_of query.when).start ≤ m → m < moment → loss_at past query m ≡ None
   pub by : PlainVersion
   pub is : slice_get past.versions (k - 1) ≡ Some by
   pub unnamed : by.inverse ≡ []
+  pub underived : Loses (way_back_over (tables_of past (k - 1)) by.op)
   pub of_kind : operator_kind by.op ≡ kind
   pub later : query.version < k
   pub reached : k ≤ version_at past moment

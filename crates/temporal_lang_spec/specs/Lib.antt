@@ -1,6 +1,6 @@
 pub mod Answers
-pub mod Losing
 pub mod Atoms
+pub mod Losing
 pub mod Checking
 pub mod Accepted
 pub mod Resolved

@@ -28,7 +28,7 @@ pub fn listing_is_the_one_list()
         → (b : List (Entry Row)) → IsListingOf past query a → IsListingOf past query b → a ≡ b }
 {}
 
-/// The first loss is that of the least moment of the slice at which a table of the query is lost,
+/// The first loss is that of the least moment of the slice at which an item of the query is lost,
 /// and none where none is at any moment of it.
 pub fn first_loss_is_at_the_least_moment()
     ensures some { (past : Past) → (query : PlainQuery) → (m : ℕ) → (loss : Loss)
@@ -42,10 +42,11 @@ pub fn first_loss_is_at_the_least_moment()
 {}
 
 /// A query is refused for want of a way back over a version only where, at the least moment of its
-/// slice at which a table of it is lost by names alone, that version is gone back over on the way
-/// from the version in force to the query's one, names no inverse, and loses a table of the query;
-/// its operator is of the kind that is told.
-pub fn a_query_is_refused_for_want_of_a_named_inverse_alone()
+/// slice at which an item of it is lost by names alone, that version is gone back over on the way
+/// from the version in force to the query's one, names no inverse, has none that is derived, and
+/// loses the item: its table, or the first lost column of it that the branch names. Its operator is
+/// of the kind that is told.
+pub fn a_query_is_refused_for_want_of_an_inverse_alone()
     ensures { (past : Past) → (query : PlainQuery) → (k : ℕ) → (kind : OpKind)
         → fault_of_query past query ≡ Some (NoInverse k kind) → HasNoWayBack past query k kind }
 {}

@@ -10,6 +10,6 @@
 mod laws;
 
 pub use laws::{
-    a_query_is_refused_for_want_of_a_named_inverse_alone, first_loss_is_at_the_least_moment,
+    a_query_is_refused_for_want_of_an_inverse_alone, first_loss_is_at_the_least_moment,
     listing_is_the_one_list,
 };

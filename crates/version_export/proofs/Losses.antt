@@ -1,33 +1,34 @@
--- Where the query over a table has no loss, the table is lost at no moment; and a query whose
--- tables are not lost is accepted where it is accepted on the other version.
+-- Where the query over a table has no loss, the table is lost at no moment; and a query none of
+-- whose items is lost is accepted where it is accepted on the other version.
 use Rattle.std.specs.Prelude.{◌≡◌, ◌≤◌, ◌<◌, ◌+◌, ◌++◌, ℕ, zero, suc, List, [], ◌∷◌, Option}
 use Rattle.std.specs.Prelude.{Some, None, length, nat_le, nat_lt, true, map}
 use Rattle.std.proofs.Common.{refl, sym, ap, ◌∙◌, inl, inr, arith}
 use Rattle.std.proofs.lemmas.Bool.Decides.{nat_tests}
 use Rattle.std.specs.Option.{option_or}
-use Rattle.std.specs.FinMap.{get}
 use Rattle.relations_spec.specs.Sets.{In}
 use Rattle.relations_spec.specs.Spans.{forever}
 use Rattle.prima_base.specs.declared.refusal.Refusal.TheVariants.{NoVersion, EmptyPeriod}
 use Rattle.schema_catalog.specs.Tables.{Tables}
-use Rattle.smo_ops_spec.specs.Losses.{Loss, first_loss}
 use Rattle.smo_ops_spec.specs.First.{unless, first_refusal}
 use Rattle.smo_ops_spec.specs.Checks.{Fault}
 use Rattle.smo_ops_spec.specs.Past.{Past, tables_of, version_at}
 use Rattle.smo_ops_spec.proofs.Firsts.{none_of_first, none_of_both, first_later, first_after}
 use Rattle.smo_ops_spec.proofs.Firsts.{met}
+use Rattle.smo_ops_versions_spec.specs.ColumnLosses.{NothingLost}
 use Rattle.smo_ops_versions_spec.specs.LostNames.{lost_names}
+use Rattle.smo_ops_versions_spec.proofs.MappedTables.{not_mapped}
 use Rattle.temporal_lang_types.specs.declared.when.When.{When}
 use Rattle.temporal_lang_types.specs.declared.when.When.TheVariants.{Always, AsOf, During}
 use Rattle.temporal_lang_types.specs.Queries.{PlainQuery, IsLasting}
-use Rattle.temporal_lang_spec.specs.Losing.{query_tables, loss_at, first_from, first_lost}
+use Rattle.temporal_lang_spec.specs.Losing.{loss_at, first_from, first_lost, query_asked}
 use Rattle.temporal_lang_spec.specs.Checking.{excess_of, excess_fault, query_tests, names_tests}
 use Rattle.temporal_lang_spec.specs.Checking.{typing_tests, period_tests, when_fault, keep_fault}
-use Rattle.temporal_lang_spec.specs.Atoms.{branches_with_atoms}
+use Rattle.temporal_lang_spec.specs.Atoms.{branch_with_atoms, branches_with_atoms}
 use Rattle.temporal_lang_spec.specs.Accepted.{fault_of_query, version_fault, loss_fault}
 use Rattle.temporal_lang_spec.proofs.FirstLaws.{no_loss}
+use Rattle.temporal_lang_spec.proofs.ItemsLost.{tables_there, no_item_lost}
 use Rattle.version_export_past_spec.specs.Showing.{NoneLost}
-use Rattle.version_export.specs.Exported.{whole_query, NoTableLost, on_version}
+use Rattle.version_export.specs.Exported.{whole_branch, whole_query, NoTableLost, on_version}
 
 -- ---- nowhere is nowhere
 
@@ -49,27 +50,20 @@ none_at at m (suc n) (suc j) e l = ap at same ∙ none_at at (m + 1) n j
     same : m + suc j ≡ m + 1 + j
     same = omega arith
 
-or_none : (o : Option Loss) → option_or o None ≡ None → o ≡ None
-or_none None e = refl
-or_none (Some l) e = absurd (cc)
-
 pub none_lost_at : (past : Past) (version m : ℕ) → NoTableLost past version → m < forever
     → NoneLost past version m
-none_lost_at past version m h l t i = or_none
-    (get (lost_names past.versions (version_at past m) version) t.0)
+none_lost_at past version m h l t i =
+    not_mapped past.versions (version_at past m) version t.0
+    (tables_there (lost_names past.versions (version_at past m) version)
+    (query_asked past (whole_query version t)).branches
     (ap (loss_at past (whole_query version t)) same
     ∙ none_at (loss_at past (whole_query version t)) 0 forever m (h t i) l)
+    (branch_with_atoms (tables_of past version) (whole_branch t)) (inl refl) (t.0, t.0) (inl refl))
   where
     same : m ≡ 0 + m
     same = omega arith
 
 -- ---- a query on the other version
-
-first_none : (loss : List ℕ → Option Loss) (names : List (List ℕ))
-    → ((n : List ℕ) → In n names → loss n ≡ None) → first_loss loss names ≡ None
-first_none loss [] h = refl
-first_none loss (n ∷ names) h = ap (λ o. option_or o (first_loss loss names)) (h n (inl refl))
-    ∙ first_none loss names (λ m i. h m (inr i))
 
 module _ (past : Past) (query : PlainQuery) (accepted : fault_of_query past query ≡ None) where
   abbrev last_tests : List Fault
@@ -108,15 +102,14 @@ module _ (past : Past) (query : PlainQuery) (accepted : fault_of_query past quer
 
   module _ (other : Past) (same : tables_of past query.version ≡ tables_of other 1)
       (one : 1 ≤ length other.versions)
-      (kept : (m : ℕ) (n : List ℕ)
-      → get (lost_names other.versions (version_at other m) 1) n ≡ None) where
+      (kept : (m : ℕ) → NothingLost (lost_names other.versions (version_at other m) 1)) where
     fits : nat_le 1 (length other.versions) ≡ true
     fits = grind (arith, one)
 
     nothing_lost : first_lost other (on_version 1 query) ≡ None
-    nothing_lost = no_loss other (on_version 1 query) (λ m a b.
-        first_none (get (lost_names other.versions (version_at other m) 1))
-        (query_tables query.branches) (λ n i. kept m n))
+    nothing_lost = no_loss other (query_asked other (on_version 1 query)) (λ m a b.
+        no_item_lost (lost_names other.versions (version_at other m) 1) (kept m)
+        (query_asked other (on_version 1 query)).branches)
 
     pub accepted_there : fault_of_query other (on_version 1 query) ≡ None
     accepted_there =

@@ -12,7 +12,7 @@ use Rattle.smo_ops_spec.specs.ValidPast.{IsPast, last_or_nought}
 use Rattle.smo_ops_spec.specs.Accepts.{command_fault}
 use Rattle.smo_ops_spec.proofs.PastMoments.{all_begun, before_or_not}
 use Rattle.smo_ops_spec.proofs.PastSteps.{beginning_is_past}
-use Rattle.smo_ops_versions_spec.specs.LostNames.{lost_names}
+use Rattle.smo_ops_versions_spec.specs.LostTables.{lost_tables}
 use Rattle.smo_ops_versions_spec.specs.Migration.{migrated}
 use Rattle.version_export_past_spec.specs.Commands.{a_command}
 use Rattle.version_export_past_spec.specs.Rebuilt.{AllFew}
@@ -39,7 +39,7 @@ pub lost_never : (past : Past) (version : ℕ) → IsPast past → NoTableLost p
 lost_never past version h none l m = elim (before_or_not m forever) [
   | inl b ↦ none_lost_at past version m none b
   | inr b ↦ (λ t i.
-      ap (λ k. get (lost_names past.versions k version) t.0)
+      ap (λ k. get (lost_tables past.versions k version) t.0)
       (later_version past m (last_or_nought past.last) h (omega (arith, l, b)) (omega arith))
       ∙ none_lost_at past version (last_or_nought past.last) none l t i)
 ]

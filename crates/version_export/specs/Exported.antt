@@ -43,7 +43,7 @@ whole_branch t = a_branch (free_columns t.1) ((t.0, t.0) ∷ []) always
 abbrev pub whole_query : ℕ → NamedColumns → PlainQuery
 whole_query version t = a_query version (whole_branch t ∷ []) Always []
 
--- no table of the version is lost at any moment
+-- no table of the version is lost at any moment, nor a column of one
 abbrev pub NoTableLost : Past → ℕ → Type 0
 NoTableLost past version = (t : NamedColumns) → In t (tables_in past version)
     → first_lost past (whole_query version t) ≡ None

@@ -19,9 +19,10 @@ use Rattle.smo_ops_spec.specs.OneRow.{Relation}
 use Rattle.smo_ops_spec.specs.Effects.{rows_of, rows_under}
 use Rattle.smo_ops_spec.specs.Making.{from_one, from_two}
 use Rattle.smo_ops_spec.specs.Losses.{Loss}
+use Rattle.smo_ops_spec.specs.WaysBack.{blank, filled_with}
 use Rattle.smo_ops_spec.specs.OperatorTable.{Made, line, made_names}
 use Rattle.smo_ops_spec.specs.After.{migrate, lose_all, make_all}
-use Rattle.smo_ops_versions_spec.specs.Steps.{Step, carrying, undoing, taken}
+use Rattle.smo_ops_versions_spec.specs.Steps.{Step, carrying, filling, undoing, taken}
 use Rattle.smo_ops_versions_spec.specs.Ways.{way}
 use Rattle.smo_ops_versions_spec.specs.Migration.{lost_by, stepped, migrated_from}
 use Rattle.version_export_past_spec.specs.Blank.{IsBlank}
@@ -109,6 +110,7 @@ lost_blank loss (c ∷ names) db h = lost_blank loss names (insert db c (Lost lo
 
 blank_step : (s : Step) (db : Database) → IsBlank db → IsBlank (stepped s db)
 blank_step (carrying tables op) db h = blank_carried tables op db h
+blank_step (filling loss tables f) db h = blank_carried tables (filled_with blank f) db h
 blank_step (undoing loss before op) db h = lost_blank loss (line before op).consumed
     (lose_all (made_names (line before op).made) db)
     (blank_lost (made_names (line before op).made) db h)

@@ -15,7 +15,7 @@ use Rattle.smo_ops_spec.specs.Past.{database_at, begun_at}
 use Rattle.smo_ops_spec.specs.ValidPast.{IsPast, Rise, AreStates, Starts, EachStarts}
 use Rattle.smo_ops_versions_spec.specs.Ways.{way}
 use Rattle.smo_ops_versions_spec.specs.Migration.{migrated_from}
-use Rattle.smo_ops_versions_spec.specs.LostNames.{AreLosses, lost_names}
+use Rattle.smo_ops_versions_spec.specs.LostTables.{AreLosses, lost_tables}
 use Rattle.smo_ops_versions_spec.proofs.WayDatabases.{none_is_lost, migrated_database}
 use Rattle.smo_ops_versions_spec.proofs.LossesByName.{losses_are, no_losses}
 use Rattle.version_export_past_spec.specs.Rebuilt.{IsSteady}
@@ -41,7 +41,7 @@ shows_database past version m h none = λ n.
     (λ columns e. losses n ∙ none (n, columns)
     (found_table (tables_of past version) n columns e))
   where
-    losses : AreLosses (lost_names past.versions (version_at past m) version)
+    losses : AreLosses (lost_tables past.versions (version_at past m) version)
         (shown_by past version m)
     losses = losses_are (way past.versions (version_at past m) version) empty (database_at past m)
         (no_losses (tables_of past (version_at past m)) (database_at past m) (h.each m))

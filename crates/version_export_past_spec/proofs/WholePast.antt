@@ -7,7 +7,6 @@ use Rattle.std.specs.FinMap.{get}
 use Rattle.schema_catalog.specs.Tables.{Tables}
 use Rattle.schema_catalog.specs.Databases.{Database, IsDatabase}
 use Rattle.smo_ops_types.specs.Commands.{PlainCommand, PlainVersion}
-use Rattle.smo_ops_spec.specs.Losses.{Loss}
 use Rattle.smo_ops_spec.specs.Past.{Past, no_tables, tables_of, tables_from, newest_from, begun_at}
 use Rattle.smo_ops_spec.specs.Past.{version_at, database_at, newest_tables}
 use Rattle.smo_ops_spec.specs.History.{past_after}
@@ -16,8 +15,11 @@ use Rattle.smo_ops_spec.proofs.PastLaws.{at_least}
 use Rattle.smo_ops_spec.proofs.PastMoments.{before_or_not, few_begun}
 use Rattle.smo_ops_versions_spec.specs.Steps.{Step, taken}
 use Rattle.smo_ops_versions_spec.specs.Migration.{stepped, migrated, migrated_from}
+use Rattle.smo_ops_versions_spec.specs.LostTables.{lost_tables}
+use Rattle.smo_ops_versions_spec.specs.ColumnLosses.{NothingLost}
 use Rattle.smo_ops_versions_spec.specs.LostNames.{lost_names}
-use Rattle.smo_ops_versions_spec.proofs.LossCauses.{loss_cause}
+use Rattle.smo_ops_versions_spec.proofs.LossCauses.{no_table_forward, no_column_forward}
+use Rattle.smo_ops_versions_spec.proofs.MappedTables.{none_forward}
 use Rattle.smo_ops_versions_spec.proofs.WaySteps.{stays}
 use Rattle.smo_ops_versions_spec.proofs.WayLeads.{valid_at}
 use Rattle.version_export_past_spec.specs.Commands.{row_commands}
@@ -32,19 +34,20 @@ use Rattle.version_export_past_spec.proofs.ShownDatabases.{shows_database, is_st
 
 -- ---- over one version nothing is lost
 
-nothing : (o : Option Loss) → ((l : Loss) → o ≡ Some l → ⊥) → o ≡ None
-nothing None h = refl
-nothing (Some l) h = absurd (h l refl)
+one_in_force : (past : Past) (m : ℕ) → length past.versions ≤ 1 → version_at past m ≤ 1
+one_in_force past m few = (let c = few_begun m past.versions in omega (arith, c, few))
 
-pub none_lost_forward : (past : Past) (m : ℕ) (n : List ℕ) → length past.versions ≤ 1
-    → get (lost_names past.versions (version_at past m) 1) n ≡ None
-none_lost_forward past m n few = nothing
-    (get (lost_names past.versions (version_at past m) 1) n)
-    (λ l e. (let h = loss_cause past.versions (version_at past m) 1 n l e in
-    let a = h.from in
-    let b = h.to in
-    let c = few_begun m past.versions in
-    absurd (omega (arith, a, b, c, few))))
+none_lost_forward : (past : Past) (m : ℕ) (n : List ℕ) → length past.versions ≤ 1
+    → get (lost_tables past.versions (version_at past m) 1) n ≡ None
+none_lost_forward past m n few = none_forward past.versions (version_at past m) 1 n
+    (one_in_force past m few)
+
+nothing_lost_forward : (past : Past) (m : ℕ) → length past.versions ≤ 1
+    → NothingLost (lost_names past.versions (version_at past m) 1)
+nothing_lost_forward past m few = λ n. (
+  no_table_forward past.versions (version_at past m) 1 (one_in_force past m few) n,
+  no_column_forward past.versions (version_at past m) 1 (one_in_force past m few) n,
+)
 
 -- ---- a past of one version
 
@@ -115,8 +118,11 @@ module _ (past : Past) (version : ℕ) (h : IsPast past)
     next_tables = tables_of_one next c.version next_versions ∙ c.has
 
     next_none : (m : ℕ) (n : List ℕ)
-        → get (lost_names next.versions (version_at next m) 1) n ≡ None
+        → get (lost_tables next.versions (version_at next m) 1) n ≡ None
     next_none m n = none_lost_forward next m n (one_of_one next c.version next_versions)
+
+    next_nothing : (m : ℕ) → NothingLost (lost_names next.versions (version_at next m) 1)
+    next_nothing m = nothing_lost_forward next m (one_of_one next c.version next_versions)
 
     next_database : (m : ℕ) → IsDatabase tables (migrated next m 1)
     next_database m = subst (λ (t : Tables). IsDatabase t (migrated next m 1)) next_tables
@@ -144,5 +150,5 @@ module _ (past : Past) (version : ℕ) (h : IsPast past)
       versions = made.versions;
       tables = next_tables;
       shows = same;
-      kept = next_none;
+      kept = next_nothing;
     }

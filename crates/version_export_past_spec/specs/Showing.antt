@@ -9,7 +9,7 @@ use Rattle.schema_catalog.specs.Databases.{Database}
 use Rattle.smo_ops_spec.specs.Past.{State, Past, tables_of, version_at}
 use Rattle.smo_ops_spec.specs.InForce.{stamp_of}
 use Rattle.smo_ops_versions_spec.specs.Migration.{migrated}
-use Rattle.smo_ops_versions_spec.specs.LostNames.{lost_names}
+use Rattle.smo_ops_versions_spec.specs.LostTables.{lost_tables}
 
 -- the moment of version 1
 abbrev pub first_stamp : Past → ℕ
@@ -31,4 +31,4 @@ later_moments first states = filter (λ m. nat_lt first m) (map (λ (s : State).
 -- none of the version's tables is lost at this moment, by names alone
 abbrev pub NoneLost : Past → ℕ → ℕ → Type 0
 NoneLost past version m = (t : NamedColumns) → In t (tables_in past version)
-    → get (lost_names past.versions (version_at past m) version) t.0 ≡ None
+    → get (lost_tables past.versions (version_at past m) version) t.0 ≡ None

@@ -1,4 +1,5 @@
-use Rattle.piece_ir_spec.proofs.StaysLost.{stays_lost, none_forward}
+use Rattle.smo_ops_versions_spec.proofs.MappedTables.{none_forward}
+use Rattle.piece_ir_spec.proofs.StaysLost.{stays_lost}
 use Rattle.piece_ir_spec.proofs.chain_laws.what_is_lost_stays_lost.Goals as goal
 
 pub returns-clause-back : goal.returns-clause-back

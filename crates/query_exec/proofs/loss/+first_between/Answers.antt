@@ -36,23 +36,26 @@ first_between-requires t c =
       (
         c.requires.asked,
         (
-          c.requires.there,
+          c.requires.versions,
           (
-            c.requires.ascending,
+            c.requires.there,
             (
-              omega arith,
+              c.requires.ascending,
               (
-                omega (arith, l),
+                omega arith,
                 (
-                  c.requires.none,
-                  some_up_to versions query c.args.parts.now
-                      (c.args.low + (c.args.high - c.args.low) / 2) c.args.high
-                      c.index-parts-middle.result c.in-Some.field-0 c.args.found below within
-                      c.index-parts-middle.is (sym c.in_ok-loss.ensures ∙ c.in-Some.is)
-                      c.requires.found
-                      ∙ ap (λ o. option_or (first_among versions query
-                      (take (c.args.low + (c.args.high - c.args.low) / 2) c.args.parts.now)) o)
-                      (sym c.in-Some.is),
+                  omega (arith, l),
+                  (
+                    c.requires.none,
+                    some_up_to versions query c.args.parts.now
+                        (c.args.low + (c.args.high - c.args.low) / 2) c.args.high
+                        c.index-parts-middle.result c.in-Some.field-0 c.args.found below within
+                        c.index-parts-middle.is (sym c.in_ok-loss.ensures ∙ c.in-Some.is)
+                        c.requires.found
+                        ∙ ap (λ o. option_or (first_among versions query
+                        (take (c.args.low + (c.args.high - c.args.low) / 2) c.args.parts.now)) o)
+                        (sym c.in-Some.is),
+                  ),
                 ),
               ),
             ),
@@ -75,19 +78,22 @@ first_between-requires-in-None t c =
       (
         c.requires.asked,
         (
-          c.requires.there,
+          c.requires.versions,
           (
-            c.requires.ascending,
+            c.requires.there,
             (
-              omega (arith, below),
+              c.requires.ascending,
               (
-                within,
+                omega (arith, below),
                 (
-                  none_up_to versions query c.args.parts.now
-                      (c.args.low + (c.args.high - c.args.low) / 2) c.index-parts-middle.result
-                      c.requires.ascending l
-                      c.index-parts-middle.is (sym c.in_ok-loss.ensures ∙ c.in-None.is),
-                  c.requires.found,
+                  within,
+                  (
+                    none_up_to versions query c.args.parts.now
+                        (c.args.low + (c.args.high - c.args.low) / 2) c.index-parts-middle.result
+                        c.requires.ascending l
+                        c.index-parts-middle.is (sym c.in_ok-loss.ensures ∙ c.in-None.is),
+                    c.requires.found,
+                  ),
                 ),
               ),
             ),

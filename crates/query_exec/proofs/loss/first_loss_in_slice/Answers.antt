@@ -1,9 +1,12 @@
+use Rattle.std.specs.Prelude.{None}
 use Rattle.std.proofs.Common.{◌≡◌, ◌≤◌, true, List, map, length, vec_len, sym, ap, subst, ◌∙◌}
 use Rattle.std.proofs.Common.{arith}
 use Rattle.std.proofs.lemmas.Result.{IfOk-weaker}
 use Rattle.relations_spec.specs.Spans.{Span, covers, forever}
 use Rattle.smo_ops_types.specs.Commands.{PlainVersion, version_of}
 use Rattle.smo_ops_types.specs.declared.version.Version.{Version}
+use Rattle.smo_ops_spec.specs.Past.{no_tables}
+use Rattle.smo_ops_spec.specs.ValidPast.{AreVersions}
 use Rattle.temporal_lang_types.specs.Queries.{query_of}
 use Rattle.period_split.specs.Splitting.{Part}
 use Rattle.query_exec.specs.Losing.{first_among, AllUpTo}
@@ -17,6 +20,12 @@ decided-requires-clause-there c =
     (all_there c.args.groups.now (vec_len c.versions.result.now.list) c.slice-slice.result
     c.in_ok-parts.parts.items c.in_ok-parts.ensures.parts c.in_ok-parts.ensures.ascending
     (let e = ap (λ (vs : List Version). length vs) c.versions.ensures in omega (arith, e)))
+
+pub decided-requires-clause-versions : goal.decided-requires-clause-versions
+decided-requires-clause-versions c =
+    subst (λ (vs : List PlainVersion). AreVersions None no_tables vs)
+    (sym (ap (λ (vs : List Version). map version_of vs) c.versions.ensures
+    ∙ c.requires.represents.1.versions)) c.requires.represents.1.valid.evolved
 
 pub returns : goal.returns
 returns c = λ past represents.

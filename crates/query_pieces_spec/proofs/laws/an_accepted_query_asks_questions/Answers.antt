@@ -1,4 +1,4 @@
-use Rattle.query_pieces_spec.proofs.ReadByPieces.{is_lasting, enough_asked, pushed_enough}
+use Rattle.query_pieces_spec.proofs.ReadByPieces.{is_lasting, enough_asked, pushed_enough, not_lost}
 use Rattle.query_pieces_spec.proofs.ReadByPieces.{items_kept}
 use Rattle.query_pieces_spec.proofs.laws.an_accepted_query_asks_questions.Goals as goal
 
@@ -14,3 +14,6 @@ returns-clause-pushed c = λ past query accepted b m. pushed_enough past query a
 pub returns-clause-kept : goal.returns-clause-kept
 returns-clause-kept c = λ past query accepted m asked b k i j.
     items_kept past query accepted m asked b k i j
+
+pub returns-clause-found : goal.returns-clause-found
+returns-clause-found c = not_lost

@@ -247,7 +247,13 @@ returns-clause-laws g c = record {
       query
       read accepted;
   inverse = λ limit opening statements query k kind told.
-      c.a_query_is_refused_for_want_of_a_named_inverse_alone.ensures
+      c.a_query_is_refused_for_want_of_an_inverse_alone.ensures
       (recorded_after limit (recorded opening) statements).past query k kind told;
+  fillings = λ limit opening statements query constants m are history kinds accepted from to.
+      c.no_answer_shows_a_filling.ensures.asked
+      (recorded_after limit (recorded opening) statements).past query m constants kinds
+      (still_made c.an_image_shows_a_past.ensures.past limit opening statements are history)
+      (c.an_accepted_query_asks_questions.ensures.found
+      (recorded_after limit (recorded opening) statements).past query accepted) from to;
   errors = error_told;
 }

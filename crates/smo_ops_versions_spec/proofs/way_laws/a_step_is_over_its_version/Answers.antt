@@ -3,8 +3,8 @@ use Rattle.std.specs.FinMap.{get}
 use Rattle.smo_ops_spec.specs.Past.{no_tables, tables_from}
 use Rattle.smo_ops_versions_spec.specs.Steps.{Step, taken}
 use Rattle.smo_ops_versions_spec.specs.Migration.{stepped}
-use Rattle.smo_ops_versions_spec.specs.LostNames.{losses_stepped}
-use Rattle.smo_ops_versions_spec.proofs.OneSteps.{over_is, named_is, unnamed_is, consumed_lost}
+use Rattle.smo_ops_versions_spec.specs.LostTables.{lost_stepped}
+use Rattle.smo_ops_versions_spec.proofs.OneSteps.{over_is, named_is, no_way_is, consumed_lost}
 use Rattle.smo_ops_versions_spec.proofs.OneSteps.{made_gone}
 use Rattle.smo_ops_versions_spec.proofs.OneSteps.{others_stay}
 use Rattle.smo_ops_versions_spec.proofs.way_laws.a_step_is_over_its_version.Goals as goal
@@ -24,29 +24,29 @@ pub returns-clause-over_each : goal.returns-clause-over_each
 returns-clause-over_each c = λ tables op ops db. refl
 
 pub returns-clause-lost : goal.returns-clause-lost
-returns-clause-lost c = λ versions k v db n is e m.
-    ap (λ (steps : List Step). get (taken stepped steps db) n) (unnamed_is versions k v is e)
+returns-clause-lost c = λ versions k v db n is e w m.
+    ap (λ (steps : List Step). get (taken stepped steps db) n) (no_way_is versions k v is e w)
     ∙ consumed_lost (k + 1, 1) (tables_from no_tables versions k) v.op db n m
 
 pub returns-clause-gone : goal.returns-clause-gone
-returns-clause-gone c = λ versions k v db n is e m l.
-    ap (λ (steps : List Step). get (taken stepped steps db) n) (unnamed_is versions k v is e)
+returns-clause-gone c = λ versions k v db n is e w m l.
+    ap (λ (steps : List Step). get (taken stepped steps db) n) (no_way_is versions k v is e w)
     ∙ made_gone (k + 1, 1) (tables_from no_tables versions k) v.op db n m l
 
 pub returns-clause-others : goal.returns-clause-others
-returns-clause-others c = λ versions k v db n is e m l.
-    ap (λ (steps : List Step). get (taken stepped steps db) n) (unnamed_is versions k v is e)
+returns-clause-others c = λ versions k v db n is e w m l.
+    ap (λ (steps : List Step). get (taken stepped steps db) n) (no_way_is versions k v is e w)
     ∙ others_stay (k + 1, 1) (tables_from no_tables versions k) v.op db n m l
 
 pub returns-clause-losses_over : goal.returns-clause-losses_over
 returns-clause-losses_over c = λ versions k v losses is.
-    ap (λ (steps : List Step). taken losses_stepped steps losses) (over_is versions k v is)
+    ap (λ (steps : List Step). taken lost_stepped steps losses) (over_is versions k v is)
 
 pub returns-clause-losses_named : goal.returns-clause-losses_named
 returns-clause-losses_named c = λ versions k v losses op rest is e.
-    ap (λ (steps : List Step). taken losses_stepped steps losses)
+    ap (λ (steps : List Step). taken lost_stepped steps losses)
     (named_is versions k v is op rest e)
 
 pub returns-clause-losses_undone : goal.returns-clause-losses_undone
-returns-clause-losses_undone c = λ versions k v losses is e.
-    ap (λ (steps : List Step). taken losses_stepped steps losses) (unnamed_is versions k v is e)
+returns-clause-losses_undone c = λ versions k v losses is e w.
+    ap (λ (steps : List Step). taken lost_stepped steps losses) (no_way_is versions k v is e w)

@@ -1,6 +1,6 @@
 use Rattle.std.specs.FinMap.{empty}
 use Rattle.smo_ops_versions_spec.specs.Migration.{stepped}
-use Rattle.smo_ops_versions_spec.specs.LostNames.{losses_stepped}
+use Rattle.smo_ops_versions_spec.specs.LostTables.{lost_stepped}
 use Rattle.smo_ops_versions_spec.proofs.WaySteps.{taken_stays, taken_forward, taken_backward}
 use Rattle.smo_ops_versions_spec.proofs.WaySteps.{taken_forward_by, taken_back_by}
 use Rattle.smo_ops_versions_spec.proofs.way_laws.the_way_is_step_by_step.Goals as goal
@@ -22,12 +22,12 @@ pub returns-clause-back_by : goal.returns-clause-back_by
 returns-clause-back_by c = λ versions v m q db l r. taken_back_by versions stepped v m q db l r
 
 pub returns-clause-losses_stay : goal.returns-clause-losses_stay
-returns-clause-losses_stay c = λ versions v. taken_stays versions losses_stepped v empty
+returns-clause-losses_stay c = λ versions v. taken_stays versions lost_stepped v empty
 
 pub returns-clause-losses_forward : goal.returns-clause-losses_forward
 returns-clause-losses_forward c = λ versions v q l.
-    taken_forward versions losses_stepped v q empty l
+    taken_forward versions lost_stepped v q empty l
 
 pub returns-clause-losses_back : goal.returns-clause-losses_back
 returns-clause-losses_back c = λ versions v q l.
-    taken_backward versions losses_stepped v q empty l
+    taken_backward versions lost_stepped v q empty l

@@ -1,0 +1,2 @@
+pub mod TableLosses
+pub mod NamedItems

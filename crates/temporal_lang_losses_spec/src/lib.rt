@@ -1,0 +1,10 @@
+//! The law of losses: databases that agree but for what is lost still do behind each step of a way,
+//! and what is not lost is answered alike over both. So no answer shows the constant that a dropped
+//! column is filled with. Definitions (`specs/`) and their laws.
+#![tactic(auto)]
+
+mod laws;
+
+pub use laws::{
+    databases_agree_again, no_answer_shows_a_filling, what_is_not_lost_is_answered_alike,
+};
