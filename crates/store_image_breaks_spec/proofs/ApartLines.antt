@@ -1,15 +1,14 @@
 -- Of a draft a lifeline shows its rows apart just where this is found by comparing them.
-use Rattle.std.proofs.Common.{◌≡◌, inl, inr, ◌≤◌, true, false, List, [], ◌∷◌, ◌++◌, map, length}
+use Rattle.std.proofs.Common.{◌≡◌, inl, inr, ◌≤◌, true, false, List, [], ◌∷◌, ◌++◌, length}
 use Rattle.std.proofs.Common.{refl, subst, arith}
 use Rattle.relations_spec.specs.Sets.{In}
 use Rattle.relations_spec.proofs.SetLaws.{in_map}
-use Rattle.smo_ops_versions_spec.specs.Lifelines.{lifelines_of}
 use Rattle.command_codec_spec.proofs.Correctness.{by_test}
 use Rattle.store_image_spec.specs.Images.{StoredLine, Image}
 use Rattle.store_image_spec.specs.Reader.{has_apart}
 use Rattle.store_image_spec.proofs.Apartness.{apart_at_starts, apart_always}
 use Rattle.store_image_spec.proofs.DueLifelines.{due_lifelines}
-use Rattle.store_image_breaks_spec.specs.Drafts.{IsDraftLine, IsDraft, ShowsApart}
+use Rattle.store_image_breaks_spec.specs.Drafts.{IsDraft, ShowsApart}
 
 pub in_middle : {X : Type 0} (x : X) (xs ys : List X) → In x (xs ++ x ∷ ys)
 in_middle x [] ys = inl refl

@@ -1,23 +1,23 @@
 -- The reader of images stops at a lifeline that shows one row twice, where nothing before it is
 -- wrong; and the one that compares no rows goes on.
-use Rattle.std.proofs.Common.{◌≡◌, inl, inr, ℕ, zero, suc, ◌+◌, ◌*◌, ◌^◌, ◌<◌, ◌≤◌, Bool, true}
+use Rattle.std.proofs.Common.{◌≡◌, inl, inr, ℕ, zero, suc, ◌+◌, ◌^◌, ◌<◌, Bool, true}
 use Rattle.std.proofs.Common.{false, List, [], ◌∷◌, ◌++◌, length, refl, sym, ap, ◌∙◌, subst}
 use Rattle.std.proofs.Common.{append_assoc, append-nil, length-append, arith}
 use Rattle.std.specs.Prelude.{Option, if◌then◌else◌}
 use Rattle.std.specs.List.{flat_map}
 use Rattle.relations_spec.specs.Sets.{In}
 use Rattle.smo_ops_types.specs.Commands.{PlainVersion}
-use Rattle.command_codec_spec.specs.Reading.{Out, Parsed, Unexpected, Parser, and_then, bind}
+use Rattle.command_codec_spec.specs.Reading.{Parsed, Unexpected, and_then, bind}
 use Rattle.command_codec_spec.specs.Reading.{map_to}
 use Rattle.command_codec_spec.specs.Encoding.{number, list_bytes}
 use Rattle.smo_ops_versions_spec.specs.Lifelines.{Lifeline, lifelines_of}
-use Rattle.store_image_spec.specs.Images.{StoredLine, Image}
+use Rattle.store_image_spec.specs.Images.{StoredLine}
 use Rattle.store_image_spec.specs.Encoding.{last_bytes, version_bytes, stored_bytes}
-use Rattle.store_image_spec.specs.Items.{item, if_right}
-use Rattle.store_image_spec.specs.Reader.{number_32, last_stamp, all_versions, has_apart, lines}
+use Rattle.store_image_spec.specs.Items.{if_right}
+use Rattle.store_image_spec.specs.Reader.{all_versions, has_apart, lines}
 use Rattle.store_image_spec.specs.Reader.{stored_line, all_lines, nothing_after, an_image, image}
 use Rattle.store_image_spec.proofs.Places.{Leaves}
-use Rattle.store_image_spec.proofs.ReadParts.{reads_last, reads_all_versions, kept_line, reads_kept}
+use Rattle.store_image_spec.proofs.ReadParts.{reads_last, reads_all_versions, reads_kept}
 use Rattle.store_image_breaks_spec.specs.Agreement.{AreFirst, BeginsLine, BeginsImage}
 use Rattle.store_image_breaks_spec.specs.Breaks.{ShowsTwice}
 use Rattle.store_image_breaks_spec.proofs.ByteCounts.{line_some}

@@ -1,7 +1,6 @@
-use Rattle.std.proofs.Common.{◌≡◌, ◌<◌, ◌^◌, ◌≤◌, ◌++◌, inl, inr, ℕ, zero, suc, List, [], ◌∷◌}
-use Rattle.std.proofs.Common.{length, length-append, sym, ap, ◌∙◌, arith}
-use Rattle.command_codec_spec.specs.Reading.{Unexpected}
-use Rattle.store_image_breaks_spec.specs.Breaks.{BreaksAt, ShowsTwice, Breaks}
+use Rattle.std.proofs.Common.{◌≡◌, ◌<◌, ◌^◌, ◌++◌, inl, inr, ℕ, List, [], ◌∷◌}
+use Rattle.std.proofs.Common.{length, sym, ◌∙◌, arith}
+use Rattle.store_image_breaks_spec.specs.Breaks.{BreaksAt, Breaks}
 use Rattle.store_image_breaks_spec.proofs.TwiceStops.{twice_stops}
 use Rattle.store_image_breaks_spec.proofs.laws.bytes_break_at_one_place.Goals as goal
 

@@ -3,7 +3,7 @@ use Rattle.std.proofs.Common.{length-append, sym, ap, ◌∙◌, subst, arith}
 use Rattle.command_codec_spec.specs.Reading.{Unexpected}
 use Rattle.store_image_spec.specs.Reader.{image}
 use Rattle.store_image_spec.proofs.Places.{Leaves}
-use Rattle.store_image_breaks_spec.specs.Breaks.{BreaksAt, ShowsTwice}
+use Rattle.store_image_breaks_spec.specs.Breaks.{BreaksAt}
 use Rattle.store_image_breaks_spec.proofs.Openly.{open_image}
 use Rattle.store_image_breaks_spec.proofs.Within.{shorter, within_image}
 use Rattle.store_image_breaks_spec.proofs.Full.{draft_is_full}
