@@ -192,7 +192,7 @@ module _ (tables : Tables) (losses : Losses) (r c : List ℕ) (loss : Loss)
             rows = λ e.
                 sym (ap (λ (x : DatabaseEntry). shown (rows_of x))
                 (same_whole tables (filling_by r c v) losses a b agree accepted valid.schema inputs
-                    a
+                a
                 (λ n. (agree n).first_there) (it v) (inl refl)))
                 ∙ follow_kept map (new v) (rows_of (entry v (whole a)))
                 (rows_of (entry w (whole b)))

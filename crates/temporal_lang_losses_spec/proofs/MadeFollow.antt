@@ -40,7 +40,7 @@ pub record IfKnown (losses : Losses) (lost : List ℕ → Option Loss) (columns 
 
 module _ (tables : Tables) (losses : Losses) (a b : Database)
     (agree : AgreeUpTo tables losses a b) (columns : List Column)
-        (map : FinMap bytes_cmp Loss) where
+    (map : FinMap bytes_cmp Loss) where
   module _ (lost : List ℕ → Option Loss)
       (is : (n : List ℕ) → In n (names_of columns) → get map n ≡ None → lost n ≡ None)
       (first second : Relation) (views others : List PlainView)

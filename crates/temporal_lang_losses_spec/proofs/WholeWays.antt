@@ -76,7 +76,7 @@ module _ (v w : ColType → Value) (of_v : (k : ColType) → value_kind (v k) �
       → (x q : ℕ) (losses : Losses) (a b : Database)
       → AgreeUpTo (tables_from no_tables versions x) losses a b
       → AgreeUpTo (tables_from no_tables versions q)
-          (taken losses_stepped (way versions x q) losses)
+      (taken losses_stepped (way versions x q) losses)
       (taken (stepped_with v) (way versions x q) a) (taken (stepped_with w) (way versions x q) b)
   way_is_told versions are x q losses a b h =
       steps_agree (tables_from no_tables versions x) (tables_from no_tables versions q)

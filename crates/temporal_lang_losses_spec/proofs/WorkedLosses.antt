@@ -69,7 +69,7 @@ losses_before = empty
 fills : derived with_t (drop_column c t) ≡ Some (add_column c (constant (text [])) t)
 fills = ap (λ (o : Option (List Column)). Some (add_column c
     (constant (blank (unwrap_or (type_in (unwrap_or o []) c) INT))) t))
-        (t_there no_tables ac_columns)
+    (t_there no_tables ac_columns)
 
 -- by names alone the column is lost, by version 2, and neither the table nor its other column
 abbrev lost : Losses
@@ -140,7 +140,7 @@ abbrev filled_rows : ColType → List Column → Option DatabaseEntry → Databa
 filled_rows kind columns entry =
     let z : Tree = constant (blank kind) in
     from_one (image (with_column c (type_of_value columns z) columns) (added_value columns c z))
-        entry
+    entry
 
 filled_again : (db : Database) → get db t ≡ Some (Rows (row 1 ∷ row 2 ∷ []))
     → get (migrated_from dropped 2 1 db) t ≡ Some (Rows (full 1 ∷ full 2 ∷ []))

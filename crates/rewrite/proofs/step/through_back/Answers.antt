@@ -39,6 +39,6 @@ returns-in-Some g c = λ loss.
     c.requires.next (sym c.in_ok-derived.ensures ∙ ap (option_map operator_of) c.in-Some.is)
     (h ∙ ap (λ (xs : List Piece). through
     (book_of g.R.Rule.handles g.R.Rule.answers c.args.book.now.rules.items)
-        (operator_of c.in-Some.back) c.args.next.now
+    (operator_of c.in-Some.back) c.args.next.now
     (shown_pieces xs)) c.deref.ensures.value))
     c.through.ensures
