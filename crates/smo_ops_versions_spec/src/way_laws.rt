@@ -159,8 +159,9 @@ pub fn names_tell_what_is_lost()
 {}
 
 /// A table or a column that is lost on the way from one version to another is lost by a version
-/// that is gone back over on that way, that names no inverse, and whose operator has no derived one.
-/// So nothing is lost on the way forward, nor back over versions with a named or a derived inverse.
+/// that is gone back over on that way, that names no inverse, and whose operator has no derived
+/// one. So nothing is lost on the way forward, nor back over versions with a named or a derived
+/// inverse.
 pub fn what_is_lost_has_no_inverse()
     ensures table { (versions : List PlainVersion) → (v : ℕ) → (q : ℕ) → (n : List ℕ)
         → (loss : Loss)
