@@ -66,9 +66,9 @@ abbrev pub IsAsked : Past → PlainQuery → Result Listing (CallFault Refusal) 
 IsAsked past query result = MatchResult result (λ listing. IsListed past query listing)
     (λ fault. IsWrong past query fault)
 
--- it is refused for want of a way back over a version only where there is none: at a moment of the
+-- it is refused for want of an inverse over a version only where there is none: at a moment of the
 -- slice that version is gone back over, names no inverse, has none that is derived, and loses an
--- item of the query
+-- item of the query; the filling of a dropped column is no inverse
 abbrev pub TellsWayBack : Past → PlainQuery → Result Listing (CallFault Refusal) → Type 0
 TellsWayBack past query result = (k : ℕ) → (kind : OpKind)
     → result ≡ Err (Refused (NoInverse k kind)) → HasNoWayBack past query k kind

@@ -57,7 +57,7 @@ fn resolved_query(alloc: Global, schema: &Schema, query: &Query) -> Result<Query
     check_query(alloc, schema, query)
 }
 
-// Which version's operator there is no way back over, and what kind of operator it is.
+// Which version's operator has neither a named nor a derived inverse, and of what kind it is.
 fn no_way_back(versions: &Versions, loss: (u32, u32)) -> Refusal
     ensures { result ≡ no_way_back (versions_of versions.now) loss }
 {

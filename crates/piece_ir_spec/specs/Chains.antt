@@ -1,5 +1,5 @@
 -- Pieces taken from version to version by the answers of a book of rules: through operators, and
--- through the operators of inverses.
+-- through those of inverses, named or derived, and of the fillings of dropped columns.
 use Rattle.std.specs.Prelude.{◌≡◌, ℕ, List, None}
 use Rattle.std.specs.List.{flat_map}
 use Rattle.std.specs.FinMap.{get}

@@ -69,7 +69,8 @@ pub fn versions_hold_valid_constants()
 /// taken to version v by any book of valid rules: over every valid database of version v they mean
 /// there what the pieces mean over that database migrated to version q; they are well-typed there,
 /// and have the same names and types of outputs. Where the constants of the versions' operators and
-/// inverses are valid, and those of the pieces, so are theirs there.
+/// named inverses are valid, and those of the pieces, so are theirs there: a derived operator has
+/// none of its own, and a filling has 0 or the empty text.
 pub fn pieces_are_taken_along()
     ensures means { (book : Book) → IsValidBook book → (versions : List PlainVersion)
         → AreVersions None no_tables versions → VersionsHold versions

@@ -23,7 +23,8 @@ use std::alloc::Global;
 use temporal_lang_types::{Branch, Query};
 
 /// The loss of a table on the way from version `stored` to version `asked`, by names alone. `None`
-/// exactly where the table is not lost itself; forward none is.
+/// exactly where the table is not lost itself; forward none is. The versions have evolved from one
+/// another, and both numbers are of versions that are there. The one error is `NoMemory`.
 pub fn loss_of(
     alloc: Global,
     versions: &Versions,
@@ -130,7 +131,12 @@ fn first_of_branches(
 /// The loss of the first item of the query, in text order, that is lost on the way from version
 /// `stored` to version `asked`, by names alone: its table is, or a column of it that its branch
 /// names. A loss is a version, and the place of its operator in it, from 1. `None` exactly where no
-/// item is lost. Each reference of the query is to an item; both versions are there.
+/// item is lost.
+///
+/// The versions have evolved from one another, each accepted after the one before, and both numbers
+/// are of versions that are there. The query's references are to be to items, as `check_query`
+/// answers them: where one is to none, no column is looked up for it. The one error is `NoMemory`,
+/// where memory runs out, or where a branch has more items than 32 bits can number.
 pub fn first_lost(
     alloc: Global,
     versions: &Versions,

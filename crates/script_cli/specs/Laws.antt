@@ -97,7 +97,7 @@ pub record OutputLaws (book : Book) : Type 0 where
       → let now = recorded_after (given_by limit book) (recorded opening) statements in
       reading text ≡ Whole (explain query) → fault_of_query now.past query ≡ None
       → TellsPieces (given_by limit book) now text query
-  -- A query is refused for want of a way back only by an operator on the way without a named or
+  -- A query is refused for want of an inverse only by an operator on the way without a named or
   -- derived inverse: at the least moment of the query's slice at which an item of it is lost, the
   -- version that is told is gone back over, names none, its operator has none that is derived, and
   -- it loses the item: its table, or the first lost column of it that the branch names.

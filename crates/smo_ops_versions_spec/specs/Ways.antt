@@ -1,6 +1,7 @@
--- The way from one version to another: forward over the operators, and back over their inverses. It
--- is a list of steps. What can be taken along it, as a database, or by names alone the losses that
--- it would have, is taken over its steps.
+-- The way from one version to another: forward over the operators; and back over their inverses,
+-- named or derived, over the fillings of dropped columns, and over operators that have no way back.
+-- It is a list of steps. What can be taken along it, as a database, or by names alone the losses
+-- that it would have, is taken over its steps.
 use Rattle.std.specs.Prelude.{ℕ, zero, suc, ◌+◌, ◌-◌, List, [], ◌∷◌, ◌++◌, nat_le, Option, Some}
 use Rattle.std.specs.Prelude.{None}
 use Rattle.std.specs.Prelude.{slice_get, if◌then◌else◌}

@@ -1,7 +1,8 @@
 //! The ways between the versions of a past: a database taken from version to version, forward over
-//! the operators and back over their inverses, and the tables that are lost on the way, by names
-//! alone; and the lifelines of tables: the longest runs of versions in which no operator makes or
-//! consumes one. Definitions (`specs/`) and their laws.
+//! the operators and back over their inverses, named or derived, and the fillings of dropped
+//! columns; and the tables and columns that are lost on the way, by names alone. And the lifelines
+//! of tables: the longest runs of versions in which no operator makes or consumes one. Definitions
+//! (`specs/`) and their laws.
 #![tactic(auto)]
 
 mod lifeline_laws;

@@ -61,9 +61,9 @@ pub fn the_way_is_step_by_step()
 /// What one step of a way is, at the version number `k + 1`, the one after the tables of version
 /// `k`. To it a database is carried over the version's operator. Back from it, where an inverse is
 /// named, it is carried over the inverse's operators, first to last, each after the one before; and
-/// where none is named, each table that the operator consumed is lost by the first operator of
-/// version `k + 1`, each that it made and did not consume is gone, and all others stay. The same of
-/// losses by names alone.
+/// where none is named and the operator has no way back, each table that it consumed is lost by the
+/// first operator of version `k + 1`, each that it made and did not consume is gone, and all others
+/// stay. The same, by names alone, of the tables that are lost.
 pub fn a_step_is_over_its_version()
     ensures forward { (versions : List PlainVersion) → (k : ℕ) → (v : PlainVersion)
         → (database : Database) → slice_get versions k ≡ Some v
@@ -147,8 +147,8 @@ pub fn the_way_keeps_valid_values()
 {}
 
 /// The tables that are lost in a database on the way from one version to another are told by names
-/// alone, each with its loss. A table that is not mapped by the losses of tables and columns is none
-/// of them.
+/// alone, each with its loss. A table that is not mapped by the losses of tables and columns is
+/// none of them.
 pub fn names_tell_what_is_lost()
     ensures database { (versions : List PlainVersion) → (v : ℕ) → (q : ℕ) → (database : Database)
         → IsDatabase (tables_from no_tables versions v) database
@@ -158,9 +158,10 @@ pub fn names_tell_what_is_lost()
         → get (lost_tables versions v q) n ≡ None }
 {}
 
-/// A table or a column that is lost on the way from one version to another is lost by a version that
-/// is gone back over on that way, that names no inverse, and whose operator has no derived one. So
-/// nothing is lost on the way forward, nor back over versions with a named or a derived inverse.
+/// A table or a column that is lost on the way from one version to another is lost by a version
+/// that is gone back over on that way, that names no inverse, and whose operator has no derived
+/// one. So nothing is lost on the way forward, nor back over versions with a named or a derived
+/// inverse.
 pub fn what_is_lost_has_no_inverse()
     ensures table { (versions : List PlainVersion) → (v : ℕ) → (q : ℕ) → (n : List ℕ)
         → (loss : Loss)
@@ -170,8 +171,8 @@ pub fn what_is_lost_has_no_inverse()
         → column_loss (lost_names versions v q) n c ≡ Some loss → IsUnnamed versions v q loss }
 {}
 
-/// What is lost on the way back to a version is lost on the way from each later version too, be it a
-/// table or a column; and forward nothing is lost.
+/// What is lost on the way back to a version is lost on the way from each later version too, be it
+/// a table or a column; and forward nothing is lost.
 pub fn what_is_lost_is_lost_from_later_versions()
     ensures table { (versions : List PlainVersion) → (w : ℕ) → (v : ℕ) → (q : ℕ) → (n : List ℕ)
         → q ≤ v → v ≤ w → table_loss (lost_names versions w q) n ≡ None

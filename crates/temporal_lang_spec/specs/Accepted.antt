@@ -25,7 +25,7 @@ abbrev pub version_kind : Option PlainVersion → OpKind
 version_kind None = Nop
 version_kind (Some v) = operator_kind v.op
 
--- the version whose operator is not gone back over, and the operator's kind
+-- the version whose operator has neither a named nor a derived inverse, and the operator's kind
 abbrev pub no_way_back : List PlainVersion → Loss → Refusal
 no_way_back versions loss = NoInverse loss.0 (version_kind (slice_get versions (loss.0 - 1)))
 
@@ -46,10 +46,11 @@ tests_of_query past query = excess_fault (excess_of query) ∷ version_fault pas
 abbrev pub fault_of_query : Past → PlainQuery → Fault
 fault_of_query past query = first_refusal (tests_of_query past query)
 
--- There is no way back over version k: at a moment of the query's slice an item of the query is
--- lost, by names alone, on the way from the version in force back to the query's one, by version k,
--- whose operator is of this kind, names no inverse and has none that is derived. At no earlier
--- moment of the slice is an item of the query lost.
+-- No way back over version k gives back what the query names: at a moment of the query's slice an
+-- item of the query is lost, by names alone, on the way from the version in force back to the
+-- query's one, by version k, whose operator is of this kind, names no inverse and has none that is
+-- derived (the filling of a dropped column is none). At no earlier moment of the slice is an item
+-- of the query lost.
 pub record HasNoWayBack (past : Past) (query : PlainQuery) (k : ℕ) (kind : OpKind) : Type 0 where
   pub moment : ℕ
   pub after : (slice_of query.when).start ≤ moment

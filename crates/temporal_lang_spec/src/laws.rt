@@ -41,7 +41,7 @@ pub fn first_loss_is_at_the_least_moment()
         → first_lost past query ≡ None }
 {}
 
-/// A query is refused for want of a way back over a version only where, at the least moment of its
+/// A query is refused for want of an inverse over a version only where, at the least moment of its
 /// slice at which an item of it is lost by names alone, that version is gone back over on the way
 /// from the version in force to the query's one, names no inverse, has none that is derived, and
 /// loses the item: its table, or the first lost column of it that the branch names. Its operator is

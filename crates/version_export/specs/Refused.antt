@@ -1,5 +1,6 @@
--- What is refused of an export: the version, then the first table that is lost at some moment, then
--- the first command whose line is too long; and what is answered where nothing is.
+-- What is refused of an export: the version, then the first table that is lost at some moment, or a
+-- column of it, then the first command whose line is too long; and what is answered where nothing
+-- is.
 use Rattle.std.specs.Prelude.{◌-◌, ℕ, List, ◌∷◌, ◌++◌, length, map, nat_le, Option}
 use Rattle.std.specs.Prelude.{slice_get}
 use Rattle.std.specs.Option.{option_map}
@@ -19,7 +20,7 @@ use Rattle.version_export.specs.Exported.{exported, whole_query}
 pub data Fault : Type 0 where
   -- the asked version, and the newest
   no_version : ℕ → ℕ → Fault
-  -- the version whose operator loses a table, and the operator's kind
+  -- the version whose operator loses a table or a column of one, and the operator's kind
   no_inverse : ℕ → OpKind → Fault
   -- the stamp of the command, and the length of its text
   too_long : ℕ → ℕ → Fault

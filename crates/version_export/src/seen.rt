@@ -14,7 +14,8 @@ use std::alloc::{AllocFailed, Global};
 /// Why a table's rows cannot be listed in a version.
 #[derive(Clone, Copy)]
 pub enum SeenFault {
-    /// The version whose operator has no way back, and the operator's kind.
+    /// The version whose operator loses the table or a column of it, since it names no inverse and
+    /// none is derived from it; and the operator's kind.
     NoInverse(u32, OpKind),
     /// Listing them found no memory.
     NoMemory,

@@ -35,8 +35,8 @@ fn seen_table<'a, S: Seen>(
     Ok(SeenTable { table, rows })
 }
 
-/// All tables of a version, in the order of their names. `NoInverse` exactly where one of them is
-/// lost at some moment; the first of these counts.
+/// All tables of a version, in the order of their names. `NoInverse` exactly where one of them, or
+/// a column of one, is lost at some moment; the first of these counts.
 pub(crate) fn seen_tables<'a, S: Seen>(
     alloc: Global,
     seen: &'a S,
