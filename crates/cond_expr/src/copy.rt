@@ -69,7 +69,7 @@ impl Expr {
     pub fn copy(&self, alloc: Global) -> Result<Expr, NoMemory>
         ensures { IfOk result (λ e. tree e ≡ tree self.now) }
     {
-        fill_expr(&Itself, alloc, self)
+        fill_expr(alloc, &Itself, self)
     }
 }
 
@@ -82,6 +82,6 @@ impl Cond {
     pub fn copy(&self, alloc: Global) -> Result<Cond, NoMemory>
         ensures { IfOk result (λ c. test c ≡ test self.now) }
     {
-        fill_cond(&Itself, alloc, self)
+        fill_cond(alloc, &Itself, self)
     }
 }

@@ -20,31 +20,31 @@ pub trait Fill {
 /// The expression in which each reference is replaced by what is put for it: substitution, all at
 /// once. It fails only when out of memory, or where `put` does.
 #[cycle(fill)]
-pub fn fill_expr<F: Fill>(by: &F, alloc: Global, expr: &Expr) -> Result<Expr, NoMemory>
+pub fn fill_expr<F: Fill>(alloc: Global, by: &F, expr: &Expr) -> Result<Expr, NoMemory>
     ensures { IfOk result (λ e. tree e ≡ fill (F.puts by.now) (tree expr.now)) }
 {
     match expr {
         Expr::Col(reference) => by.put(alloc, reference),
         Expr::Const(value) => Ok(Expr::Const(value.copy()?)),
-        Expr::Length(part) => Ok(Expr::Length(Box::new(alloc, fill_expr(by, alloc, part)?)?)),
-        Expr::Concat(parts) => Ok(Expr::Concat(fill_exprs(by, alloc, parts)?)),
+        Expr::Length(part) => Ok(Expr::Length(Box::new(alloc, fill_expr(alloc, by, part)?)?)),
+        Expr::Concat(parts) => Ok(Expr::Concat(fill_exprs(alloc, by, parts)?)),
         Expr::Case(cond, first, second) => {
-            let cond = Box::new(alloc, fill_cond(by, alloc, cond)?)?;
-            let first = Box::new(alloc, fill_expr(by, alloc, first)?)?;
-            let second = Box::new(alloc, fill_expr(by, alloc, second)?)?;
+            let cond = Box::new(alloc, fill_cond(alloc, by, cond)?)?;
+            let first = Box::new(alloc, fill_expr(alloc, by, first)?)?;
+            let second = Box::new(alloc, fill_expr(alloc, by, second)?)?;
             Ok(Expr::Case(cond, first, second))
         }
     }
 }
 
 #[cycle(fill)]
-fn fill_exprs<F: Fill>(by: &F, alloc: Global, parts: &[Expr]) -> Result<Vec<Expr>, NoMemory>
+fn fill_exprs<F: Fill>(alloc: Global, by: &F, parts: &[Expr]) -> Result<Vec<Expr>, NoMemory>
     ensures { IfOk result (λ v. map tree v.items
         ≡ map (fill (F.puts by.now)) (map tree parts.now)) }
 {
     let mut filled = Vec::with_capacity(alloc, parts.len())?;
     for part in parts {
-        filled.push(fill_expr(by, alloc, part)?)?;
+        filled.push(fill_expr(alloc, by, part)?)?;
     }
     Ok(filled)
 }
@@ -52,31 +52,31 @@ fn fill_exprs<F: Fill>(by: &F, alloc: Global, parts: &[Expr]) -> Result<Vec<Expr
 /// The condition in which each reference is replaced by what is put for it: substitution, all at
 /// once. It fails only when out of memory, or where `put` does.
 #[cycle(fill)]
-pub fn fill_cond<F: Fill>(by: &F, alloc: Global, cond: &Cond) -> Result<Cond, NoMemory>
+pub fn fill_cond<F: Fill>(alloc: Global, by: &F, cond: &Cond) -> Result<Cond, NoMemory>
     ensures { IfOk result (λ c. test c ≡ fill_test (F.puts by.now) (test cond.now)) }
 {
     match cond {
         Cond::False => Ok(Cond::False),
         Cond::True => Ok(Cond::True),
         Cond::Cmp(op, first, second) => {
-            let first = Box::new(alloc, fill_expr(by, alloc, first)?)?;
-            let second = Box::new(alloc, fill_expr(by, alloc, second)?)?;
+            let first = Box::new(alloc, fill_expr(alloc, by, first)?)?;
+            let second = Box::new(alloc, fill_expr(alloc, by, second)?)?;
             Ok(Cond::Cmp(*op, first, second))
         }
-        Cond::And(parts) => Ok(Cond::And(fill_conds(by, alloc, parts)?)),
-        Cond::Or(parts) => Ok(Cond::Or(fill_conds(by, alloc, parts)?)),
-        Cond::Not(part) => Ok(Cond::Not(Box::new(alloc, fill_cond(by, alloc, part)?)?)),
+        Cond::And(parts) => Ok(Cond::And(fill_conds(alloc, by, parts)?)),
+        Cond::Or(parts) => Ok(Cond::Or(fill_conds(alloc, by, parts)?)),
+        Cond::Not(part) => Ok(Cond::Not(Box::new(alloc, fill_cond(alloc, by, part)?)?)),
     }
 }
 
 #[cycle(fill)]
-fn fill_conds<F: Fill>(by: &F, alloc: Global, parts: &[Cond]) -> Result<Vec<Cond>, NoMemory>
+fn fill_conds<F: Fill>(alloc: Global, by: &F, parts: &[Cond]) -> Result<Vec<Cond>, NoMemory>
     ensures { IfOk result (λ v. map test v.items
         ≡ map (fill_test (F.puts by.now)) (map test parts.now)) }
 {
     let mut filled = Vec::with_capacity(alloc, parts.len())?;
     for part in parts {
-        filled.push(fill_cond(by, alloc, part)?)?;
+        filled.push(fill_cond(alloc, by, part)?)?;
     }
     Ok(filled)
 }

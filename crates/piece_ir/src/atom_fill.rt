@@ -82,7 +82,7 @@ impl Fill for PutColumn<'_> {
         match &reference.whose {
             Whose::Atom(atom) => {
                 if *atom == self.atom && &reference.name == self.column {
-                    return fill_expr(&ToAtom { atom: self.atom }, alloc, self.expr);
+                    return fill_expr(alloc, &ToAtom { atom: self.atom }, self.expr);
                 }
                 column_of(*atom, &reference.name)
             }
@@ -97,7 +97,7 @@ fn output(alloc: Global, outs: &[(Name, Expr)], by: usize, name: &Name) -> Resul
 {
     for out in outs {
         if &out.0 == name {
-            return fill_expr(&MovedOn { by }, alloc, &out.1);
+            return fill_expr(alloc, &MovedOn { by }, &out.1);
         }
     }
     moved_column(by, 0, name)

@@ -59,8 +59,8 @@ impl<'v> Unfolding<'v> {
 // Each unfolding of the atoms from this one on, after the chosen views.
 #[cycle(rest)]
 fn unfold_from<'v>(
-    by: &Unfolding<'v>,
     alloc: Global,
+    by: &Unfolding<'v>,
     at: usize,
     chosen: &mut Vec<&'v View>,
     news: &mut Vec<Piece>,
@@ -80,7 +80,7 @@ fn unfold_from<'v>(
     }
     let list = by.views_at(at);
     for view in list {
-        unfold_after(by, alloc, at + 1, view, chosen, news)?;
+        unfold_after(alloc, by, at + 1, view, chosen, news)?;
     }
     Ok(())
 }
@@ -88,8 +88,8 @@ fn unfold_from<'v>(
 // Each unfolding of the atoms from this one on, after the chosen views and one more.
 #[cycle(rest)]
 fn unfold_after<'v>(
-    by: &Unfolding<'v>,
     alloc: Global,
+    by: &Unfolding<'v>,
     at: usize,
     view: &'v View,
     chosen: &mut Vec<&'v View>,
@@ -106,19 +106,19 @@ fn unfold_after<'v>(
 {
     let before = chosen.len();
     chosen.push(view)?;
-    unfold_from(by, alloc, at, chosen, news)?;
+    unfold_from(alloc, by, at, chosen, news)?;
     chosen.truncate(before);
     Ok(())
 }
 
-fn unfold_all(by: &Unfolding<'_>, alloc: Global) -> Result<Vec<Piece>, NoMemory>
+fn unfold_all(alloc: Global, by: &Unfolding<'_>) -> Result<Vec<Piece>, NoMemory>
     requires same { map view_of by.now.wholes.now ≡ map whole_table by.now.piece.now.atoms.items }
     ensures { IfOk result (λ news. shown_pieces news.items
         ≡ unfoldings (all_views_of by.now.views.now) (piece_of by.now.piece.now)) }
 {
     let mut chosen = Vec::with_capacity(alloc, by.piece.atoms.len())?;
     let mut news = Vec::new(alloc);
-    unfold_from(by, alloc, 0, &mut chosen, &mut news)?;
+    unfold_from(alloc, by, 0, &mut chosen, &mut news)?;
     Ok(news)
 }
 
@@ -137,7 +137,7 @@ fn unfold_with<'v>(
         views,
         wholes,
     };
-    unfold_all(&by, alloc)
+    unfold_all(alloc, &by)
 }
 
 /// The unfoldings of a piece by the views of the tables that an operator makes: for each way to put

@@ -32,8 +32,8 @@ fn substituted(
     let by = PutColumn { atom, column, expr };
     Ok(Piece {
         atoms: copy_names(alloc, &piece.atoms)?,
-        cond: fill_cond(&by, alloc, &piece.cond)?,
-        outs: fill_outputs(&by, alloc, &piece.outs)?,
+        cond: fill_cond(alloc, &by, &piece.cond)?,
+        outs: fill_outputs(alloc, &by, &piece.outs)?,
     })
 }
 

@@ -29,8 +29,8 @@ struct PlacedViews {
 
 // Puts conditions after the others, each said of the atoms so many places on.
 fn append_moved(
-    parts: &mut Vec<Cond>,
     alloc: Global,
+    parts: &mut Vec<Cond>,
     added: &[Cond],
     by: usize,
 ) -> Result<(), NoMemory>
@@ -38,7 +38,7 @@ fn append_moved(
         ++ map (fill_test (moved_on by)) (map test added.now)) }
 {
     for part in added {
-        parts.push(fill_cond(&MovedOn { by }, alloc, part)?)?;
+        parts.push(fill_cond(alloc, &MovedOn { by }, part)?)?;
     }
     Ok(())
 }
@@ -57,7 +57,7 @@ fn place_views(alloc: Global, views: &[&View]) -> Result<PlacedViews, NoMemory>
     for view in views {
         let place = atoms.len();
         places.push(place)?;
-        append_moved(&mut parts, alloc, &view.parts, place)?;
+        append_moved(alloc, &mut parts, &view.parts, place)?;
         append_names(&mut atoms, &view.atoms)?;
     }
     Ok(PlacedViews {
@@ -68,15 +68,15 @@ fn place_views(alloc: Global, views: &[&View]) -> Result<PlacedViews, NoMemory>
 }
 
 fn append_filled<F: Fill>(
-    by: &F,
     alloc: Global,
+    by: &F,
     cond: &Cond,
     parts: &mut Vec<Cond>,
 ) -> Result<(), NoMemory>
     ensures { OnOk result (map test parts.new.items ≡ map test parts.old.items
         ++ fill_test (F.puts by.now) (test cond.now) ∷ []) }
 {
-    parts.push(fill_cond(by, alloc, cond)?)?;
+    parts.push(fill_cond(alloc, by, cond)?)?;
     Ok(())
 }
 
@@ -95,19 +95,19 @@ pub fn append_parts<F: Fill>(
 {
     match cond {
         Cond::True => Ok(()),
-        Cond::And(list) => append_lists(by, alloc, list, parts),
-        Cond::False => append_filled(by, alloc, cond, parts),
-        Cond::Cmp(_, _, _) => append_filled(by, alloc, cond, parts),
-        Cond::Or(_) => append_filled(by, alloc, cond, parts),
-        Cond::Not(_) => append_filled(by, alloc, cond, parts),
+        Cond::And(list) => append_lists(alloc, by, list, parts),
+        Cond::False => append_filled(alloc, by, cond, parts),
+        Cond::Cmp(_, _, _) => append_filled(alloc, by, cond, parts),
+        Cond::Or(_) => append_filled(alloc, by, cond, parts),
+        Cond::Not(_) => append_filled(alloc, by, cond, parts),
     }
 }
 
 #[cycle(parts)]
 #[tactic(auto, using(cond_expr::proofs::SeenLaws::test_of_and, cond_expr::proofs::SeenLaws::test_of_or, cond_expr::proofs::SeenLaws::test_of_cmp))]
 fn append_lists<F: Fill>(
-    by: &F,
     alloc: Global,
+    by: &F,
     list: &[Cond],
     parts: &mut Vec<Cond>,
 ) -> Result<(), NoMemory>
@@ -122,8 +122,8 @@ fn append_lists<F: Fill>(
 
 // The condition, filled, with these parts after its own.
 fn add_parts<F: Fill>(
-    by: &F,
     alloc: Global,
+    by: &F,
     cond: &Cond,
     added: Vec<Cond>,
 ) -> Result<Cond, NoMemory>
@@ -131,7 +131,7 @@ fn add_parts<F: Fill>(
         (map test added.items)) }
 {
     if added.is_empty() {
-        let filled = fill_cond(by, alloc, cond)?;
+        let filled = fill_cond(alloc, by, cond)?;
         return Ok(filled);
     }
     let mut added = added;
@@ -158,7 +158,7 @@ pub(crate) fn unfold(alloc: Global, piece: &Piece, views: &[&View]) -> Result<Pi
     };
     Ok(Piece {
         atoms,
-        cond: add_parts(&by, alloc, &piece.cond, parts)?,
-        outs: fill_outputs(&by, alloc, &piece.outs)?,
+        cond: add_parts(alloc, &by, &piece.cond, parts)?,
+        outs: fill_outputs(alloc, &by, &piece.outs)?,
     })
 }

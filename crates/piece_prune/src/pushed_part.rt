@@ -80,7 +80,7 @@ fn push_part(alloc: Global, part: &Cond, atom: u32, into: &mut Vec<Cond>) -> Res
     if !is_own(alloc, part, atom)? {
         return Ok(());
     }
-    into.push(fill_cond(&AsFirst { atom }, alloc, part)?)?;
+    into.push(fill_cond(alloc, &AsFirst { atom }, part)?)?;
     Ok(())
 }
 

@@ -87,8 +87,8 @@ fn all_known<R: Rule>(rules: &[R])
 
 // What the first rule of the operator's kind answers; where there is none, no piece.
 fn rewrite_by<R: Rule>(
-    rules: &[R],
     alloc: Global,
+    rules: &[R],
     op: &Op,
     before: &Schema,
     piece: &Piece,
@@ -106,7 +106,7 @@ fn rewrite_by<R: Rule>(
             if same_kind(rule.kind(), kind_of(op)) {
                 return rule.rewrite(alloc, op, before, piece);
             }
-            rewrite_by(rest, alloc, op, before, piece)
+            rewrite_by(alloc, rest, op, before, piece)
         }
     }
 }
@@ -169,6 +169,6 @@ impl<R: Rule> RuleBook<R> {
             ≡ book_of R.handles R.answers self.now.rules.items (operator_of op.now) before.now
             (piece_of piece.now)) }
     {
-        rewrite_by(&self.rules, alloc, op, before, piece)
+        rewrite_by(alloc, &self.rules, op, before, piece)
     }
 }

@@ -17,14 +17,14 @@ use schema_catalog::Schema;
 use std::alloc::Global;
 use temporal_lang_types::copy_items;
 
-fn resolve_outputs(by: &ToAtoms<'_>, alloc: Global, outs: &[Expr]) -> Result<Vec<Expr>, NoMemory>
+fn resolve_outputs(alloc: Global, by: &ToAtoms<'_>, outs: &[Expr]) -> Result<Vec<Expr>, NoMemory>
     ensures { IfOk result (λ v. map tree v.items
         ≡ map (fill (to_atoms (sources_of by.now.schema.now by.now.from.now)))
         (map tree outs.now)) }
 {
     let mut resolved = Vec::with_capacity(alloc, outs.len())?;
     for out in outs {
-        resolved.push(fill_expr(by, alloc, out)?)?;
+        resolved.push(fill_expr(alloc, by, out)?)?;
     }
     Ok(resolved)
 }
@@ -38,9 +38,9 @@ fn resolve_branch(alloc: Global, schema: &Schema, branch: &Branch) -> Result<Bra
         from: &branch.from,
     };
     Ok(Branch {
-        outs: resolve_outputs(&by, alloc, &branch.outs)?,
+        outs: resolve_outputs(alloc, &by, &branch.outs)?,
         from: copy_items(alloc, &branch.from)?,
-        cond: fill_cond(&by, alloc, &branch.cond)?,
+        cond: fill_cond(alloc, &by, &branch.cond)?,
     })
 }
 
