@@ -9,6 +9,7 @@ use archive_core::{Archive, MountFault, Opened};
 use cases_text::{Groups, write_number};
 use disk_model::{Disk, FuseDisk, MemDisk};
 use prima_base::{NoMemory, Steps};
+use prima_base_counter::fresh_steps;
 use prima_io::{MemSink, MemSource};
 use rewrite_rules::{Rule, RuleBook, push_every_rule};
 use script_cli::{Status, Word, run};
@@ -142,7 +143,7 @@ fn mount_counted<L: Ledger>(
     requires parts { blank.parts ≡ L.parts }
     requires some { 0 < blank.parts }
 {
-    let mut steps: Steps<L> = Steps::new(blank);
+    let mut steps: Steps<L> = fresh_steps(blank);
     match Archive::mount(alloc, disk, u64::MAX, &mut steps) {
         Ok((_archive, opened)) => Ok(opened),
         Err((_disk, fault)) => Err(fault),

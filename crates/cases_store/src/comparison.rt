@@ -7,6 +7,7 @@ use cases_store_tables::{
 };
 use history_store::{BorrowedRows, Cell, Cut, GivenRow, StoredTable};
 use prima_base::{ColType, Name, NoMemory, Period, Row, Steps, Val, Value};
+use prima_base_counter::fresh_steps;
 use std::alloc::Global;
 use std::cmp::Ordering;
 use std::marker::Brand;
@@ -68,7 +69,7 @@ fn are_borrowed_counted<L: Ledger>(
     requires parts { blank.parts ≡ L.parts }
     requires some { 0 < blank.parts }
 {
-    let mut steps: Steps<L> = Steps::new(blank);
+    let mut steps: Steps<L> = fresh_steps(blank);
     let mut values = Vec::new(alloc);
     for (at, place) in places.iter().enumerate() {
         if at >= borrowed.len() {

@@ -19,6 +19,7 @@ use crate::row::add_copies;
 use crate::row_comparison::{NOW, are_in_order};
 use history_store::{BorrowedRows, Cell, CellEntry, CellScan, Cut, GivenRow, KeyScan, StoredTable};
 use prima_base::{ColType, FOREVER, Name, NoMemory, Period, Row, Steps, Value};
+use prima_base_counter::fresh_steps;
 use std::alloc::Global;
 use std::cmp::Ordering;
 use std::marker::{Brand, Model};
@@ -180,7 +181,7 @@ fn current_counted<L: Ledger>(stored: &StoredTable, blank: Blank) -> Result<Vec<
     requires parts { blank.parts ≡ L.parts }
     requires some { 0 < blank.parts }
 {
-    let mut steps: Steps<L> = Steps::new(blank);
+    let mut steps: Steps<L> = fresh_steps(blank);
     stored.current(&mut steps)
 }
 
@@ -355,7 +356,7 @@ fn scan_counted<'a, L: Ledger>(
         (entries_of s.columns.items)) }
     ensures valid { IfOk result (λ s. IsStore stored.now) }
 {
-    let mut steps: Steps<L> = Steps::new(blank);
+    let mut steps: Steps<L> = fresh_steps(blank);
     let keys = take_keys(alloc, stored.scan_keys(), &mut steps)?;
     let columns = take_columns(alloc, stored, &mut steps)?;
     Ok(Scanned { keys, columns })

@@ -6,7 +6,6 @@
 
 mod agg_row;
 mod column;
-mod counter;
 mod failure;
 mod fault;
 mod keep;
@@ -22,12 +21,12 @@ mod value;
 
 pub use agg_row::{AggRow, AggValue};
 pub use column::copy_columns;
-pub use counter::Steps;
 pub use failure::{Failed, NoMemory};
 pub use fault::CallFault;
 pub use keep::Keep;
 pub use name::{Name, NameFault, is_name_byte};
 pub use period::{FOREVER, Period, meet};
+pub use prima_base_counter::Steps;
 pub use refusal::{OpKind, OpRefusal, Refusal, What};
 pub use reserved::push_all_reserved;
 pub use row::{Row, rows_are_told_apart};

@@ -15,6 +15,7 @@ use archive_core::{Archive, MountFault, Opened};
 use archive_core_file_spec::a_file_opens_or_is_damaged;
 use disk_model::Disk;
 use prima_base::Steps;
+use prima_base_counter::fresh_steps;
 use prima_io::{Sink, Source};
 use rewrite_rules_book::{Rule, RuleBook};
 use std::alloc::Global;
@@ -36,7 +37,7 @@ pub(crate) fn mount_counted<D: Disk, L: Ledger>(
     ensures fault { IfErr result (λ it. HasNotOpened (D.meaning disk) (D.meaning it.0) it.1) }
 {
     a_file_opens_or_is_damaged();
-    let mut steps: Steps<L> = Steps::new(blank);
+    let mut steps: Steps<L> = fresh_steps(blank);
     match Archive::mount(alloc, disk, limit, &mut steps) {
         Ok((archive, opened)) => Ok((archive, opened)),
         Err((disk, fault)) => Err((disk, fault)),

@@ -43,6 +43,7 @@ use disk_model::Disk;
 use piece_ir::Explained;
 use prima_base::limits::MAX_VERSIONS;
 use prima_base::{Refusal, Steps};
+use prima_base_counter::fresh_steps;
 use prima_io::{Failed, Sink};
 use rewrite_rules_book::{Rule, RuleBook};
 use script_parse::{ReadFault, Statement, next_statement};
@@ -158,7 +159,7 @@ fn ask_counted<'a, D: Disk, L: Ledger, R: Rule>(
     ensures { (past : Past) → RepresentsPast (standing_of archive.now) past
         → IsAsked past (query_of query.now) result }
 {
-    let mut steps: Steps<L> = Steps::new(blank);
+    let mut steps: Steps<L> = fresh_steps(blank);
     archive.query(book, query, &mut steps)
 }
 

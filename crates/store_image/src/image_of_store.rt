@@ -27,6 +27,7 @@ use command_codec_writer::{
 };
 use history_store::{CellEntry, CellScan, KeyScan, StoredTable};
 use prima_base::{NoMemory, Period, Steps};
+use prima_base_counter::fresh_steps;
 use smo_ops_types::Version;
 use std::alloc::Global;
 use std::marker::Brand;
@@ -247,7 +248,7 @@ fn image_counted<L: Ledger>(
     ensures bytes { IfOk result (λ v. v.items ≡ image_bytes (image_in groups.now last)) }
     ensures holds { OnOk result (GroupsHold groups.now) }
 {
-    let mut steps: Steps<L> = Steps::new(blank);
+    let mut steps: Steps<L> = fresh_steps(blank);
     let size = image_size(groups, &mut steps);
     let mut out = Vec::with_capacity(alloc, size as usize)?;
     put_last(&mut out, last)?;

@@ -9,6 +9,7 @@ use answer_text::Listing;
 use archive_core_state::{ArchiveState, AskFault};
 use lexer::tokens;
 use prima_base::{FOREVER, Period, Steps, Val};
+use prima_base_counter::fresh_steps;
 use rewrite_rules::{Rule, RuleBook, push_every_rule};
 use script_parse::{Statement, next_statement};
 use smo_ops_types::Command;
@@ -87,7 +88,7 @@ fn answer_by<'a, L: Ledger, R: Rule>(
     requires parts { blank.parts ≡ L.parts }
     requires some { 0 < blank.parts }
 {
-    let mut steps: Steps<L> = Steps::new(blank);
+    let mut steps: Steps<L> = fresh_steps(blank);
     archive.query(book, query, &mut steps)
 }
 

@@ -5,6 +5,7 @@ use crate::archive::{FILLING, command_of, query_of};
 use archive_core::Archive;
 use disk_model::SureDisk;
 use prima_base::Steps;
+use prima_base_counter::fresh_steps;
 use rewrite_rules::{Rule, RuleBook};
 use std::alloc::Global;
 use std::marker::Brand;
@@ -18,7 +19,7 @@ fn mounted<L: Ledger>(alloc: Global, blank: Blank) -> Result<Archive<SureDisk>, 
     requires parts { blank.parts ≡ L.parts }
     requires some { 0 < blank.parts }
 {
-    let mut steps: Steps<L> = Steps::new(blank);
+    let mut steps: Steps<L> = fresh_steps(blank);
     match Archive::mount(alloc, SureDisk::new(), u64::MAX, &mut steps) {
         Ok((archive, _opened)) => Ok(archive),
         Err((_disk, _fault)) => Err(Fail::new("an empty disk is mounted")),
@@ -54,7 +55,7 @@ fn rows_and_steps<L: Ledger, R: Rule>(
     requires parts { blank.parts ≡ L.parts }
     requires some { 0 < blank.parts }
 {
-    let mut steps: Steps<L> = Steps::new(blank);
+    let mut steps: Steps<L> = fresh_steps(blank);
     let Ok(listing) = archive.query(book, query, &mut steps) else {
         return Err(Fail::new("the query is answered"));
     };

@@ -35,6 +35,7 @@ use crate::row_value::copy_values;
 use cond_expr::{CmpOp, Cond, Expr, pinned};
 use history_store::{BorrowedRows, GivenRow, StoredTable};
 use prima_base::{ColType, Name, NoMemory, Row, Steps, Val, Value};
+use prima_base_counter::fresh_steps;
 use smo_ops::{Change, OwnColumns, inserted_row, row_meets, row_with_sets};
 use std::alloc::Global;
 use std::marker::Brand;
@@ -138,7 +139,7 @@ fn find_hits_counted<'a, L: Ledger>(
     let to = high_cut(alloc, cond, own.atoms())?;
     let mut rows = lend_rows(store, own, cond, &from, &to);
     let mut hits = pending.hits(alloc, own, cond, from, to)?;
-    let mut steps: Steps<L> = Steps::new(blank);
+    let mut steps: Steps<L> = fresh_steps(blank);
     put_stored_hits(alloc, &mut rows, pending, own, cond, &mut hits, &mut steps)?;
     Ok(hits)
 }

@@ -32,6 +32,7 @@ ghost use Rattle.version_groups_tables.specs.Evolving.{IsBegun, Comes, IsEvolved
 use crate::made_table::{MadeTable, find_stored, kept_table};
 use history_store::StoredTable;
 use prima_base::{Name, NoMemory, Row, Steps};
+use prima_base_counter::fresh_steps;
 use schema_catalog::{Schema, Table};
 use smo_maps::{Carried, carry};
 use smo_ops::{Made, Op, Version, made, made_of, next_schema_is_valid};
@@ -244,7 +245,7 @@ fn migrate_rows<L: Ledger>(
         (migrate before.now (operator_of op.now) database) c.first.items c.second.items) }
 {
     let given = made_of(op);
-    let mut steps: Steps<L> = Steps::new(blank);
+    let mut steps: Steps<L> = fresh_steps(blank);
     let first = current_rows(alloc, tables, places, given.first, &mut steps)?;
     let second = current_rows(alloc, tables, places, given.second, &mut steps)?;
     carry(alloc, op, before, &first, &second)
