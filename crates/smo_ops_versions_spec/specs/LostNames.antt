@@ -48,8 +48,8 @@ abbrev pub made_loss : Tables → Operator → Losses → Option Loss
 made_loss tables op losses =
     option_or (first_loss (table_loss losses) (made_of op)) (rows_lost tables op losses)
 
--- else a column of it is lost where it is lost in an input; a computed one where what it is computed
--- of is, and a renamed one as the old one was
+-- else a column of it is lost where it is lost in an input; a computed one where what it is
+-- computed of is, and a renamed one as the old one was
 abbrev pub made_column_loss : Operator → Losses → List ℕ → Option Loss
 made_column_loss (add_column c e r) losses n = if same c n
     then first_named (column_loss losses r) (references e) else column_loss losses r n

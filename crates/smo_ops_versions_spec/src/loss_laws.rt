@@ -25,12 +25,12 @@ ghost use Rattle.smo_ops_versions_spec.specs.LostNames.{first_named, rows_lost, 
 ghost use Rattle.smo_ops_versions_spec.specs.LostNames.{losses_over, losses_filled, losses_undone};
 ghost use Rattle.smo_ops_versions_spec.specs.LostNames.{losses_stepped, lost_names};
 
-/// What is lost for queries on the way from version to version, one step at a time: where one stands
-/// nothing is; and a way that is one step longer loses what that step makes of the losses before it.
-/// Such a step, at the version number `k + 1`, is one over that version's operator; or back from it,
-/// over the operators of its named inverse, first to last; where none is named over the derived one;
-/// or over the filling of the column that it drops; or back over an operator with no way back. The
-/// loss of the last two is the first operator of version `k + 1`.
+/// What is lost for queries on the way from version to version, one step at a time: where one
+/// stands nothing is, and a way that is one step longer loses what that step makes of the losses
+/// before it. Such a step, at the version number `k + 1`, is one over that version's operator; or
+/// back from it, over the operators of its named inverse, first to last; and where none is named,
+/// over the derived one, over the filling of the column that was dropped, or back over an operator
+/// with no way back. The loss of the last two is by the first operator of version `k + 1`.
 pub fn losses_by_name_are_step_by_step()
     ensures stays { (versions : List PlainVersion) → (v : ℕ) → lost_names versions v v ≡ empty }
     ensures forward { (versions : List PlainVersion) → (v : ℕ) → (q : ℕ) → v ≤ q
@@ -109,8 +109,8 @@ pub fn made_tables_are_lost_by_rules()
         → get (losses_over tables op losses) n ≡ get losses n }
 {}
 
-/// A column of a made table that is not lost itself is lost where an input has lost it, by the first
-/// such input. The new column of an ADD COLUMN is lost where its expression names a lost column, by
+/// A column of a made table that is not lost itself is lost where an input has lost it, by the
+/// first such input. The new column of an ADD COLUMN is lost where its expression names a lost column, by
 /// the first such column in written order, and a renamed one as the old one was.
 pub fn made_columns_are_lost_by_rules()
     ensures column { (tables : Tables) → (op : Operator) → (losses : Losses) → (n : List ℕ)
