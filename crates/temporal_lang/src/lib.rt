@@ -30,9 +30,7 @@ pub use query_reader::ask;
 pub use temporal_lang_grammar_spec::{
     overflows_tell_what_is_too_much, queries_are_correct, queries_are_one,
 };
-pub use temporal_lang_losses_spec::{
-    databases_agree_again, no_answer_shows_a_filling, what_is_not_lost_is_answered_alike,
-};
+pub use temporal_lang_losses_spec::{databases_agree_up_to_losses, no_answer_shows_a_filling};
 pub use temporal_lang_spec::{
     a_query_is_refused_for_want_of_an_inverse_alone, first_loss_is_at_the_least_moment,
     listing_is_the_one_list,
