@@ -16,6 +16,7 @@ use Rattle.temporal_lang_types.specs.Queries.{PlainQuery, slice_of}
 use Rattle.temporal_lang_spec.specs.Accepted.{fault_of_query, HasNoWayBack}
 use Rattle.temporal_lang_spec.specs.Answers.{asked_at, listing, answer}
 use Rattle.temporal_lang_losses_spec.specs.Filled.{asked_with}
+use Rattle.temporal_lang_losses_spec.specs.LawOfLosses.{LawOfLosses}
 use Rattle.piece_ir_spec.specs.Rules.{Book}
 use Rattle.archive_core_file_spec.specs.LogRecords.{LogRecord, AreEncoded, AreAccepted, AreSound}
 use Rattle.archive_core_file_spec.specs.LogRecords.{past_recorded}
@@ -105,6 +106,9 @@ pub record OutputLaws (book : Book) : Type 0 where
       (query : PlainQuery) (k : ℕ) (kind : OpKind)
       → let past = (recorded_after limit (recorded opening) statements).past in
       fault_of_query past query ≡ Some (NoInverse k kind) → HasNoWayBack past query k kind
+  -- what is lost by names alone tells how far two databases stay alike on a way, and what is
+  -- answered alike over both
+  pub losses : LawOfLosses
   -- No answer shows a filling: what a query that is not refused asks of a moment of its slice is
   -- the same with any other constants in the dropped columns that are filled on the way.
   pub fillings : (limit : Given) (opening : List LogRecord) (statements : List StatementPart)

@@ -37,8 +37,10 @@ use script_parse_laws::{a_script_is_read_in_one_way, a_statement_has_no_open_tex
 use smo_ops::a_command_is_seen_from_its_stamp_on;
 use std::alloc::Global;
 use store_image_spec::an_image_shows_a_past;
-use temporal_lang::{a_query_is_refused_for_want_of_an_inverse_alone, listing_is_the_one_list};
-use temporal_lang_losses_spec::no_answer_shows_a_filling;
+use temporal_lang::{
+    a_query_is_refused_for_want_of_an_inverse_alone, databases_agree_up_to_losses,
+    listing_is_the_one_list, no_answer_shows_a_filling,
+};
 
 // The run over a disk that is borrowed.
 fn run_borrowed<S: Source, K: Sink, D: Disk, R: Rule>(
@@ -243,6 +245,7 @@ pub fn run<S: Source, K: Sink, D: Disk, R: Rule>(
     listing_is_the_one_list();
     a_query_is_refused_for_want_of_an_inverse_alone();
     an_accepted_query_asks_questions();
+    databases_agree_up_to_losses();
     no_answer_shows_a_filling();
     a_file_opens_or_is_damaged();
     an_image_shows_a_past();

@@ -41,9 +41,12 @@ pub use smo_ops_types::{
     Body, Change, ChangeFault, Command, InverseFault, Op, OpFault, Version, Versions,
 };
 pub use smo_ops_versions_spec::{
-    a_lost_table_may_be_taken_for_an_empty_one, copied_and_dropped_is_as_before,
-    names_tell_what_is_lost, partitioned_and_merged_is_as_before, renamed_back_is_as_before,
-    the_way_is_step_by_step, the_way_keeps_a_database, the_way_keeps_valid_values,
-    what_is_derived_leads_back, what_is_lost_has_no_inverse,
+    a_lost_table_may_be_taken_for_an_empty_one, a_step_is_over_its_version,
+    copied_and_dropped_is_as_before, each_table_has_a_column, losses_by_name_are_step_by_step,
+    made_columns_are_lost_by_rules, made_tables_are_lost_by_rules, names_tell_what_is_lost,
+    partitioned_and_merged_is_as_before, renamed_back_is_as_before,
+    steps_back_lose_what_is_not_there, the_way_is_step_by_step, the_way_keeps_a_database,
+    the_way_keeps_valid_values, what_is_derived_leads_back, what_is_lost_has_no_inverse,
+    what_is_lost_is_lost_from_later_versions,
 };
 pub use version::begins_at;

@@ -10,6 +10,7 @@ pub mod WayDatabases
 pub mod WayValues
 pub mod LossesByName
 pub mod LossMaps
+pub mod StepLosses
 pub mod LossCauses
 pub mod ColumnsStayLost
 pub mod MappedTables

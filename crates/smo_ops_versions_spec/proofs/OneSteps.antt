@@ -1,5 +1,5 @@
--- What one step of a way is: over the version's operator, and back over its inverse, or over the
--- operator itself where none is named.
+-- What one step of a way is: over the version's operator, and back over its inverse, or over what is
+-- derived from the operator, or over the operator itself where it has no way back.
 use Rattle.std.proofs.Common.{◌≡◌, ◌+◌, ℕ, Bool, true, false, List, [], ◌∷◌, refl, sym, ap, ◌∙◌}
 use Rattle.std.specs.Prelude.{cond, ◌||◌, Option, Some, None, slice_get}
 use Rattle.std.specs.FinMap.{get, insert, get-insert}
@@ -12,12 +12,13 @@ use Rattle.smo_ops_spec.specs.OneRow.{same}
 use Rattle.smo_ops_spec.specs.Preconditions.{among}
 use Rattle.smo_ops_spec.specs.OperatorTable.{line, made_names}
 use Rattle.smo_ops_spec.specs.Touching.{makes, consumes}
-use Rattle.smo_ops_spec.specs.After.{lose_all}
+use Rattle.smo_ops_spec.specs.After.{lose_all, schema_after}
 use Rattle.smo_ops_spec.specs.Losses.{Loss}
 use Rattle.smo_ops_spec.specs.Past.{no_tables, tables_from}
 use Rattle.smo_ops_spec.proofs.TouchedTables.{lost_others}
-use Rattle.smo_ops_versions_spec.specs.Steps.{carrying, undoing, carrying_each}
-use Rattle.smo_ops_spec.specs.WaysBack.{WayBack, no_way, way_back_over}
+use Rattle.smo_ops_spec.specs.WaysBack.{FilledColumn, WayBack, by_inverse, by_filling, no_way}
+use Rattle.smo_ops_spec.specs.WaysBack.{way_back_over}
+use Rattle.smo_ops_versions_spec.specs.Steps.{carrying, filling, undoing, carrying_each}
 use Rattle.smo_ops_versions_spec.specs.Ways.{step_by, step_back, back_over, over_version}
 use Rattle.smo_ops_versions_spec.specs.Ways.{back_over_version, to_next, from_next}
 use Rattle.smo_ops_versions_spec.specs.Migration.{lost_by, undone}
@@ -43,6 +44,18 @@ module _ (versions : List PlainVersion) (k : ℕ) (v : PlainVersion)
       → from_next versions k ≡ step_back (k + 1, 1) (tables_from no_tables versions k) v.op ∷ []
   unnamed_is e = back_is ∙ ap (λ (ops : List Operator).
       back_over (k + 1) before v.op v.tables ops) e
+
+  pub derived_is : (op : Operator) → v.inverse ≡ []
+      → way_back_over (tables_from no_tables versions k) v.op ≡ by_inverse op
+      → from_next versions k
+      ≡ carrying (schema_after (tables_from no_tables versions k) v.op) op ∷ []
+  derived_is op e n = unnamed_is e ∙ ap (λ (w : WayBack). step_by (k + 1, 1) before v.op w ∷ []) n
+
+  pub filled_is : (f : FilledColumn) → v.inverse ≡ []
+      → way_back_over (tables_from no_tables versions k) v.op ≡ by_filling f
+      → from_next versions k
+      ≡ filling (k + 1, 1) (schema_after (tables_from no_tables versions k) v.op) f ∷ []
+  filled_is f e n = unnamed_is e ∙ ap (λ (w : WayBack). step_by (k + 1, 1) before v.op w ∷ []) n
 
   pub no_way_is : v.inverse ≡ [] → way_back_over (tables_from no_tables versions k) v.op ≡ no_way
       → from_next versions k ≡ undoing (k + 1, 1) (tables_from no_tables versions k) v.op ∷ []

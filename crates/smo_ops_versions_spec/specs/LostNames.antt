@@ -1,6 +1,6 @@
 -- The tables and the columns that are lost on the way from one version to another, by names alone.
 use Rattle.std.specs.Prelude.{◌≡◌, ℕ, ◌+◌, ◌<◌, ◌≤◌, List, [], ◌∷◌, Option, Some, None, ⊤}
-use Rattle.std.specs.Prelude.{slice_get, if◌then◌else◌}
+use Rattle.std.specs.Prelude.{slice_get, if◌then◌else◌, Bool, false}
 use Rattle.std.specs.Option.{option_or}
 use Rattle.std.specs.FinMap.{get, insert, remove, empty}
 use Rattle.prima_base.specs.Columns.{Column}
@@ -48,14 +48,20 @@ abbrev pub made_loss : Tables → Operator → Losses → Option Loss
 made_loss tables op losses =
     option_or (first_loss (table_loss losses) (made_of op)) (rows_lost tables op losses)
 
--- else a column of it is lost where it is lost in an input; a computed one where what it is computed
--- of is, and a renamed one as the old one was
+-- else a column of it is lost where it is lost in an input; a computed one where what it is
+-- computed of is, and a renamed one as the old one was
 abbrev pub made_column_loss : Operator → Losses → List ℕ → Option Loss
 made_column_loss (add_column c e r) losses n = if same c n
     then first_named (column_loss losses r) (references e) else column_loss losses r n
 made_column_loss (rename_column b r c) losses n = if same c n then column_loss losses r b
     else column_loss losses r n
 made_column_loss op losses n = in_inputs losses op n
+
+-- the operator gives the column with this name another value than an input has under it
+abbrev pub gives_column : Operator → List ℕ → Bool
+gives_column (add_column c e r) n = same c n
+gives_column (rename_column b r c) n = same c n
+gives_column op n = false
 
 abbrev pub made_as : Option Loss → (List ℕ → Option Loss) → List Column → TableLoss
 made_as None columns_lost columns = OfColumns (gathered columns columns_lost)

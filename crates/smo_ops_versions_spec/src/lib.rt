@@ -6,10 +6,15 @@
 #![tactic(auto)]
 
 mod lifeline_laws;
+mod loss_laws;
 mod round_trip;
 mod way_laws;
 
 pub use lifeline_laws::each_version_has_the_tables_of_its_lifelines;
+pub use loss_laws::{
+    losses_by_name_are_step_by_step, made_columns_are_lost_by_rules, made_tables_are_lost_by_rules,
+    steps_back_lose_what_is_not_there,
+};
 pub use round_trip::{
     copied_and_dropped_is_as_before, partitioned_and_merged_is_as_before, renamed_back_is_as_before,
 };

@@ -11,7 +11,8 @@ ghost use Rattle.smo_ops_spec.specs.After.{op_fault, schema_after, migrate, IsVa
 ghost use Rattle.smo_ops_spec.specs.Past.{no_tables, tables_from};
 ghost use Rattle.smo_ops_spec.specs.ValidPast.{AreVersions};
 ghost use Rattle.smo_ops_spec.specs.ValidValues.{HoldsValues, VersionsHold};
-ghost use Rattle.smo_ops_spec.specs.WaysBack.{no_way, way_back_over, WayLeadsBack};
+ghost use Rattle.smo_ops_spec.specs.WaysBack.{FilledColumn, by_inverse, by_filling, no_way};
+ghost use Rattle.smo_ops_spec.specs.WaysBack.{way_back_over, blank, filled_with, WayLeadsBack};
 ghost use Rattle.smo_ops_versions_spec.specs.TableColumns.{HaveColumns};
 ghost use Rattle.smo_ops_versions_spec.specs.Steps.{carrying_each, taken};
 ghost use Rattle.smo_ops_versions_spec.specs.Ways.{to_next, from_next};
@@ -60,10 +61,11 @@ pub fn the_way_is_step_by_step()
 
 /// What one step of a way is, at the version number `k + 1`, the one after the tables of version
 /// `k`. To it a database is carried over the version's operator. Back from it, where an inverse is
-/// named, it is carried over the inverse's operators, first to last, each after the one before; and
-/// where none is named and the operator has no way back, each table that it consumed is lost by the
-/// first operator of version `k + 1`, each that it made and did not consume is gone, and all others
-/// stay. The same, by names alone, of the tables that are lost.
+/// named, it is carried over the inverse's operators, first to last, each after the one before.
+/// Where none is named, it is carried over the derived inverse, or a dropped column is filled with
+/// the constant of its type; and where the operator has no way back, each table that it consumed is
+/// lost by the first operator of version `k + 1`, each that it made and did not consume is gone,
+/// and all others stay. The same, by names alone, of the tables that are lost.
 pub fn a_step_is_over_its_version()
     ensures forward { (versions : List PlainVersion) → (k : ℕ) → (v : PlainVersion)
         → (database : Database) → slice_get versions k ≡ Some v
@@ -78,6 +80,19 @@ pub fn a_step_is_over_its_version()
     ensures over_each { (tables : Tables) → (op : Operator) → (ops : List Operator)
         → (database : Database) → migrate_over tables (op ∷ ops) database
         ≡ migrate_over (schema_after tables op) ops (migrate tables op database) }
+    ensures derived { (versions : List PlainVersion) → (k : ℕ) → (v : PlainVersion)
+        → (database : Database) → (op : Operator)
+        → slice_get versions k ≡ Some v → v.inverse ≡ []
+        → way_back_over (tables_from no_tables versions k) v.op ≡ by_inverse op
+        → back versions k database
+        ≡ migrate (schema_after (tables_from no_tables versions k) v.op) op database }
+    ensures filled { (versions : List PlainVersion) → (k : ℕ) → (v : PlainVersion)
+        → (database : Database) → (f : FilledColumn)
+        → slice_get versions k ≡ Some v → v.inverse ≡ []
+        → way_back_over (tables_from no_tables versions k) v.op ≡ by_filling f
+        → back versions k database
+        ≡ migrate (schema_after (tables_from no_tables versions k) v.op) (filled_with blank f)
+        database }
     ensures lost { (versions : List PlainVersion) → (k : ℕ) → (v : PlainVersion)
         → (database : Database) → (n : List ℕ)
         → slice_get versions k ≡ Some v → v.inverse ≡ []
@@ -107,6 +122,19 @@ pub fn a_step_is_over_its_version()
         → slice_get versions k ≡ Some v → v.inverse ≡ op ∷ rest
         → taken lost_stepped (from_next versions k) losses
         ≡ taken lost_stepped (carrying_each v.tables v.inverse) losses }
+    ensures losses_derived { (versions : List PlainVersion) → (k : ℕ) → (v : PlainVersion)
+        → (losses : LostTables) → (op : Operator)
+        → slice_get versions k ≡ Some v → v.inverse ≡ []
+        → way_back_over (tables_from no_tables versions k) v.op ≡ by_inverse op
+        → taken lost_stepped (from_next versions k) losses
+        ≡ lost_over (schema_after (tables_from no_tables versions k) v.op) op losses }
+    ensures losses_filled { (versions : List PlainVersion) → (k : ℕ) → (v : PlainVersion)
+        → (losses : LostTables) → (f : FilledColumn)
+        → slice_get versions k ≡ Some v → v.inverse ≡ []
+        → way_back_over (tables_from no_tables versions k) v.op ≡ by_filling f
+        → taken lost_stepped (from_next versions k) losses
+        ≡ lost_over (schema_after (tables_from no_tables versions k) v.op) (filled_with blank f)
+        losses }
     ensures losses_undone { (versions : List PlainVersion) → (k : ℕ) → (v : PlainVersion)
         → (losses : LostTables) → slice_get versions k ≡ Some v → v.inverse ≡ []
         → way_back_over (tables_from no_tables versions k) v.op ≡ no_way

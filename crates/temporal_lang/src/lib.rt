@@ -1,6 +1,7 @@
 //! The query language: queries are read from tokens, from left to right, and checked. What a query
 //! is says temporal_lang_types, which tokens spell it temporal_lang_grammar_spec, what it lists and
-//! what is wrong with it temporal_lang_spec: what crates above name of these is exported again.
+//! what is wrong with it temporal_lang_spec, and that what is lost reaches no answer
+//! temporal_lang_losses_spec: what crates above name of these is exported again.
 #![tactic(auto)]
 
 mod arity;
@@ -29,6 +30,7 @@ pub use query_reader::ask;
 pub use temporal_lang_grammar_spec::{
     overflows_tell_what_is_too_much, queries_are_correct, queries_are_one,
 };
+pub use temporal_lang_losses_spec::{databases_agree_up_to_losses, no_answer_shows_a_filling};
 pub use temporal_lang_spec::{
     a_query_is_refused_for_want_of_an_inverse_alone, first_loss_is_at_the_least_moment,
     listing_is_the_one_list,

@@ -5,6 +5,4 @@
 
 mod laws;
 
-pub use laws::{
-    databases_agree_again, no_answer_shows_a_filling, what_is_not_lost_is_answered_alike,
-};
+pub use laws::{databases_agree_up_to_losses, no_answer_shows_a_filling};

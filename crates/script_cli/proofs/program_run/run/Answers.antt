@@ -249,6 +249,7 @@ returns-clause-laws g c = record {
   inverse = λ limit opening statements query k kind told.
       c.a_query_is_refused_for_want_of_an_inverse_alone.ensures
       (recorded_after limit (recorded opening) statements).past query k kind told;
+  losses = c.databases_agree_up_to_losses.ensures;
   fillings = λ limit opening statements query constants m are history kinds accepted from to.
       c.no_answer_shows_a_filling.ensures.asked
       (recorded_after limit (recorded opening) statements).past query m constants kinds
