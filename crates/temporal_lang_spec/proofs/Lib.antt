@@ -11,3 +11,4 @@ mod WorkedPast
 mod WorkedWays
 mod WorkedMerge
 mod WorkedDecompose
+pub mod AggregateFaultLaws

@@ -4,3 +4,5 @@ pub mod Atoms
 pub mod Checking
 pub mod Accepted
 pub mod Resolved
+pub mod PairFaults
+pub mod AggregateFaults
