@@ -87,6 +87,13 @@ unfoldable pub pair_text : Entry (List Value) → Entry (List Value) → List �
 pair_text left right = entry_text (codes "pair") left
     ++ (entry_text (codes " with") right ++ codes "\n")
 
+-- pairs of entries, a line each, and then how many they are
+abbrev pub line_of_pair : Entry (List Value) × Entry (List Value) → List ℕ
+line_of_pair pair = pair_text pair.0 pair.1
+
+unfoldable pub pairs_text : List (Entry (List Value) × Entry (List Value)) → List ℕ
+pairs_text pairs = flat_map line_of_pair pairs ++ count_text (length pairs)
+
 -- what an aggregate has of a group
 abbrev pub amount_text : Amount → List ℕ
 amount_text (groups.count n) = decimal n
@@ -100,6 +107,11 @@ amounts_text amounts = flat_map (λ a. codes " " ++ amount_text a) amounts
 unfoldable pub aggregate_text : Bool → Entry Group → List ℕ
 aggregate_text told e = head_text told e.period.start e.period.end
     ++ (values_text e.item.key ++ (amounts_text e.item.amounts ++ codes "\n"))
+
+-- groups, a line each, and then how many they are
+unfoldable pub aggregates_text : Bool → List (Entry Group) → List ℕ
+aggregates_text told entries = flat_map (aggregate_text told) entries
+    ++ count_text (length entries)
 
 -- ---- the pieces of a query
 

@@ -23,7 +23,7 @@ pub use aggregate::put_aggregate;
 pub use explanation::{explain_text, put_explained};
 pub use lifeline::{put_count, put_size};
 pub use listing::{Listing, put_listing};
-pub use pair::put_pair;
+pub use pair::{put_pair, put_pair_count};
 pub use printer::piece_text;
 pub use refusal::put_refusal;
 pub use reply::{put_changed, put_checkpoint, put_evolved, put_not_a_journal, put_wrong_words};

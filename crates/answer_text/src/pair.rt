@@ -6,10 +6,11 @@ ghost use Rattle.prima_io.specs.Causes.{HasCause};
 ghost use Rattle.prima_io.specs.Moves.{AppendsLess};
 ghost use Rattle.prima_base.specs.Order.{shown};
 ghost use Rattle.answer_text.specs.Gathering.{Gathers};
-ghost use Rattle.answer_text.specs.Texts.{period_text, entry_text, pair_text};
+ghost use Rattle.answer_text.specs.Texts.{period_text, entry_text, pair_text, count_text};
 
 use crate::line::ReplyLine;
 use crate::listing::push_values;
+use itoa::Buffer;
 use prima_base::{Period, Val};
 use prima_io::{Failed, Sink};
 
@@ -32,6 +33,22 @@ pub fn put_pair<K: Sink>(
 {
     let mut line = ReplyLine::new();
     push_pair(&mut line, sink, left, left_values, right, right_values)?;
+    line.flush(sink)
+}
+
+/// Puts the line after those of all pairs, which are so many: two answers may have more of them than
+/// 64 bits count. It takes no memory.
+pub fn put_pair_count<K: Sink>(sink: &mut K, count: u128) -> Result<(), Failed>
+    ensures all { OnOk result (Appends (K.written sink.old) (K.written sink.new)
+        (count_text count)) }
+    ensures part { OnErr result (AppendsLess (K.written sink.old) (K.written sink.new)
+        (count_text count)) }
+    ensures cause { HasCause (K.faults sink.old) (K.faults sink.new) result }
+{
+    let mut line = ReplyLine::new();
+    line.add(b"end ");
+    line.add(Buffer::new().format(count).as_bytes());
+    line.add(b"\n");
     line.flush(sink)
 }
 

@@ -12,3 +12,4 @@ mod WorkedWays
 mod WorkedMerge
 mod WorkedDecompose
 pub mod AggregateFaultLaws
+pub mod PairFaultLaws

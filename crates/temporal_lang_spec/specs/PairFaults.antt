@@ -1,6 +1,6 @@
 -- What is wrong with a PAIRS: all that is wrong with the query on the left comes before what is
 -- wrong with the one on the right.
-use Rattle.std.specs.Prelude.{ℕ, ◌+◌, List, [], ◌∷◌, ◌++◌, map}
+use Rattle.std.specs.Prelude.{ℕ, ◌+◌, List, [], ◌∷◌, ◌++◌, map, min}
 use Rattle.std.specs.Option.{option_map}
 use Rattle.prima_base.specs.declared.refusal.Refusal.{Refusal}
 use Rattle.prima_base.specs.declared.refusal.Refusal.TheVariants.{WrongType}
@@ -17,10 +17,15 @@ abbrev pub branches_nodes : List PlainBranch → ℕ
 branches_nodes [] = 0
 branches_nodes (b ∷ branches) = branch_nodes b + branches_nodes branches
 
--- a refusal of what stands behind so many nodes of its statement: the place of a node counts them
+-- the refusal with another place of its node, where it tells of one
+abbrev pub replaced : (ℕ → ℕ) → Refusal → Refusal
+replaced f (WrongType place) = WrongType (f place)
+replaced f refusal = refusal
+
+-- a refusal of what stands behind so many nodes of its statement: the place of a node counts them.
+-- A place has 32 bits; the few nodes of two queries lie far below.
 abbrev pub behind : ℕ → Refusal → Refusal
-behind n (WrongType place) = WrongType (n + place)
-behind n refusal = refusal
+behind n refusal = replaced (λ place. min (n + place) 4294967295) refusal
 
 abbrev pub tests_of_pairs : Past → PlainQuery → PlainQuery → List Fault
 tests_of_pairs past left right = tests_of_query past left
