@@ -143,19 +143,19 @@ lt_false : (m n : ℕ) → n ≤ m → nat_lt m n ≡ false
 lt_false m n h = grind (arith, nat_tests)
 
 le_same : (s low m : ℕ) → low ≤ m → (low < s → s ≤ m → ⊥) → nat_le s low ≡ nat_le s m
-le_same s low m l no = elim (at_or_below low s) [
+le_same s low m l never = elim (at_or_below low s) [
   | inl h ↦ elim (at_or_below m s) [
     | inl k ↦ le_false s low h ∙ sym (le_false s m k)
-    | inr k ↦ absurd (no h k)
+    | inr k ↦ absurd (never h k)
   ]
   | inr h ↦ le_true s low h ∙ sym (le_true s m (omega (arith, l, h)))
 ]
 
 lt_same : (e low m : ℕ) → low ≤ m → (low < e → e ≤ m → ⊥) → nat_lt low e ≡ nat_lt m e
-lt_same e low m l no = elim (at_or_below low e) [
+lt_same e low m l never = elim (at_or_below low e) [
   | inl h ↦ elim (at_or_below m e) [
     | inl k ↦ lt_true low e h ∙ sym (lt_true m e k)
-    | inr k ↦ absurd (no h k)
+    | inr k ↦ absurd (never h k)
   ]
   | inr h ↦ lt_false low e h ∙ sym (lt_false m e (omega (arith, l, h)))
 ]
@@ -198,10 +198,10 @@ module _ (g : ℕ) (items : List AggItem) (entries : List (Entry Row)) (key : Li
   had_same : (low m : ℕ) → low ≤ m → ((t : ℕ) → IsTurn t → low < t → t ≤ m → ⊥)
       → had low ≡ had m
   unfolding at
-  had_same low m l no = ap (λ (w : List Row). amounts_if items (rows_of g key
+  had_same low m l never = ap (λ (w : List Row). amounts_if items (rows_of g key
       (set_of row_cmp w))) (held_same entries low m (λ e i. covers_same e.period low m l
-      (λ a b. no e.period.start (e, i, inl refl) a b)
-      (λ a b. no e.period.end (e, i, inr (inl refl)) a b)))
+      (λ a b. never e.period.start (e, i, inl refl) a b)
+      (λ a b. never e.period.end (e, i, inr (inl refl)) a b)))
 
   above : (low : ℕ) (ms : List ℕ) → Follow low (map step ms) → (t : ℕ) → In t ms → low < t
   above low [] f t m = absurd m
