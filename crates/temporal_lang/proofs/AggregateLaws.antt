@@ -69,8 +69,8 @@ module _ (tables : Tables) (query : PlainQuery) where
         (aggregate_tests_over tables items group query) h
 
 -- what is refused by one test is refused by another that it decides
-pub refused_as : {A B : Type 0} (so : B → Type 0) (f g : Fault) (e : CallFault Refusal)
-    → ((r : Refusal) → f ≡ Some r → g ≡ Some r) → IsTested {A = A} f (Err e)
+pub refused_as : {B : Type 0} (so : B → Type 0) (f g : Fault) (e : CallFault Refusal)
+    → ((r : Refusal) → f ≡ Some r → g ≡ Some r) → IsTested {A = Unit {0}} f (Err e)
     → IsTestedAs so g (Err e)
 refused_as so f g (Refused r) decides h = decides r h
 refused_as so f g NoMemory decides h = tt

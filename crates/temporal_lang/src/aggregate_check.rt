@@ -41,13 +41,10 @@ fn check_item(outputs: u32, item: AggItem) -> Result<(), QueryFault>
 fn check_places(outputs: u32, items: &[AggItem]) -> Result<(), QueryFault>
     ensures { IsTested (first_refusal (map (item_fault outputs) items.now)) result }
 {
-    match items {
-        [] => Ok(()),
-        [item, others @ ..] => {
-            check_item(outputs, *item)?;
-            check_places(outputs, others)
-        }
+    for item in items {
+        check_item(outputs, *item)?;
     }
+    Ok(())
 }
 
 fn is_text_at(kinds: &[ColType], place: u32) -> bool
@@ -76,13 +73,10 @@ fn check_sum(kinds: &[ColType], item: AggItem) -> Result<(), QueryFault>
 fn check_sums(kinds: &[ColType], items: &[AggItem]) -> Result<(), QueryFault>
     ensures { IsTested (first_refusal (map (sum_fault (map Some kinds.now)) items.now)) result }
 {
-    match items {
-        [] => Ok(()),
-        [item, others @ ..] => {
-            check_sum(kinds, *item)?;
-            check_sums(kinds, others)
-        }
+    for item in items {
+        check_sum(kinds, *item)?;
     }
+    Ok(())
 }
 
 // How many outputs make the group, and then the sums.

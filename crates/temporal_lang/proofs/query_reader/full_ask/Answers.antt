@@ -5,5 +5,5 @@ use Rattle.temporal_lang.proofs.query_reader.full_ask.Goals as goal
 pub invariant_of-result : goal.invariant_of-result
 invariant_of-result c =
     let l = branches_have_parts _ _ _ _ _ c.in_ok-branches.ensures in
-    let w = moments_are_before _ _ _ _ _ c.in_ok-moments.ensures in
+    let w = moments_are_before _ _ _ _ _ c.in_ok-when.ensures in
     record { valid = record { some = l.0; parts = l.1; moments = w; bounds = refl } }
