@@ -1,4 +1,4 @@
-use Rattle.std.proofs.Common.{refl, sym, ap, subst}
+use Rattle.std.proofs.Common.{refl, sym, ap, subst, ◌∙◌}
 use Rattle.std.specs.Prelude.{None}
 use Rattle.relations_spec.specs.Spans.{always}
 use Rattle.prima_base.specs.Groups.{groups_shown}
@@ -26,8 +26,9 @@ returns-in-Ok-clause-says g c = λ now.
     subst (λ r. Says (answered text now) r (g.K.Sink.written c.args.sink.now)
     (g.K.Sink.written c.put_groups.new.sink)) (sym c.or_write_fault.ensures)
     (answered_says _ _ None now text
-    (aggregates_text c.args.listing.now.periods (groups_shown c.in-Ok.rows.items))
-    c.put_groups.result refl (ap (aggregates_text c.args.listing.now.periods) is)
+    (aggregates_text c.args.listing.now.periods (groups_shown c.deref.result.now))
+    c.put_groups.result refl (ap (aggregates_text c.args.listing.now.periods)
+    (ap groups_shown c.deref.ensures.value ∙ is))
     c.put_groups.ensures.ok c.put_groups.ensures.all c.put_groups.ensures.part)
 
 pub returns-in-Err-NoMemory-clause-says : goal.returns-in-Err-NoMemory-clause-says

@@ -81,7 +81,7 @@ returns-in-Aggregate-clause-replies g c = λ limit same now represents.
     c.respond_aggregate.result (g.met.D.Disk.valid a.journal.disk) represents
     (no_puts (fault_of_aggregate now.past items group query) now _)
     (same_after (fault_of_aggregate now.past items group query) now _)
-    (c.respond_aggregate.ensures.says now represents.past))
+    (rw c.deref.ensures.value at (c.respond_aggregate.ensures.says now represents.past)))
 
 pub returns-in-ShowVersions-clause-replies : goal.returns-in-ShowVersions-clause-replies
 returns-in-ShowVersions-clause-replies g c = λ limit same now represents.
