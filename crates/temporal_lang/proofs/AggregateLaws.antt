@@ -1,13 +1,17 @@
 -- What is so of a query that passes the check, and what of an aggregate's tests decides.
 use Rattle.std.specs.Prelude.{◌≡◌, ℕ, List, [], ◌∷◌, ◌++◌, map, Option, Some, None, Err}
-use Rattle.std.specs.Prelude.{◌<◌, length}
-use Rattle.std.proofs.Common.{ap, ◌∙◌, sym, arith}
+use Rattle.std.specs.Prelude.{◌<◌, ◌≤◌, length, get_or}
+use Rattle.std.proofs.Common.{ap, ◌∙◌, sym, refl, arith}
+use Rattle.std.specs.declared.vec.Vec.{Vec}
+use Rattle.std.specs.declared.alloc.Global.{Global}
 use Rattle.std.proofs.lemmas.List.{length-map}
 use Rattle.cond_expr.specs.Kinds.{kind_of}
 use Rattle.plain_answers_spec.specs.Branches.{PlainBranch}
 use Rattle.temporal_lang_spec.specs.Atoms.{atom_kinds}
 use Rattle.temporal_lang_spec.specs.Resolved.{AllSmall}
-use Rattle.temporal_lang_spec.specs.AggregateFaults.{first_of_kinds}
+use Rattle.temporal_lang_spec.specs.AggregateFaults.{first_of_kinds, item_fault, group_tests}
+use Rattle.temporal_lang_spec.specs.AggregateFaults.{aggregate_tests}
+use Rattle.temporal_lang.specs.Typings.{kind_lists}
 use Rattle.prima_base.specs.declared.value.ColType.{ColType}
 use Rattle.prima_base.specs.declared.refusal.Refusal.{Refusal}
 use Rattle.prima_base.specs.declared.fault.CallFault.{CallFault}
@@ -75,6 +79,12 @@ pub refused_as : {B : Type 0} (so : B → Type 0) (f g : Fault) (e : CallFault R
 refused_as so f g (Refused r) decides h = decides r h
 refused_as so f g NoMemory decides h = tt
 
+pub refused_too : (f g : Fault) (e : CallFault Refusal)
+    → ((r : Refusal) → f ≡ Some r → g ≡ Some r) → IsTested {A = Unit {0}} f (Err e)
+    → IsTested {A = Unit {0}} g (Err e)
+refused_too f g (Refused r) decides h = decides r h
+refused_too f g NoMemory decides h = tt
+
 pub refused_so : {A B : Type 0} (was : A → Type 0) (so : B → Type 0) (f g : Fault)
     (e : CallFault Refusal) → ((r : Refusal) → f ≡ Some r → g ≡ Some r)
     → IsTestedAs was f (Err e) → IsTestedAs so g (Err e)
@@ -89,3 +99,33 @@ few_outputs tables (b ∷ branches) h =
     let n = length-map b.outs (kind_of (atom_kinds tables b.from)) in
     let k = h.0.few in
     omega (arith, n, k)
+
+-- ---- which of the aggregates' tests decides
+
+module _ (kinds : List ColType) (items : List AggItem) (group : ℕ) where
+  as_many : first_refusal (map (item_fault (length (map Some kinds))) items)
+      ≡ first_refusal (map (item_fault (length kinds)) items)
+  as_many = ap (λ n. first_refusal (map (item_fault n) items)) (length-map kinds Some)
+
+  -- the places come first
+  pub places_first : (r : Refusal) → first_refusal (map (item_fault (length kinds)) items) ≡ Some r
+      → first_refusal (aggregate_tests (map Some kinds) items group) ≡ Some r
+  places_first r h = first_before (map (item_fault (length (map Some kinds))) items)
+      (group_tests (map Some kinds) items group) r (as_many ∙ h)
+
+  pub places_met : first_refusal (map (item_fault (length kinds)) items) ≡ None
+      → first_refusal (aggregate_tests (map Some kinds) items group)
+      ≡ first_refusal (group_tests (map Some kinds) items group)
+  places_met h = first_after (map (item_fault (length (map Some kinds))) items)
+      (group_tests (map Some kinds) items group) (as_many ∙ h)
+
+-- the types of the first branch's outputs
+pub no_kinds : (kinds : List (Vec ColType Global)) → length kinds < 1
+    → first_of_kinds (kind_lists kinds) ≡ []
+no_kinds [] h = refl
+no_kinds (v ∷ kinds) h = absurd (omega (arith, h))
+
+pub first_kinds : (kinds : List (Vec ColType Global)) (v : Vec ColType Global) → 1 ≤ length kinds
+    → v ≡ get_or kinds 0 v → map Some v.items ≡ first_of_kinds (kind_lists kinds)
+first_kinds [] v h e = absurd (omega (arith, h))
+first_kinds (k ∷ kinds) v h e = ap (λ (w : Vec ColType Global). map Some w.items) e

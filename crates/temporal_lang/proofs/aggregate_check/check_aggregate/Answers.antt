@@ -7,8 +7,11 @@ use Rattle.smo_ops_spec.specs.Checks.{Fault}
 use Rattle.prima_base.specs.Faults.{IsTested}
 use Rattle.temporal_lang_types.specs.Branches.{branches_of}
 use Rattle.temporal_lang_types.specs.Queries.{PlainQuery, query_of}
-use Rattle.temporal_lang_spec.specs.Atoms.{branches_with_atoms}
-use Rattle.temporal_lang_spec.specs.Checking.{query_fault, types_from}
+use Rattle.temporal_lang_spec.specs.Atoms.{branches_with_atoms, with_atoms}
+use Rattle.temporal_lang_spec.specs.Checking.{query_fault, types_from, output_kinds}
+use Rattle.temporal_lang_types.specs.declared.query.Query.{Query}
+use Rattle.std.specs.declared.vec.Vec.{Vec}
+use Rattle.std.specs.declared.alloc.Global.{Global}
 use Rattle.temporal_lang_spec.specs.AggregateFaults.{aggregate_fault, aggregate_tests}
 use Rattle.temporal_lang_spec.specs.AggregateFaults.{first_of_kinds}
 use Rattle.temporal_lang_spec.specs.Resolved.{HaveFew, AllSmall, AllKnown}
@@ -26,7 +29,8 @@ returns-in_err-checked-clause-checked c =
     let q = query_of c.args.query.now in
     let p = err_from_is_err_and c.from_residual.result c.from_residual.ensures.1 in
     rw (p.1, p.2)
-    (refused_so _ _ (query_fault tables q)
+    (refused_so (λ (x : Query). query_of x ≡ with_atoms tables q)
+    (λ (x : Query). query_of x ≡ with_atoms tables q) (query_fault tables q)
     (aggregate_fault tables c.args.items.now c.args.group q) c.in_err-checked.field-0.0
     (query_before tables q c.args.items.now c.args.group) c.in_err-checked.ensures.checked)
 
@@ -79,7 +83,10 @@ returns-in_err-kinds-clause-checked c =
     let p = err_from_is_err_and c.from_residual-in_err-kinds.result
     c.from_residual-in_err-kinds.ensures.1 in
     rw (p.1, p.2)
-    (refused_so _ _ (first_refusal (types_from tables 0 (branches_of c.deref.result.now)))
+    (refused_so (λ (ks : Vec (Vec ColType Global) Global). kind_lists ks.items
+    ≡ map (output_kinds tables) (branches_of c.deref.result.now))
+    (λ (x : Query). query_of x ≡ with_atoms tables q)
+    (first_refusal (types_from tables 0 (branches_of c.deref.result.now)))
     (aggregate_fault tables c.args.items.now c.args.group q) c.in_err-kinds.field-0.0
     (λ r k. both_ways _ r none k) c.in_err-kinds.ensures)
 
@@ -108,7 +115,8 @@ returns-in_err-check_first-clause-checked c =
     let p = err_from_is_err_and c.from_residual-in_err-check_first.result
     c.from_residual-in_err-check_first.ensures.1 in
     rw (p.1, p.2)
-    (refused_as _ _ (aggregate_fault tables c.args.items.now c.args.group q)
+    (refused_as (λ (x : Query). query_of x ≡ with_atoms tables q) _
+    (aggregate_fault tables c.args.items.now c.args.group q)
     c.in_err-check_first.field-0.0
     (λ r k. query_after tables q c.args.items.now c.args.group h.0
     ∙ ap (λ ks. first_refusal (aggregate_tests (first_of_kinds ks) c.args.items.now c.args.group))
