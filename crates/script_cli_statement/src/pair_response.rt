@@ -38,10 +38,10 @@ use std::sync::ledger::Blank;
 use temporal_lang::{Query, Relation, count_nodes, refusal_behind};
 
 // Puts the lines of all pairs whose periods are related, and then how many they are.
-fn put_pairs<K: Sink>(
+fn put_pairs<'b, 'a, K: Sink>(
     sink: &mut K,
-    left: &TimedRows<'_>,
-    right: &TimedRows<'_>,
+    left: &'b TimedRows<'a>,
+    right: &'b TimedRows<'a>,
     relation: Relation,
 ) -> Result<ReplyKind, Failed>
     ensures ok { IfOk result (λ put. put ≡ ReplyKind.NoError) }
