@@ -26,8 +26,8 @@
 //!   one, and so on, and tells how many writes and syncs the disk inside then has;
 //! - `crashes` runs it over the same disks, and tells how many commands were acknowledged, and with
 //!   how many commands the files open that a crash may then leave: those of sixteen picks;
-//! - `moments` runs it over a disk that does not fail, and tells the same of each moment of the
-//!   run;
+//! - `moments` runs it over a disk that does not fail, and tells of each moment of the run with how
+//!   many commands the files open that a crash may leave there;
 //! - `image` runs it over a disk that does not fail, and tells the file that a crash leaves at the
 //!   last moment, where all that was written is kept.
 //!

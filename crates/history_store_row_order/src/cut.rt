@@ -121,7 +121,7 @@ pub fn count_before(columns: &[Column], live: &RowIndex, cut: &Cut) -> usize
 }
 
 // Puts the values of the newest row of the id into `row`, borrowed, in place of what it had. Each
-// value is one step.
+// value is one step, also where memory runs out on the way.
 fn lend_now<'a, L: Ledger>(
     columns: &'a [Column],
     id: usize,
@@ -133,6 +133,8 @@ fn lend_now<'a, L: Ledger>(
     ensures valid { OnOk result (All (λ v. IsValid (shown v)) row.new.items) }
     ensures borrowed { OnOk result (All IsBorrowed row.new.items) }
     ensures cost { OnOk result (steps.new ≡ steps.old + length row.new.items) }
+    ensures handed { steps.old + length row.new.items ≤ steps.new }
+    ensures most { steps.new ≤ steps.old + length columns.now }
 {
     row.clear();
     for column in columns {
@@ -212,7 +214,8 @@ impl<'a> BorrowedRows<'a> {
     /// Puts the values of the row at this place into `row`, borrowed, in place of what it had; a
     /// text among them has at most 4,096 bytes and no control byte. Rows that are looked at one
     /// after the other are found at once. Each value is one step. Where `row` has the room it takes
-    /// no memory. The one error is `NoMemory`, where memory runs out.
+    /// no memory. The one error is `NoMemory`, where memory runs out: `row` may then have some of
+    /// the values, and each of these was a step too.
     pub fn lend<L: Ledger>(
         &mut self,
         at: usize,
@@ -225,6 +228,8 @@ impl<'a> BorrowedRows<'a> {
         ensures valid { OnOk result (All (λ v. IsValid (shown v)) row.new.items) }
         ensures borrowed { OnOk result (All IsBorrowed row.new.items) }
         ensures cost { OnOk result (steps.new ≡ steps.old + length row.new.items) }
+        ensures handed { steps.old + length row.new.items ≤ steps.new }
+        ensures most { steps.new ≤ steps.old + length (slice_index_or self.old at []) }
     {
         let id = self.index.id_near(self.start + at, &mut self.near);
         lend_now(self.columns, id, row, steps)

@@ -7,7 +7,8 @@ use Rattle.smo_ops_types.specs.declared.op.Op.{Op}
 use Rattle.smo_ops_types.specs.Operators.{Operator, operators_of}
 use Rattle.smo_ops_spec.specs.Losses.{Loss}
 use Rattle.smo_ops_spec.specs.After.{op_fault, schema_after, IsValid}
-use Rattle.smo_ops_spec.specs.WaysBack.{WayBack, by_inverse, by_filling, no_way, way_back_over, derived}
+use Rattle.smo_ops_spec.specs.WaysBack.{WayBack, by_inverse, by_filling, no_way, way_back_over}
+use Rattle.smo_ops_spec.specs.WaysBack.{derived}
 use Rattle.smo_ops_versions_spec.specs.TableColumns.{HaveColumns}
 use Rattle.smo_ops_spec.specs.WaysBack.{operator_of_way, WayLeadsBack}
 use Rattle.smo_ops_versions_spec.specs.Ways.{step_by, step_back, back_over}
@@ -38,10 +39,12 @@ module _ (before : Tables) (op : Operator) where
   pub inverse_of : (back : Operator) → IsValid before → HaveColumns before
       → op_fault before op ≡ None → IsByInverse (way_back_over before op)
       → Some back ≡ derived before op → IsInverseOf before op back
-  inverse_of back h s e i d = of_way (way_back_over before op) i (each_leads_back before op h s e) back d
+  inverse_of back h s e i d = of_way (way_back_over before op) i (each_leads_back before op h s e)
+      back d
       (λ loss losses. refl)
 
-  no_inverse : (way : WayBack) → IsByInverse way → ◌≡◌ {A = Option Operator} None (operator_of_way way)
+  no_inverse : (way : WayBack) → IsByInverse way
+      → ◌≡◌ {A = Option Operator} None (operator_of_way way)
       → ⊥
   no_inverse (by_inverse d) i e = (cc)
   no_inverse (by_filling f) i e = i

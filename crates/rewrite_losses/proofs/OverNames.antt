@@ -11,7 +11,8 @@ use Rattle.smo_ops_spec.specs.OperatorTable.{Made, line, made_names}
 use Rattle.smo_ops_spec.specs.After.{op_fault, schema_after}
 use Rattle.smo_ops_spec.proofs.TouchedTables.{made_is_there}
 use Rattle.smo_ops_versions_spec.specs.ColumnLosses.{TableLoss, Losses}
-use Rattle.smo_ops_versions_spec.specs.LostNames.{made_loss, made_column_loss, made_as, none_lost, with_made}
+use Rattle.smo_ops_versions_spec.specs.LostNames.{made_loss, made_column_loss, made_as, none_lost}
+use Rattle.smo_ops_versions_spec.specs.LostNames.{with_made}
 use Rattle.smo_ops_versions_spec.specs.LostNames.{losses_over}
 use Rattle.rewrite_losses.specs.TableLosses.{put_names, made_lost_of}
 

@@ -10,7 +10,8 @@ use Rattle.smo_ops_types.specs.Operators.{Operator}
 use Rattle.smo_ops_spec.specs.After.{schema_after}
 use Rattle.smo_ops_spec.specs.WaysBack.{FilledColumn, WayBack, by_inverse, by_filling, no_way}
 use Rattle.smo_ops_versions_spec.specs.LostNames.{made_loss, made_column_loss, made_as}
-use Rattle.smo_ops_versions_spec.specs.ColumnLosses.{TableLoss, WholeTable, OfColumns, Losses, column_loss}
+use Rattle.smo_ops_versions_spec.specs.ColumnLosses.{TableLoss, WholeTable, OfColumns, Losses}
+use Rattle.smo_ops_versions_spec.specs.ColumnLosses.{column_loss}
 
 -- the loss of the table itself or, where there is none, those of its columns
 abbrev pub shown_loss : Option Loss → FinMap bytes_cmp Loss → TableLoss

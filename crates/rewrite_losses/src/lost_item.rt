@@ -20,7 +20,7 @@ use cond_expr::{ColRef, gather_references};
 use prima_base::{Name, NoMemory};
 use smo_ops_types::Versions;
 use std::alloc::Global;
-use temporal_lang::{Branch, Query};
+use temporal_lang_types::{Branch, Query};
 
 /// The loss of a table on the way from version `stored` to version `asked`, by names alone. `None`
 /// exactly where the table is not lost itself; forward none is.

@@ -8,6 +8,7 @@ ghost use Rattle.smo_ops_versions_spec.specs.Lifelines.{lifelines_of};
 ghost use Rattle.store_image_spec.specs.Images.{Image, IsImage, store_of};
 ghost use Rattle.store_image_spec.specs.Reader as spec;
 ghost use Rattle.store_image_spec.specs.ShownPast.{image_past};
+ghost use Rattle.store_image_breaks_spec.specs.Breaks.{Breaks};
 ghost use Rattle.store_image_reader.specs.Seen.{line_seen, stored_seen, lines_seen, image_seen};
 ghost use Rattle.store_image_reader.specs.declared.fault.ImageFault.TheVariants as fault;
 ghost use Rattle.version_groups.specs.Representation.{Represents};
@@ -90,13 +91,16 @@ fn restored(alloc: Global, image: ReadImage<'_>) -> Result<(Groups, Option<u64>)
 
 /// The groups and the last stamp of the image that is all of these bytes. The groups' image is just
 /// this one, and they represent the past that it shows. `BadAt` comes exactly where the bytes are
-/// no image, with the place of the first byte of what breaks it; `NoMemory` where memory runs out.
+/// no image, with the place at which they break: behind the items that some image has, or at a
+/// lifeline that shows one row twice. `NoMemory` comes where memory runs out.
 pub fn read_image(alloc: Global, bytes: &[u8]) -> Result<(Groups, Option<u64>), ImageFault>
     ensures image { IfOk result (λ it. (i : Image) × (spec.image bytes.now ≡ Parsed i [])
         × IsImage i × (it.1 ≡ i.last) × ((n : ℕ) → Represents it.0 (image_past n i))) }
     ensures same { IfOk result (λ it. spec.image bytes.now ≡ Parsed (image_in it.0 it.1) []) }
     ensures bad { (place : ℕ) → result ≡ Err (fault.BadAt place) → (rest : List ℕ)
         × (spec.image bytes.now ≡ Unexpected rest) × (place + length rest ≡ length bytes.now) }
+    ensures breaks { (place : ℕ) → result ≡ Err (fault.BadAt place) → (rest : List ℕ)
+        × Breaks bytes.now rest × (place + length rest ≡ length bytes.now) }
 {
     let image = match read(alloc, bytes) {
         Ok(image) => image,

@@ -1,3 +1,4 @@
+pub mod ByteCounts
 pub mod Openly
 pub mod Within
 pub mod Full
@@ -5,4 +6,6 @@ pub mod Filled
 pub mod Stops
 pub mod StopsInLines
 pub mod Drafted
+pub mod ApartLines
 pub mod Twice
+pub mod TwiceStops

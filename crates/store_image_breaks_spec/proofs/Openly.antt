@@ -1,9 +1,11 @@
 -- The reader of images that does not compare rows; and that the reader stops where this one does,
 -- or at a lifeline that shows one row twice.
 use Rattle.std.proofs.Common.{◌≡◌, ◌⊎◌, inl, inr, ℕ, zero, suc, Bool, true, false, cond, List, []}
-use Rattle.std.proofs.Common.{◌∷◌, ◌++◌, refl, sym, ap, ◌∙◌, append_assoc}
+use Rattle.std.proofs.Common.{◌∷◌, ◌++◌, ◌<◌, length, refl, sym, ap, ◌∙◌, subst, append_assoc}
+use Rattle.std.proofs.Common.{arith}
 use Rattle.std.specs.Prelude.{Option}
 use Rattle.std.specs.List.{flat_map}
+use Rattle.relations_spec.specs.Sets.{In}
 use Rattle.command_codec_spec.specs.Reading.{Out, Parsed, Unexpected, Parser, and_then, bind, pure}
 use Rattle.command_codec_spec.specs.Reading.{map_to}
 use Rattle.smo_ops_versions_spec.specs.Lifelines.{Lifeline, lifelines_of}
@@ -52,14 +54,18 @@ AreBodies last [] (l ∷ ls) = ⊥
 AreBodies last (d ∷ due) [] = ⊥
 AreBodies last (d ∷ due) (l ∷ ls) = BodyRead last d l × AreBodies last due ls
 
--- so far the lifelines are those that are due, and here is one of which nothing else is wrong
-pub record TwiceIn (last : Option ℕ) (due : List Lifeline) (ts rest : List ℕ) : Type 0 where
+-- so far the lifelines are those that are due, of so many, and here is one of which nothing else is
+-- wrong
+pub record TwiceIn (last : Option ℕ) (n : ℕ) (due : List Lifeline) (ts rest : List ℕ)
+    : Type 0 where
   pub done : List Lifeline
   pub here : Lifeline
   pub after : List Lifeline
   pub are_due : due ≡ done ++ here ∷ after
   pub earlier : List StoredLine
   pub read : AreBodies last done earlier
+  pub apart : (l : StoredLine) → In l earlier → has_apart l ≡ true
+  pub enough : length earlier < n
   pub line : StoredLine
   pub kept : BodyRead last here line
   pub twice : has_apart line ≡ false
@@ -68,16 +74,18 @@ pub record TwiceIn (last : Option ℕ) (due : List Lifeline) (ts rest : List ℕ
   pub whole : rest ≡ stored_bytes line ++ more
 
 module _ (last : Option ℕ) where
-  later : (d : Lifeline) (due : List Lifeline) (l : StoredLine) (ts us rest : List ℕ)
-      → BodyRead last d l → ts ≡ stored_bytes l ++ us → TwiceIn last due us rest
-      → TwiceIn last (d ∷ due) ts rest
-  later d due l ts us rest h e t = record {
+  later : (n : ℕ) (d : Lifeline) (due : List Lifeline) (l : StoredLine) (ts us rest : List ℕ)
+      → BodyRead last d l → has_apart l ≡ true → ts ≡ stored_bytes l ++ us
+      → TwiceIn last n due us rest → TwiceIn last (suc n) (d ∷ due) ts rest
+  later n d due l ts us rest h a e t = record {
     done = d ∷ t.done;
     here = t.here;
     after = t.after;
     are_due = ap (λ x. d ∷ x) t.are_due;
     earlier = l ∷ t.earlier;
     read = (h, t.read);
+    apart = all_apart;
+    enough = (let b = t.enough in omega (arith, b));
     line = t.line;
     kept = t.kept;
     twice = t.twice;
@@ -86,10 +94,14 @@ module _ (last : Option ℕ) where
     more = t.more;
     whole = t.whole;
   }
+    where
+      all_apart : (x : StoredLine) → In x (l ∷ t.earlier) → has_apart x ≡ true
+      all_apart x (inl q) = subst (λ y. has_apart y ≡ true) q a
+      all_apart x (inr i) = t.apart x i
 
   pub lines_stop : (n : ℕ) (due : List Lifeline) (ts rest : List ℕ)
       → lines last n due ts ≡ Unexpected rest
-      → (open_lines last n due ts ≡ Unexpected rest) ⊎ TwiceIn last due ts rest
+      → (open_lines last n due ts ≡ Unexpected rest) ⊎ TwiceIn last n due ts rest
   unfolding lines stored_line open_lines
   lines_stop zero [] ts rest e = absurd (cc)
   lines_stop zero (d ∷ due) ts rest e = inl (ap Unexpected (let same : ts ≡ rest = cc in same))
@@ -104,23 +116,24 @@ module _ (last : Option ℕ) where
       open_next l = map_to (λ ls. l ∷ ls) (open_lines last n due)
 
       by : (l : StoredLine) (us : List ℕ) → kept_line last d ts ≡ Parsed l us
-          → (open_lines last n due us ≡ Unexpected rest) ⊎ TwiceIn last due us rest
+          → has_apart l ≡ true → (open_lines last n due us ≡ Unexpected rest)
+          ⊎ TwiceIn last n due us rest
           → (and_then (kept_line last d ts) open_next ≡ Unexpected rest)
-          ⊎ TwiceIn last (d ∷ due) ts rest
-      by l us q (inl stops) = inl (ap (λ o. and_then o open_next) q
+          ⊎ TwiceIn last (suc n) (d ∷ due) ts rest
+      by l us q a (inl stops) = inl (ap (λ o. and_then o open_next) q
           ∙ stops_map (λ ls. l ∷ ls) (open_lines last n due us) rest stops)
-      by l us q (inr t) =
+      by l us q a (inr t) =
           let x = (reads_kept last d).sound ts l us q in
-          inr (later d due l ts us rest x.0.1 x.1 t)
+          inr (later n d due l ts us rest x.0.1 a x.1 t)
 
       compared : ((us : List ℕ) → lines last n due us ≡ Unexpected rest
-          → (open_lines last n due us ≡ Unexpected rest) ⊎ TwiceIn last due us rest)
+          → (open_lines last n due us ≡ Unexpected rest) ⊎ TwiceIn last n due us rest)
           → (l : StoredLine) (us : List ℕ) → kept_line last d ts ≡ Parsed l us → (b : Bool)
           → has_apart l ≡ b
           → and_then (cond b (Parsed l us) (Unexpected ts)) next ≡ Unexpected rest
           → (and_then (kept_line last d ts) open_next ≡ Unexpected rest)
-          ⊎ TwiceIn last (d ∷ due) ts rest
-      compared again l us q true f g = by l us q (again us
+          ⊎ TwiceIn last (suc n) (d ∷ due) ts rest
+      compared again l us q true f g = by l us q f (again us
           (map_stops (λ ls. l ∷ ls) (lines last n due us) rest g))
       compared again l us q false f g =
           let x = (reads_kept last d).sound ts l us q in
@@ -132,6 +145,8 @@ module _ (last : Option ℕ) where
             are_due = refl;
             earlier = [];
             read = tt;
+            apart = λ x i. absurd i;
+            enough = omega arith;
             line = l;
             kept = x.0.1;
             twice = f;
@@ -141,11 +156,11 @@ module _ (last : Option ℕ) where
           })
 
       first : ((us : List ℕ) → lines last n due us ≡ Unexpected rest
-          → (open_lines last n due us ≡ Unexpected rest) ⊎ TwiceIn last due us rest)
+          → (open_lines last n due us ≡ Unexpected rest) ⊎ TwiceIn last n due us rest)
           → (o : Out StoredLine) → kept_line last d ts ≡ o
           → and_then (if_right ts has_apart o) next ≡ Unexpected rest
           → (and_then (kept_line last d ts) open_next ≡ Unexpected rest)
-          ⊎ TwiceIn last (d ∷ due) ts rest
+          ⊎ TwiceIn last (suc n) (d ∷ due) ts rest
       first again (Parsed l us) q g = compared again l us q (has_apart l) refl g
       first again (Unexpected us) q g =
           let same : us ≡ rest = cc in

@@ -1,9 +1,10 @@
 -- The reader stops where the one does that compares no rows, or at a lifeline that shows one row
 -- twice.
 use Rattle.std.proofs.Common.{◌≡◌, ◌⊎◌, inl, inr, ℕ, List, [], ◌∷◌, ◌++◌, refl}
-use Rattle.std.proofs.Common.{sym, ap, ◌∙◌, subst}
+use Rattle.std.proofs.Common.{◌≤◌, sym, ap, ◌∙◌, subst, arith}
 use Rattle.std.specs.Prelude.{Option, None}
 use Rattle.std.specs.List.{flat_map}
+use Rattle.relations_spec.proofs.SetLaws.{in_left}
 use Rattle.smo_ops_types.specs.Commands.{PlainVersion}
 use Rattle.smo_ops_spec.specs.Past.{no_tables}
 use Rattle.command_codec_spec.specs.Reading.{Out, Parsed, Unexpected, and_then, bind}
@@ -16,14 +17,16 @@ use Rattle.store_image_spec.specs.Items.{item}
 use Rattle.store_image_spec.specs.Reader.{number_32, last_stamp, all_versions, lines, all_lines}
 use Rattle.store_image_spec.specs.Reader.{nothing_after, an_image, image}
 use Rattle.store_image_spec.proofs.Apartness.{apart_at_starts}
-use Rattle.store_image_spec.proofs.ReadParts.{IsLast, reads_last, reads_all_versions, BodyRead}
+use Rattle.store_image_spec.proofs.ReadParts.{IsLast, most_32, reads_last, reads_all_versions}
+use Rattle.store_image_spec.proofs.ReadParts.{BodyRead}
 use Rattle.store_image_breaks_spec.specs.Breaks.{ShowsTwice}
 use Rattle.store_image_breaks_spec.proofs.Openly.{open_lines, all_open_lines, open_image, AreBodies}
 use Rattle.store_image_breaks_spec.proofs.Openly.{TwiceIn, lines_stop, lines_whole}
 use Rattle.store_image_breaks_spec.proofs.Stops.{behind, AreSoFar, counted_32}
 use Rattle.store_image_breaks_spec.proofs.StopsInLines.{AreKept, read_kept, nothing_over}
-use Rattle.store_image_breaks_spec.proofs.StopsInLines.{nothing_is_over}
+use Rattle.store_image_breaks_spec.proofs.StopsInLines.{nothing_is_over, IsReadDraft}
 use Rattle.store_image_breaks_spec.proofs.Drafted.{read_is_draft}
+use Rattle.store_image_breaks_spec.proofs.ApartLines.{shows_apart}
 
 kept_all : (last : Option ℕ) (done : List Lifeline) (here : Lifeline) (after : List Lifeline)
     (earlier : List StoredLine) (line : StoredLine) → AreBodies last done earlier
@@ -42,24 +45,22 @@ kept_all last (d ∷ done) here after (l ∷ earlier) line h k = (
 
 module _ (last : Option ℕ) (ts us rest : List ℕ) (is_last : IsLast last)
     (e : ts ≡ last_bytes last ++ us) where
-  shown : (vs : List PlainVersion) (vus more : List ℕ) (n : ℕ) → AreSoFar last 0 None no_tables vs
-      → us ≡ list_bytes 4 version_bytes vs ++ vus → vus ≡ number 4 n ++ more
-      → TwiceIn last (lifelines_of vs) more rest → ShowsTwice ts rest
-  shown vs vus more n h f k t = record {
+  shown : (vs : List PlainVersion) (vus more : List ℕ) (n : ℕ) → n ≤ most_32
+      → AreSoFar last 0 None no_tables vs → us ≡ list_bytes 4 version_bytes vs ++ vus
+      → vus ≡ number 4 n ++ more
+      → TwiceIn last n (lifelines_of vs) more rest → ShowsTwice ts rest
+  shown vs vus more n few h f k t = record {
     image = an_image last vs (t.earlier ++ t.line ∷ nothing_over t.after);
-    draft = read_is_draft (an_image last vs (t.earlier ++ t.line ∷ nothing_over t.after))
-        (record {
-          last = is_last;
-          versions = h;
-          lines = subst (λ ds. AreKept last ds (t.earlier ++ t.line ∷ nothing_over t.after))
-              (sym t.are_due)
-              (kept_all last t.done t.here t.after t.earlier t.line t.read t.kept);
-        });
+    draft = read_is_draft made kept;
     earlier = t.earlier;
     line = t.line;
     later = nothing_over t.after;
     lines = refl;
+    apart = λ l i. shows_apart made (read_is_draft made kept) l
+        (in_left l t.earlier (t.line ∷ nothing_over t.after) i) (t.apart l i);
     count = n;
+    counted = omega (arith, few);
+    enough = t.enough;
     are = behind (last_bytes last ++ list_bytes 4 version_bytes vs ++ number 4 n) ts more
         (flat_map stored_bytes t.earlier) rest
         (behind (last_bytes last ++ list_bytes 4 version_bytes vs) ts vus (number 4 n) more
@@ -68,6 +69,18 @@ module _ (last : Option ℕ) (ts us rest : List ℕ) (is_last : IsLast last)
     whole = t.whole;
     twice = λ apart. true_false (sym (apart_at_starts t.line.keys t.line.cells apart) ∙ t.twice);
   }
+    where
+      made : Image
+      made = an_image last vs (t.earlier ++ t.line ∷ nothing_over t.after)
+
+      kept : IsReadDraft made
+      kept = record {
+        last = is_last;
+        versions = h;
+        lines = subst (λ ds. AreKept last ds (t.earlier ++ t.line ∷ nothing_over t.after))
+            (sym t.are_due)
+            (kept_all last t.done t.here t.after t.earlier t.line t.read t.kept);
+      }
 
   abbrev Opened : List PlainVersion → List ℕ → Type 0
   Opened vs vus = (bind (all_open_lines last (lifelines_of vs))
@@ -88,15 +101,16 @@ module _ (last : Option ℕ) (ts us rest : List ℕ) (is_last : IsLast last)
   in_count vs vus h f (Parsed n more) q g =
       by (lines last n (lifelines_of vs) more) refl g
     where
-      told : Goes vs n more ⊎ TwiceIn last (lifelines_of vs) more rest → Opened vs vus
+      told : Goes vs n more ⊎ TwiceIn last n (lifelines_of vs) more rest → Opened vs vus
       told (inl stops) = inl (ap (λ o. and_then (and_then o (λ m.
           open_lines last m (lifelines_of vs))) (λ ls. nothing_after (an_image last vs ls))) q
           ∙ stops)
-      told (inr t) = inr (shown vs vus more n h f (counted_32.sound vus n more q).1 t)
+      told (inr t) =
+          let x = counted_32.sound vus n more q in inr (shown vs vus more n x.0 h f x.1 t)
 
       opened : (open_lines last n (lifelines_of vs) more ≡ Unexpected rest)
-          ⊎ TwiceIn last (lifelines_of vs) more rest
-          → Goes vs n more ⊎ TwiceIn last (lifelines_of vs) more rest
+          ⊎ TwiceIn last n (lifelines_of vs) more rest
+          → Goes vs n more ⊎ TwiceIn last n (lifelines_of vs) more rest
       opened (inl stops) = inl (ap (λ o. and_then o
           (λ ls. nothing_after (an_image last vs ls))) stops)
       opened (inr t) = inr t

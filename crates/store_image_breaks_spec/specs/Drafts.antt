@@ -38,8 +38,3 @@ pub record IsDraft (image : Image) : Type 0 where
   pub without : image.last ≡ None → image.versions ≡ []
   pub lines : lines_in image ≡ lifelines_of image.versions
   pub each : (l : StoredLine) → In l image.lines → IsDraftLine image.last l
-
--- each column has no more entries than a count can say
-abbrev pub CanCount : Image → Type 0
-CanCount image = (l : StoredLine) → In l image.lines → (cells : List Cell) → In cells l.cells
-    → length cells < 2 ^ 64

@@ -4,4 +4,4 @@
 
 mod laws;
 
-pub use laws::bytes_break_behind_the_items_of_an_image;
+pub use laws::{bytes_break_at_one_place, bytes_break_behind_the_items_of_an_image};

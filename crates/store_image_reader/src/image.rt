@@ -6,6 +6,7 @@ ghost use Rattle.smo_ops_versions_spec.specs.Lifelines.{lifelines_of};
 ghost use Rattle.command_codec_spec.specs.Reading.{Parsed, Unexpected};
 ghost use Rattle.command_codec.specs.Reads.{Reads};
 ghost use Rattle.store_image_spec.specs.Reader as spec;
+ghost use Rattle.store_image_breaks_spec.specs.Breaks.{Breaks};
 ghost use Rattle.store_image_reader.specs.Seen.{image_seen, lines_seen};
 ghost use Rattle.store_image_reader.specs.Ordered.{IsOrdered};
 ghost use Rattle.store_image_reader.specs.declared.fault.ImageFault.TheVariants as fault;
@@ -18,6 +19,7 @@ use crate::version::all_versions;
 use command_codec::{ReadStop, Reader};
 use smo_ops_types::Versions;
 use std::alloc::Global;
+use store_image_breaks_spec::bytes_break_behind_the_items_of_an_image;
 use store_image_spec::{an_image_is_what_is_read, bytes_are_an_image_or_break};
 
 /// What an image has: the stamp of the last accepted command, the versions, and what is kept over
@@ -66,12 +68,15 @@ fn image<'a>(alloc: Global, reader: &mut Reader<'a>) -> Result<ReadImage<'a>, Re
 }
 
 /// What the image has that is all of these bytes. `BadAt` comes exactly where they are no image,
-/// with the place of the first byte of what breaks it; `NoMemory` where memory runs out.
+/// with the place at which they break: behind the items that some image has, or at a lifeline that
+/// shows one row twice. `NoMemory` comes where memory runs out.
 pub fn read(alloc: Global, bytes: &[u8]) -> Result<ReadImage<'_>, ImageFault>
     ensures image { IfOk result (λ it. spec.image bytes.now ≡ Parsed (image_seen it) []) }
     ensures order { IfOk result (λ it. All IsOrdered it.lines.items) }
     ensures bad { (place : ℕ) → result ≡ Err (fault.BadAt place) → (rest : List ℕ)
         × (spec.image bytes.now ≡ Unexpected rest) × (place + length rest ≡ length bytes.now) }
+    ensures breaks { (place : ℕ) → result ≡ Err (fault.BadAt place) → (rest : List ℕ)
+        × Breaks bytes.now rest × (place + length rest ≡ length bytes.now) }
 {
     let mut reader = Reader { rest: bytes };
     match image(alloc, &mut reader) {
@@ -81,6 +86,7 @@ pub fn read(alloc: Global, bytes: &[u8]) -> Result<ReadImage<'_>, ImageFault>
         }
         Err(ReadStop::Unexpected) => {
             bytes_are_an_image_or_break();
+            bytes_break_behind_the_items_of_an_image();
             Err(ImageFault::BadAt((bytes.len() - reader.rest.len()) as u64))
         }
         Err(ReadStop::NoMemory) => Err(ImageFault::NoMemory),

@@ -33,7 +33,8 @@ at_name : (b : Bool) (o u : Option (List Column)) (l k : Option TableLoss)
 at_name true o u l k x w y z h g = h
 at_name false o u l k x w y z h g = g
 
-pub agree_at : (o u : Option (List Column)) (l k : Option TableLoss) (x w y z : Option DatabaseEntry)
+pub agree_at : (o u : Option (List Column)) (l k : Option TableLoss)
+    (x w y z : Option DatabaseEntry)
     → o ≡ u → l ≡ k → x ≡ w → y ≡ z → AgreeAt u k w z → AgreeAt o l x y
 agree_at o u l k x w y z p q r s h =
     subst (λ (i : Option (List Column)). AgreeAt i l x y) (sym p)

@@ -33,7 +33,8 @@ use Rattle.piece_ir_spec.specs.OperatorViews.{computed}
 use Rattle.piece_ir_spec.proofs.OneViews.{add_column_views}
 use Rattle.piece_ir_spec.proofs.OneTable.{only_one}
 use Rattle.smo_ops_spec.specs.WaysBack.{FilledColumn}
-use Rattle.smo_ops_versions_spec.specs.ColumnLosses.{TableLoss, OfColumns, Losses, table_loss, column_loss}
+use Rattle.smo_ops_versions_spec.specs.ColumnLosses.{TableLoss, OfColumns, Losses, table_loss}
+use Rattle.smo_ops_versions_spec.specs.ColumnLosses.{column_loss}
 use Rattle.smo_ops_versions_spec.specs.ColumnLosses.{whole_loss, lost_columns, kept_columns}
 use Rattle.smo_ops_versions_spec.specs.LostNames.{filled_at, losses_filled}
 use Rattle.temporal_lang_losses_spec.specs.Agreeing.{AgreeAt, AgreeUpTo}
@@ -41,7 +42,8 @@ use Rattle.temporal_lang_losses_spec.proofs.KeptRows.{FollowIn, follow_kept}
 use Rattle.temporal_lang_losses_spec.proofs.AlikeChoices.{NoneLost}
 use Rattle.temporal_lang_losses_spec.proofs.MadeFollow.{IfKnown, with_outs, given_follow}
 use Rattle.temporal_lang_losses_spec.proofs.WholeAgree.{first_is, second_is, whole_agree}
-use Rattle.temporal_lang_losses_spec.proofs.MadeAgree.{agree_turned, entry_is, entry_found, same_whole}
+use Rattle.temporal_lang_losses_spec.proofs.MadeAgree.{agree_turned, entry_is, entry_found}
+use Rattle.temporal_lang_losses_spec.proofs.MadeAgree.{same_whole}
 use Rattle.temporal_lang_losses_spec.proofs.EachName.{agree_at}
 use Rattle.temporal_lang_losses_spec.proofs.OneTells.{computed_tells}
 
@@ -189,7 +191,8 @@ module _ (tables : Tables) (losses : Losses) (r c : List ℕ) (loss : Loss)
                 valid.schema inputs b (λ n. (agree n).second_there) (it w) (inl refl);
             rows = λ e.
                 sym (ap (λ (x : DatabaseEntry). shown (rows_of x))
-                (same_whole tables (filling_by r c v) losses a b agree accepted valid.schema inputs a
+                (same_whole tables (filling_by r c v) losses a b agree accepted valid.schema inputs
+                a
                 (λ n. (agree n).first_there) (it v) (inl refl)))
                 ∙ follow_kept map (new v) (rows_of (entry v (whole a)))
                 (rows_of (entry w (whole b)))

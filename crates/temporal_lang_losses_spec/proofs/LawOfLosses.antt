@@ -16,7 +16,8 @@ use Rattle.piece_ir_spec.specs.OperatorViews.{operator_views}
 use Rattle.piece_ir_spec.proofs.EachOperator.{each_views}
 use Rattle.smo_ops_versions_spec.specs.ColumnLosses.{OfColumns, Losses, table_loss}
 use Rattle.smo_ops_versions_spec.specs.ColumnLosses.{gathered}
-use Rattle.smo_ops_versions_spec.specs.LostNames.{made_as, made_loss, rows_lost, made_column_loss, losses_over}
+use Rattle.smo_ops_versions_spec.specs.LostNames.{made_as, made_loss, rows_lost, made_column_loss}
+use Rattle.smo_ops_versions_spec.specs.LostNames.{losses_over}
 use Rattle.smo_ops_versions_spec.specs.LostNames.{none_lost}
 use Rattle.temporal_lang_losses_spec.specs.Agreeing.{AgreeAt, AgreeUpTo}
 use Rattle.temporal_lang_losses_spec.proofs.AlikeChoices.{NoneLost}

@@ -39,7 +39,8 @@ pub record IfKnown (losses : Losses) (lost : List ℕ → Option Loss) (columns 
       → value (over f) (out_of v.outs n) ≡ value (over g) (out_of outs n)
 
 module _ (tables : Tables) (losses : Losses) (a b : Database)
-    (agree : AgreeUpTo tables losses a b) (columns : List Column) (map : FinMap bytes_cmp Loss) where
+    (agree : AgreeUpTo tables losses a b) (columns : List Column)
+    (map : FinMap bytes_cmp Loss) where
   module _ (lost : List ℕ → Option Loss)
       (is : (n : List ℕ) → In n (names_of columns) → get map n ≡ None → lost n ≡ None)
       (first second : Relation) (views others : List PlainView)

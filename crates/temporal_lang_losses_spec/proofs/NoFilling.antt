@@ -1,6 +1,7 @@
--- No answer shows a filling: where no item of a query is lost, what is asked of a moment is the same
--- whatever constants dropped columns are filled with.
-use Rattle.std.proofs.Common.{◌≡◌, ◌+◌, ◌-◌, ◌<◌, ◌≤◌, ℕ, zero, suc, refl, sym, ap, ◌∙◌, List, arith}
+-- No answer shows a filling: where no item of a query is lost, what is asked of a moment is the
+-- same whatever constants dropped columns are filled with.
+use Rattle.std.proofs.Common.{◌≡◌, ◌+◌, ◌-◌, ◌<◌, ◌≤◌, ℕ, zero, suc, refl, sym, ap, ◌∙◌, List}
+use Rattle.std.proofs.Common.{arith}
 use Rattle.std.specs.Prelude.{Option, Some, None}
 use Rattle.std.specs.Option.{option_or}
 use Rattle.std.specs.FinMap.{empty}

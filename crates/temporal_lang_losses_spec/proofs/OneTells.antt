@@ -1,4 +1,5 @@
--- Views of one table ask for nothing that is lost, where the table is not, nor what they name of it.
+-- Views of one table ask for nothing that is lost, where the table is not, nor what they name of
+-- it.
 use Rattle.std.proofs.Common.{◌≡◌, ℕ, zero, suc, Bool, true, false, List, [], ◌∷◌, refl, sym, ap}
 use Rattle.std.proofs.Common.{subst, ◌∙◌}
 use Rattle.std.specs.Prelude.{Option, None, ◌&&◌, not, if◌then◌else◌}

@@ -1,4 +1,5 @@
--- The views of each operator ask for nothing that is lost, where no input is, and its rows are told.
+-- The views of each operator ask for nothing that is lost, where no input is, and its rows are
+-- told.
 use Rattle.std.proofs.Common.{◌≡◌, ℕ, Bool, true, false, List, [], ◌∷◌, refl, sym, ap, subst, ◌∙◌}
 use Rattle.std.proofs.Common.{inl, inr}
 use Rattle.std.specs.Prelude.{Option, None, if◌then◌else◌}
@@ -20,12 +21,14 @@ use Rattle.piece_ir_spec.specs.Views.{PlainView, whole}
 use Rattle.piece_ir_spec.specs.OperatorViews.{operator_views, common_names, paired}
 use Rattle.piece_ir_spec.proofs.OneTable.{only_one}
 use Rattle.smo_ops_versions_spec.specs.ColumnLosses.{Losses, column_loss}
-use Rattle.smo_ops_versions_spec.specs.LostNames.{first_named, in_inputs, rows_lost, made_column_loss}
+use Rattle.smo_ops_versions_spec.specs.LostNames.{first_named, in_inputs, rows_lost}
+use Rattle.smo_ops_versions_spec.specs.LostNames.{made_column_loss}
 use Rattle.temporal_lang_losses_spec.proofs.AlikeChoices.{NoneLost}
 use Rattle.temporal_lang_losses_spec.proofs.MadeFollow.{IfKnown}
 use Rattle.smo_ops_versions_spec.proofs.LossMaps.{or_none, none_first}
 use Rattle.temporal_lang_losses_spec.proofs.MadeAgree.{EachTells}
-use Rattle.temporal_lang_losses_spec.proofs.OneTells.{whole_tells, met_tells, unmet_tells, computed_tells, same_value}
+use Rattle.temporal_lang_losses_spec.proofs.OneTells.{whole_tells, met_tells, unmet_tells}
+use Rattle.temporal_lang_losses_spec.proofs.OneTells.{computed_tells, same_value}
 use Rattle.temporal_lang_losses_spec.proofs.PairTells.{paired_tells}
 
 module _ (losses : Losses) where

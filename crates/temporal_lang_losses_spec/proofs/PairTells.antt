@@ -1,5 +1,5 @@
--- The view of a JOIN asks for nothing that is lost, where neither table is, nor a common column, nor
--- what the condition names.
+-- The view of a JOIN asks for nothing that is lost, where neither table is, nor a common column,
+-- nor what the condition names.
 use Rattle.std.proofs.Common.{◌≡◌, ℕ, zero, suc, Bool, true, false, List, [], ◌∷◌, ◌++◌, map, refl}
 use Rattle.std.proofs.Common.{sym, ap, subst, ◌∙◌, inl, inr}
 use Rattle.std.specs.Prelude.{Option, None, ◌&&◌, if◌then◌else◌}
@@ -41,7 +41,8 @@ module _ (losses : Losses) (r s : List ℕ) where
 
   module _ (f g : ℕ → List ℕ → Value) (like : Alike losses (r ∷ s ∷ []) f g) where
     in_first : (n : List ℕ) → either n ≡ None → f 0 n ≡ g 0 n
-    in_first n e = like zero n (none_first (λ x. column_loss losses x n) (r ∷ s ∷ []) e r (inl refl))
+    in_first n e = like zero n (none_first (λ x. column_loss losses x n) (r ∷ s ∷ []) e r
+        (inl refl))
 
     in_second : (n : List ℕ) → either n ≡ None → f 1 n ≡ g 1 n
     in_second n e = like (suc zero) n

@@ -27,7 +27,8 @@ use Rattle.smo_ops_spec.specs.OneRow.{Row, Relation}
 use Rattle.smo_ops_spec.specs.Effects.{columns_of, rows_under}
 use Rattle.smo_ops_spec.specs.Losses.{Loss}
 use Rattle.plain_answers_spec.specs.Choosing.{chosen_cell, Gives}
-use Rattle.plain_answers_spec.specs.Branches.{Item, PlainBranch, item_columns, item_rows, branch_answers}
+use Rattle.plain_answers_spec.specs.Branches.{Item, PlainBranch, item_columns, item_rows}
+use Rattle.plain_answers_spec.specs.Branches.{branch_answers}
 use Rattle.plain_answers_spec.specs.Branches.{plain, BranchGives}
 use Rattle.plain_answers_spec.specs.Naming.{is_to, all_references, IsNamed, written_names}
 use Rattle.plain_answers_spec.proofs.PlainRows.{in_answers, from_answers}

@@ -1,5 +1,5 @@
--- Along the versions of a past two databases that agree up to losses, each filled by constants of its
--- own, agree again in each version that is reached.
+-- Along the versions of a past two databases that agree up to losses, each filled by constants of
+-- its own, agree again in each version that is reached.
 use Rattle.std.proofs.Common.{◌≡◌, ℕ, List, [], ◌∷◌, refl, sym, subst, ◌∙◌}
 use Rattle.std.specs.Prelude.{None}
 use Rattle.std.specs.FinMap.{get, insert, remove}
@@ -75,7 +75,8 @@ module _ (v w : ColType → Value) (of_v : (k : ColType) → value_kind (v k) �
   pub way_is_told : (versions : List PlainVersion) → AreVersions None no_tables versions
       → (x q : ℕ) (losses : Losses) (a b : Database)
       → AgreeUpTo (tables_from no_tables versions x) losses a b
-      → AgreeUpTo (tables_from no_tables versions q) (taken losses_stepped (way versions x q) losses)
+      → AgreeUpTo (tables_from no_tables versions q)
+      (taken losses_stepped (way versions x q) losses)
       (taken (stepped_with v) (way versions x q) a) (taken (stepped_with w) (way versions x q) b)
   way_is_told versions are x q losses a b h =
       steps_agree (tables_from no_tables versions x) (tables_from no_tables versions q)

@@ -21,7 +21,8 @@ use Rattle.smo_ops_spec.specs.First.{first_refusal as first_there}
 use Rattle.smo_ops_spec.specs.OneRow.{Row}
 use Rattle.smo_ops_spec.specs.Preconditions.{type_in}
 use Rattle.smo_ops_spec.specs.Effects.{columns_of}
-use Rattle.smo_ops_spec.specs.Making.{image, without, with_column, type_of_value, added_value, from_one}
+use Rattle.smo_ops_spec.specs.Making.{image, without, with_column, type_of_value, added_value}
+use Rattle.smo_ops_spec.specs.Making.{from_one}
 use Rattle.smo_ops_spec.specs.Making.{from_two, union}
 use Rattle.smo_ops_spec.specs.After.{schema_after}
 use Rattle.smo_ops_spec.specs.Losses.{Loss}
@@ -30,8 +31,10 @@ use Rattle.plain_answers_spec.specs.Branches.{PlainBranch, a_branch}
 use Rattle.smo_ops_versions_spec.proofs.WorkedWords.{a, t, int, text, at_atom, a_columns, t_there}
 use Rattle.smo_ops_spec.specs.WaysBack.{derived, FilledColumn, blank}
 use Rattle.smo_ops_versions_spec.specs.Migration.{migrated_from}
-use Rattle.smo_ops_versions_spec.specs.ColumnLosses.{TableLoss, WholeTable, OfColumns, Losses, whole_loss}
-use Rattle.smo_ops_versions_spec.specs.ColumnLosses.{lost_columns, table_loss, column_loss, put_loss}
+use Rattle.smo_ops_versions_spec.specs.ColumnLosses.{TableLoss, WholeTable, OfColumns, Losses}
+use Rattle.smo_ops_versions_spec.specs.ColumnLosses.{whole_loss}
+use Rattle.smo_ops_versions_spec.specs.ColumnLosses.{lost_columns, table_loss, column_loss}
+use Rattle.smo_ops_versions_spec.specs.ColumnLosses.{put_loss}
 use Rattle.smo_ops_versions_spec.specs.LostNames.{lost_names, filled_at, made_as}
 use Rattle.temporal_lang_spec.specs.Losing.{items_loss}
 
@@ -65,7 +68,8 @@ losses_before = empty
 -- the derived operator is the filling by the empty text
 fills : derived with_t (drop_column c t) ≡ Some (add_column c (constant (text [])) t)
 fills = ap (λ (o : Option (List Column)). Some (add_column c
-    (constant (blank (unwrap_or (type_in (unwrap_or o []) c) INT))) t)) (t_there no_tables ac_columns)
+    (constant (blank (unwrap_or (type_in (unwrap_or o []) c) INT))) t))
+    (t_there no_tables ac_columns)
 
 -- by names alone the column is lost, by version 2, and neither the table nor its other column
 abbrev lost : Losses
@@ -78,13 +82,15 @@ abbrev just_c : FinMap bytes_cmp Loss
 just_c = insert empty c (2, 1)
 
 lost_is : get lost t ≡ Some (OfColumns (insert (lost_columns (get losses_before t)) c (2, 1)))
-lost_is = ap (λ (o : Option TableLoss). get (filled_at (2, 1) filled (whole_loss o) losses_before) t)
+lost_is = ap (λ (o : Option TableLoss). get (filled_at (2, 1) filled (whole_loss o) losses_before)
+    t)
     (get-empty bytes_cmp t)
     ∙ get-insert nat_list_cmp_total losses_before t
     (OfColumns (insert (lost_columns (get losses_before t)) c (2, 1))) t
 
 lost_here : get lost t ≡ Some (OfColumns just_c)
-lost_here = lost_is ∙ ap (λ (o : Option TableLoss). Some (OfColumns (insert (lost_columns o) c (2, 1))))
+lost_here = lost_is ∙ ap (λ (o : Option TableLoss).
+    Some (OfColumns (insert (lost_columns o) c (2, 1))))
     (get-empty bytes_cmp t)
 
 table_kept : table_loss lost t ≡ None
@@ -133,7 +139,8 @@ less_c_columns = ap (λ (o : Option (List Column)). unwrap_or o [])
 abbrev filled_rows : ColType → List Column → Option DatabaseEntry → DatabaseEntry
 filled_rows kind columns entry =
     let z : Tree = constant (blank kind) in
-    from_one (image (with_column c (type_of_value columns z) columns) (added_value columns c z)) entry
+    from_one (image (with_column c (type_of_value columns z) columns) (added_value columns c z))
+    entry
 
 filled_again : (db : Database) → get db t ≡ Some (Rows (row 1 ∷ row 2 ∷ []))
     → get (migrated_from dropped 2 1 db) t ≡ Some (Rows (full 1 ∷ full 2 ∷ []))

@@ -9,7 +9,8 @@ use Rattle.smo_ops_spec.specs.OneRow.{Relation}
 use Rattle.smo_ops_spec.specs.Effects.{rows_under}
 use Rattle.smo_ops_spec.specs.Making.{image}
 use Rattle.smo_ops_spec.specs.Losses.{IsEntryOrLost, loss_of}
-use Rattle.smo_ops_versions_spec.specs.ColumnLosses.{TableLoss, Losses, whole_loss, lost_columns, kept_columns}
+use Rattle.smo_ops_versions_spec.specs.ColumnLosses.{TableLoss, Losses, whole_loss, lost_columns}
+use Rattle.smo_ops_versions_spec.specs.ColumnLosses.{kept_columns}
 
 -- the rows of a table over its columns that are not lost
 abbrev pub kept_rows : Option (List Column) → Option TableLoss → Option DatabaseEntry → Relation

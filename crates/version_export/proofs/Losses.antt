@@ -2,10 +2,9 @@
 -- whose items is lost is accepted where it is accepted on the other version.
 use Rattle.std.specs.Prelude.{◌≡◌, ◌≤◌, ◌<◌, ◌+◌, ◌++◌, ℕ, zero, suc, List, [], ◌∷◌, Option}
 use Rattle.std.specs.Prelude.{Some, None, length, nat_le, nat_lt, true, map}
-use Rattle.std.proofs.Common.{refl, sym, ap, ◌∙◌, inl, inr, arith}
+use Rattle.std.proofs.Common.{refl, sym, ap, ◌∙◌, inl, arith}
 use Rattle.std.proofs.lemmas.Bool.Decides.{nat_tests}
 use Rattle.std.specs.Option.{option_or}
-use Rattle.relations_spec.specs.Sets.{In}
 use Rattle.relations_spec.specs.Spans.{forever}
 use Rattle.prima_base.specs.declared.refusal.Refusal.TheVariants.{NoVersion, EmptyPeriod}
 use Rattle.schema_catalog.specs.Tables.{Tables}

@@ -16,7 +16,7 @@ use Rattle.version_export.specs.declared.seen_table.SeenTable.{SeenTable}
 use Rattle.version_export.specs.Refused.{Fault, no_inverse, by_loss, table_test}
 use Rattle.version_export.specs.declared.seen.SeenFault.{SeenFault}
 use Rattle.version_export.specs.declared.seen.SeenFault.TheVariants.{NoInverse, NoMemory}
-use Rattle.version_export.specs.Seen.{table_in}
+use Rattle.version_export.specs.Seen.{table_in, IsListed}
 use Rattle.version_export.specs.SeenTables.{Shows, AllShow, IsSeenTable, AreSeenTables}
 
 -- ---- one table
@@ -47,6 +47,12 @@ own_table past version i t n e q = λ j. (q j, columns j)
     columns = ap (columns_of (tables_of past version)) q
         ∙ ap (λ (o : Option (List Column)). unwrap_or o [])
         (table_at (tables_of past version) i t e)
+
+pub seen_fault : (past : Past) (version place : ℕ) (t : NamedColumns) (fault : SeenFault)
+    → slice_get (tables_in past version) place ≡ Some t → IsListed past version t (Err fault)
+    → IsSeenTable past version place (Err fault)
+seen_fault past version place t (NoInverse k kind) there h = (t, there, h)
+seen_fault past version place t NoMemory there h = tt
 
 -- ---- all tables
 

@@ -1,8 +1,7 @@
 -- The rows of a version's tables, put into a past with just these tables, make one that shows at
 -- each moment what the version shows.
-use Rattle.std.specs.Prelude.{◌≡◌, ◌≤◌, ◌<◌, ℕ, List, [], ◌∷◌, cond, length}
-use Rattle.std.specs.Prelude.{Option, Some, None}
-use Rattle.std.proofs.Common.{refl, sym, ap, subst, ◌∙◌, inl, inr, arith}
+use Rattle.std.specs.Prelude.{◌≡◌, ◌≤◌, ◌<◌, ℕ, List, [], ◌∷◌, cond, length, None}
+use Rattle.std.proofs.Common.{sym, ap, subst, ◌∙◌, inl, inr, arith}
 use Rattle.std.specs.FinMap.{get}
 use Rattle.schema_catalog.specs.Tables.{Tables}
 use Rattle.schema_catalog.specs.Databases.{Database, IsDatabase}

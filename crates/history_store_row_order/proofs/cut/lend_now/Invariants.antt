@@ -1,4 +1,4 @@
-use Rattle.std.proofs.Common.{◌≡◌, ◌+◌, ◌++◌, drop, length, map}
+use Rattle.std.proofs.Common.{◌≡◌, ◌+◌, ◌≤◌, ◌++◌, drop, length, map}
 use Rattle.std.specs.Prelude.{All}
 use Rattle.prima_base.specs.Order.{shown, IsBorrowed}
 use Rattle.prima_base.specs.Columns.{IsValid}
@@ -13,4 +13,5 @@ invariant-loop-column g l = record {
   valid : All (λ v. IsValid (shown v)) l.row.items;
   borrowed : All IsBorrowed l.row.items;
   cost : l.steps ≡ l.initial.steps + length l.row.items;
+  few : length l.row.items + length (drop l.column-index l.columns) ≤ length l.columns;
 }

@@ -38,6 +38,7 @@ returns-in-Some g c = λ loss.
     (operator_of c.in-Some.back) (shown_pieces c.args.pieces.items) (shown_pieces news.items) loss
     c.requires.next (sym c.in_ok-derived.ensures ∙ ap (option_map operator_of) c.in-Some.is)
     (h ∙ ap (λ (xs : List Piece). through
-    (book_of g.R.Rule.handles g.R.Rule.answers c.args.book.now.rules.items) (operator_of c.in-Some.back) c.args.next.now
+    (book_of g.R.Rule.handles g.R.Rule.answers c.args.book.now.rules.items)
+    (operator_of c.in-Some.back) c.args.next.now
     (shown_pieces xs)) c.deref.ensures.value))
     c.through.ensures

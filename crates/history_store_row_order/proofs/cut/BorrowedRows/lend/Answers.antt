@@ -46,3 +46,19 @@ returns-clause-values g c =
     (ap (λ rows. get_or rows c.args.at []) (sym c.self.view_is)
     ∙ get_or-part a.index.now.ids a.start a.end (cells_of a.columns.now) c.args.at b
     c.self.invariant.order c.self.invariant.within)) v
+
+pub returns-clause-most : goal.returns-clause-most
+returns-clause-most g c =
+    let a = c.self.inside in
+    let b : c.args.at < a.end - a.start = subst (λ n. c.args.at < n)
+    (ap length (sym c.self.view_is) ∙ length-part a.index.now.ids a.start a.end
+    (cells_of a.columns.now) c.self.invariant.order c.self.invariant.within)
+    c.requires.within in
+    let w = c.self.invariant.whole (get_or a.index.now.ids (a.start + c.args.at) 0)
+    (in_get a.index.now.ids (a.start + c.args.at) 0
+    (omega (arith, b, c.self.invariant.order, c.self.invariant.within))) in
+    let r = ap length (ap (λ rows. get_or rows c.args.at []) (sym c.self.view_is)
+    ∙ get_or-part a.index.now.ids a.start a.end (cells_of a.columns.now) c.args.at b
+    c.self.invariant.order c.self.invariant.within) in
+    let m = c.lend_now.ensures.most in
+    omega (arith, w, r, m)

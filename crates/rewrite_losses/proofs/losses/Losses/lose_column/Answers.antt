@@ -14,4 +14,5 @@ returns c = on_ok_weaker c.put.result (λ e. e
     ∙ anew c.args.self.now c.args.table.now c.lose.new.self
     ∙ ap (λ (t : TableLoss). map.insert c.args.self.now c.args.table.now t)
     (c.in_ok-lose.ensures ∙ ap (λ (m : FinMap bytes_cmp Loss).
-    OfColumns (map.insert m c.args.name.now c.args.loss)) c.take-lost.ensures.columns)) c.put.ensures
+    OfColumns (map.insert m c.args.name.now c.args.loss)) c.take-lost.ensures.columns))
+    c.put.ensures

@@ -1,13 +1,15 @@
 use Rattle.std.proofs.Common.{◌∙◌, sym, ap}
 use Rattle.std.specs.Prelude.{Some}
 use Rattle.std.specs.FinMap as map
-use Rattle.smo_ops_versions_spec.specs.ColumnLosses.{Losses as Lost, TableLoss, whole_loss, lost_columns}
+use Rattle.smo_ops_versions_spec.specs.ColumnLosses.{Losses as Lost, TableLoss, whole_loss}
+use Rattle.smo_ops_versions_spec.specs.ColumnLosses.{lost_columns}
 use Rattle.rewrite_losses.proofs.Maps.{one_kept, get_is}
 use Rattle.rewrite_losses.proofs.losses.Losses.take.Goals.{in-Some, in-None}
 use Rattle.rewrite_losses.proofs.losses.Losses.take.Goals as goal
 
 pub returns-clause-kept : goal.returns-clause-kept
-returns-clause-kept c = one_kept c.self.inside.lost.entries c.remove.new.self.entries c.args.table.now
+returns-clause-kept c = one_kept c.self.inside.lost.entries c.remove.new.self.entries
+    c.args.table.now
     c.remove.ensures.updates.0 ∙ ap (λ (m : Lost). map.remove m c.args.table.now) c.self.view_is
 
 pub returns-clause-whole : goal.returns-clause-whole

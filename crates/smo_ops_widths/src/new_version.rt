@@ -1,0 +1,188 @@
+ghost use Rattle.std.specs.Prelude.{◌≡◌, ◌+◌, ◌≤◌, ◌<◌, ℕ, suc, List, None, IfOk, length};
+ghost use Rattle.std.specs.Prelude.{◌-◌, max, true, false, get_or};
+ghost use Rattle.std.specs.BTreeSet.{contains};
+ghost use Rattle.prima_base.specs.Order.{bytes_cmp};
+ghost use Rattle.smo_ops_types.specs.declared.version.Version.{Version};
+ghost use Rattle.smo_ops_types.specs.Operators.{Operator, operator_of, operators_of};
+ghost use Rattle.smo_ops_types.specs.Commands.{versions_of};
+ghost use Rattle.smo_ops_spec.specs.After.{op_fault, schema_after, HasFewNodes, HaveFewNodes};
+ghost use Rattle.smo_ops_spec.specs.Inverses.{inverse_fault};
+ghost use Rattle.smo_ops_spec.specs.Past.{no_tables, tables_from, newest_from};
+ghost use Rattle.smo_ops_spec.specs.ValidPast.{AreVersions};
+ghost use Rattle.smo_ops_widths.specs.Widths.{greatest_of, widths_of, widest};
+ghost use Rattle.smo_ops_widths.specs.Widths.{widest_with, with_version};
+ghost use Rattle.smo_ops_widths.specs.Creating.{creates_one, NameAll};
+ghost use Rattle.smo_ops_widths.specs.Counted.{stopped};
+ghost use Rattle.smo_ops_widths.specs.Shown.{Show};
+
+use crate::measure::greatest;
+use crate::names::{creates_one, insert_named};
+use crate::way::{carry, go_back};
+use crate::width::TableWidth;
+use crate::widths::own_widths;
+use prima_base::{Name, NoMemory};
+use schema_catalog::Schema;
+use smo_ops_operators::schema_after;
+use smo_ops_types::{Op, Versions};
+use std::alloc::Global;
+use std::collections::{BTreeMap, BTreeSet};
+
+// At this number the measure of what makes a version stops.
+const MOST: u64 = 1 << 63;
+
+/// The greatest measure that what makes a version may have.
+pub const MAX_MEASURE: u64 = 1_000_000;
+
+// The tables of version `k`; `nothing` has none.
+fn tables_at<'a>(nothing: &'a Schema, versions: &'a Versions, k: usize) -> &'a Schema
+    requires nothing { nothing.now ≡ no_tables }
+    requires there { k ≤ length versions.now.list.items }
+    ensures { result.now ≡ tables_from no_tables (versions_of versions.now) k }
+{
+    if k == 0 {
+        nothing
+    } else {
+        &versions.list[k - 1].schema
+    }
+}
+
+// The widths of the tables of the newest version, read from version `stored`.
+fn widths_on(
+    alloc: Global,
+    versions: &Versions,
+    stored: usize,
+) -> Result<BTreeMap<Name, TableWidth>, NoMemory>
+    requires there { stored ≤ length versions.now.list.items }
+    ensures { IfOk result (λ m. Show m.entries
+        (widths_of (versions_of versions.now) stored (length versions.now.list.items))) }
+{
+    let nothing = Schema::empty(alloc);
+    let mut widths = own_widths(alloc, tables_at(&nothing, versions, stored))?;
+    let mut k = stored;
+    while k < versions.list.len() {
+        let before = tables_at(&nothing, versions, k);
+        carry(alloc, before, &versions.list[k].op, &mut widths)?;
+        k += 1;
+    }
+    Ok(widths)
+}
+
+// The greatest measure of the tables of the version that the operator makes, read from version
+// `stored`.
+fn measure_on(
+    alloc: Global,
+    versions: &Versions,
+    op: &Op,
+    next: &Schema,
+    stored: usize,
+) -> Result<u64, NoMemory>
+    requires there { stored ≤ length versions.now.list.items }
+    requires next { next.now ≡ schema_after (newest_from no_tables (versions_of versions.now))
+        (operator_of op.now) }
+    ensures { IfOk result (λ most. (stamp : ℕ) → (inverse : List Operator)
+        → most ≡ stopped (greatest_of (with_version (versions_of versions.now) stamp
+        (operator_of op.now) inverse) stored (length versions.now.list.items + 1))) }
+{
+    let mut widths = widths_on(alloc, versions, stored)?;
+    let nothing = Schema::empty(alloc);
+    let newest = tables_at(&nothing, versions, versions.list.len());
+    carry(alloc, newest, op, &mut widths)?;
+    Ok(greatest(next, &widths))
+}
+
+// Whether version `k` creates no table, or one that is not among the names of later operators.
+fn is_covered(versions: &Versions, names: &BTreeSet<Name>, k: usize) -> bool
+    requires there { k ≤ length versions.now.list.items }
+    ensures { result ≡ true → (v : Version) × (k - 1 < length versions.now.list.items)
+        × (v ≡ get_or versions.now.list.items (k - 1) v) × (k - 1 + 1 ≡ k)
+        × (creates_one (contains bytes_cmp names.now) (operator_of v.op) ≡ false) }
+{
+    if k == 0 {
+        return false;
+    }
+    !creates_one(names, &versions.list[k - 1].op)
+}
+
+// The greatest measure of the tables of version `k`, which have these widths, and of the tables of
+// the version that the operator makes, read from version `k`. Where it is covered these are left
+// out: they are at least as wide where they are read from the version before, and a table that it
+// creates is as wide where it is read from the newest version.
+fn measure_at(
+    alloc: Global,
+    versions: &Versions,
+    op: &Op,
+    next: &Schema,
+    k: usize,
+    widths: &BTreeMap<Name, TableWidth>,
+    names: &BTreeSet<Name>,
+) -> Result<u64, NoMemory>
+    requires there { k < length versions.now.list.items }
+    requires versions { AreVersions None no_tables (versions_of versions.now) }
+    requires next { next.now ≡ schema_after (newest_from no_tables (versions_of versions.now))
+        (operator_of op.now) }
+    ensures { IfOk result (λ more. (stamp : ℕ) → (inverse : List Operator)
+        → Show widths.now.entries (widths_of (with_version (versions_of versions.now) stamp
+        (operator_of op.now) inverse) (length versions.now.list.items + 1) k)
+        → NameAll (contains bytes_cmp names.now) (with_version (versions_of versions.now) stamp
+        (operator_of op.now) inverse) k
+        → (most : ℕ) → stopped (greatest_of (with_version (versions_of versions.now) stamp
+        (operator_of op.now) inverse) (length versions.now.list.items)
+        (length versions.now.list.items + 1)) ≤ most
+        → stopped (max (max most more) (widest_with (with_version (versions_of versions.now) stamp
+        (operator_of op.now) inverse) (length versions.now.list.items + 1) k))
+        ≡ stopped (max most (widest_with (with_version (versions_of versions.now) stamp
+        (operator_of op.now) inverse) (length versions.now.list.items + 1) (suc k)))) }
+{
+    let nothing = Schema::empty(alloc);
+    let back = greatest(tables_at(&nothing, versions, k), widths);
+    if is_covered(versions, names, k) {
+        return Ok(back);
+    }
+    let on = measure_on(alloc, versions, op, next, k)?;
+    Ok(on.max(back))
+}
+
+/// The measure of what makes a version after these, by an operator with its inverse, none where the
+/// list is empty: the greatest over the tables of the new version read from an earlier one, and of
+/// an earlier version read from the new one, of the pieces times what the largest of them has: its
+/// atoms, the size of its condition and that of what stands for each column. It stops at 2^63. The
+/// operator is accepted on the newest schema, and the inverse leads back.
+pub fn widest(alloc: Global, versions: &Versions, op: &Op, inverse: &[Op]) -> Result<u64, NoMemory>
+    requires versions { AreVersions None no_tables (versions_of versions.now) }
+    requires accepted { op_fault (newest_from no_tables (versions_of versions.now))
+        (operator_of op.now) ≡ None }
+    requires operator { HasFewNodes (operator_of op.now) }
+    requires few { HaveFewNodes (operators_of inverse.now) }
+    requires inverse { inverse_fault (newest_from no_tables (versions_of versions.now))
+        (operator_of op.now) (operators_of inverse.now) ≡ None }
+    ensures { (stamp : ℕ) → IfOk result (λ most. most ≡ widest (with_version
+        (versions_of versions.now) stamp (operator_of op.now) (operators_of inverse.now))) }
+{
+    let nothing = Schema::empty(alloc);
+    let mut k = versions.list.len();
+    let newest = tables_at(&nothing, versions, k);
+    let next = schema_after(alloc, newest, op)?;
+    let mut widths = own_widths(alloc, &next)?;
+    go_back(alloc, newest, op, &next, inverse, &mut widths)?;
+    let mut names = BTreeSet::new(alloc);
+    insert_named(&mut names, op)?;
+    let on = measure_on(alloc, versions, op, &next, k)?;
+    let begun = on.max(greatest(newest, &widths));
+    let mut most = begun;
+    while k > 0 {
+        k -= 1;
+        let version = &versions.list[k];
+        go_back(
+            alloc,
+            tables_at(&nothing, versions, k),
+            &version.op,
+            &version.schema,
+            &version.inverse,
+            &mut widths,
+        )?;
+        insert_named(&mut names, &version.op)?;
+        let more = measure_at(alloc, versions, op, &next, k, &widths, &names)?;
+        most = most.max(more);
+    }
+    Ok(most.min(MOST))
+}
