@@ -4,6 +4,8 @@
 //! temporal_lang_losses_spec: what crates above name of these is exported again.
 #![tactic(auto)]
 
+mod aggregate_check;
+mod aggregate_reader;
 mod arity;
 mod atom;
 mod check;
@@ -12,23 +14,29 @@ mod fault;
 mod item;
 mod list;
 mod name;
+mod node_place;
 mod parse;
 mod period;
 mod query_reader;
 mod reference;
+mod relation_reader;
 mod resolution;
 mod to_atom;
 mod type_check;
 mod when_reader;
 
+pub use aggregate_check::check_aggregate;
+pub use aggregate_reader::aggregates;
 pub use check::check_query;
 pub use count::check_query_counts;
 pub use fault::QueryFault;
+pub use node_place::{count_nodes, refusal_behind};
 pub use parse::parse_query;
 pub use prima_base::Keep;
-pub use query_reader::ask;
+pub use query_reader::{ask, full_ask};
+pub use relation_reader::relation;
 pub use temporal_lang_grammar_spec::{
-    overflows_tell_what_is_too_much, queries_are_correct, queries_are_one,
+    aggregates_are_correct, overflows_tell_what_is_too_much, queries_are_correct, queries_are_one,
 };
 pub use temporal_lang_losses_spec::{databases_agree_up_to_losses, no_answer_shows_a_filling};
 pub use temporal_lang_spec::{
