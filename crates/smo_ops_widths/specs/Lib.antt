@@ -1,0 +1,4 @@
+pub mod Widths
+pub mod Creating
+pub mod Counted
+pub mod Shown
