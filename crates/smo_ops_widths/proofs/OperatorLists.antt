@@ -6,11 +6,13 @@ use Rattle.std.proofs.lemmas.List.{take_all}
 use Rattle.std.specs.Prelude.{None}
 use Rattle.schema_catalog.specs.Tables.{Tables}
 use Rattle.smo_ops_types.specs.declared.op.Op.{Op}
-use Rattle.smo_ops_types.specs.Operators.{operator_of, operators_of}
+use Rattle.smo_ops_types.specs.Operators.{Operator, operator_of, operators_of}
 use Rattle.smo_ops_spec.specs.After.{op_fault, schema_after, HaveFewNodes}
 use Rattle.smo_ops_spec.specs.Inverses.{AllOperatorsAccepted}
+use Rattle.smo_ops_spec.specs.OperatorTable.{line, made_names}
 use Rattle.smo_ops_versions_spec.specs.Steps.{carrying_each, taken}
-use Rattle.smo_ops_widths.specs.Widths.{Widths, widths_over, widths_stepped}
+use Rattle.smo_ops_versions_spec.specs.Ways.{back_over}
+use Rattle.smo_ops_widths.specs.Widths.{Widths, widths_over, widths_stepped, no_width}
 use Rattle.smo_ops_widths.specs.declared.width.TableWidth.{TableWidth}
 use Rattle.smo_ops_widths.specs.Shown.{Show}
 
@@ -55,7 +57,7 @@ pub over_all : (tables next : Tables) (op : Op) (ops : List Op)
     → op ≡ get_or ops 0 op → next ≡ schema_after tables (operator_of op)
     → Show entries (taken widths_stepped (carrying_each next
     (operators_of (take (length ops - 1) (drop 1 ops))))
-        (widths_over tables (operator_of op) shown))
+    (widths_over tables (operator_of op) shown))
     → Show entries (taken widths_stepped (carrying_each tables (operators_of ops)) shown)
 over_all tables next op [] entries shown l e n s = absurd (omega arith)
 over_all tables next op (x ∷ xs) entries shown l e n s =
@@ -66,3 +68,19 @@ over_all tables next op (x ∷ xs) entries shown l e n s =
     (operators_of xs)) (widths_over tables (operator_of op) shown))) n
     (subst (λ (ys : List Op). Show entries (taken widths_stepped (carrying_each next
     (operators_of ys)) (widths_over tables (operator_of op) shown))) (rest_is x xs) s))
+
+-- back over an operator, as the code goes: with no operators, or over them all
+module _ (k : ℕ) (before after : Tables) (op : Operator) (entries : List (List ℕ × TableWidth))
+    (shown : Widths) where
+  pub back_by_none : (ops : List Op) → length ops ≡ 0
+      → Show entries (no_width (line before op).consumed
+      (no_width (made_names (line before op).made) shown))
+      → Show entries (taken widths_stepped (back_over k before op after (operators_of ops)) shown)
+  back_by_none [] l s = s
+  back_by_none (x ∷ xs) l s = absurd (omega (arith, l))
+
+  pub back_by_each : (ops : List Op) → 1 ≤ length ops
+      → Show entries (taken widths_stepped (carrying_each after (operators_of ops)) shown)
+      → Show entries (taken widths_stepped (back_over k before op after (operators_of ops)) shown)
+  back_by_each [] l s = absurd (omega arith)
+  back_by_each (x ∷ xs) l s = s

@@ -66,3 +66,22 @@ mul_stopped (suc a) (suc b) x y p q = step (same_or_large (suc a) x p) (same_or_
 -- where it stops at 2^63 it is as it was
 pub at_most : (a b : ℕ) → a ≡ stopped b → min a 9223372036854775808 ≡ min 9223372036854775808 b
 at_most a b p = omega (arith, p)
+
+pub same_at_most : (a b : ℕ) → stopped b ≡ stopped a
+    → min a 9223372036854775808 ≡ min 9223372036854775808 b
+same_at_most a b p = omega (arith, p)
+
+-- the greater of what is read on and back, and of a third number
+pub both_read : (on back a b w : ℕ) → on ≡ stopped a → back ≡ stopped b
+    → stopped (max (max on back) w) ≡ stopped (max (max a b) w)
+both_read on back a b w p q = omega (arith, p, q)
+
+-- what is read on is left out where it is no greater than the third
+pub back_read : (back a b w : ℕ) → back ≡ stopped b → a ≤ w
+    → stopped (max back w) ≡ stopped (max (max a b) w)
+back_read back a b w q l = omega (arith, q, l)
+
+-- one more of the greatest
+pub one_more : (all most more w v : ℕ) → stopped all ≡ stopped (max most w)
+    → stopped (max more v) ≡ stopped w → stopped all ≡ stopped (max (max most more) v)
+one_more all most more w v p q = omega (arith, p, q)

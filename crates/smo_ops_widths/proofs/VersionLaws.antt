@@ -222,9 +222,15 @@ module _ (vs : List Version) (stamp : ℕ) (op : Operator) (inverse : List Opera
       let below : k < length vs + 1 = omega (arith, l) in
       sym (ap (λ o. taken widths_stepped (back_over_version (k + 1)
       (tables_from no_tables all k) o) (widths_of all (length vs + 1) (k + 1)))
-          (version_here k v l e))
+      (version_here k v l e))
       ∙ sym (taken_backward all widths_stepped (length vs + 1) k
       (own_widths (tables_from no_tables all (length vs + 1))) below)
+
+-- the tables of the newest version
+pub newest_at : (vs : List Version) → tables_from no_tables (map version_of vs) (length vs)
+    ≡ newest_from no_tables (map version_of vs)
+newest_at vs = ap (tables_from no_tables (map version_of vs)) (sym (mapped vs))
+    ∙ newest_tables_from no_tables (map version_of vs)
 
 -- ---- the inverses of versions
 

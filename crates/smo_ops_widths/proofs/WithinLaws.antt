@@ -75,8 +75,13 @@ module _ (tables : Tables) (f g : List ℕ → Option Width)
   made_within : (op : Operator) → EachWithin (made_widths tables op f) (made_widths tables op g)
   made_within nop = tt
   made_within (create_table r cs) = (
-    record { pieces = omega arith; atoms = omega arith; cond = omega arith; size = λ n.
-        omega arith },
+    record {
+      pieces = omega arith;
+      atoms = omega arith;
+      cond = omega arith;
+      size = λ n.
+          omega arith;
+    },
     tt,
   )
   made_within (drop_table r) = tt

@@ -2,3 +2,4 @@ pub mod Widths
 pub mod Creating
 pub mod Counted
 pub mod Shown
+pub mod MeasureFaults

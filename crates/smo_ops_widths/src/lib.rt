@@ -9,4 +9,4 @@ mod way;
 mod width;
 mod widths;
 
-pub use new_version::widest;
+pub use new_version::{MAX_MEASURE, widest};

@@ -26,6 +26,9 @@ use std::collections::BTreeMap;
 // At this number the measure of what makes a version stops.
 const MOST: u64 = 1 << 63;
 
+/// The greatest measure that what makes a version may have.
+pub const MAX_MEASURE: u64 = 1_000_000;
+
 // The tables of version `k`; `nothing` has none.
 fn tables_at<'a>(nothing: &'a Schema, versions: &'a Versions, k: usize) -> &'a Schema
     requires nothing { nothing.now ≡ no_tables }

@@ -45,8 +45,7 @@ pub(crate) fn expr_nodes(sizes: &[(Name, u64)], expr: &Expr) -> u64
 
 #[cycle(nodes)]
 fn exprs_nodes(sizes: &[(Name, u64)], list: &[Expr]) -> u64
-    ensures { result ≡ min (trees_sized (size_in sizes.now) (trees_of (map tree list.now))) u64.MAX
-        }
+    ensures { result ≡ min (trees_sized (size_in sizes.now) (trees_of (map tree list.now))) u64.MAX }
 {
     let mut nodes: u64 = 0;
     for part in list {
@@ -74,8 +73,7 @@ pub(crate) fn cond_nodes(sizes: &[(Name, u64)], cond: &Cond) -> u64
 
 #[cycle(nodes)]
 fn conds_nodes(sizes: &[(Name, u64)], list: &[Cond]) -> u64
-    ensures { result ≡ min (tests_sized (size_in sizes.now) (tests_of (map test list.now))) u64.MAX
-        }
+    ensures { result ≡ min (tests_sized (size_in sizes.now) (tests_of (map test list.now))) u64.MAX }
 {
     let mut nodes: u64 = 0;
     for part in list {

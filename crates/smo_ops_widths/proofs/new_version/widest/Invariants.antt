@@ -21,7 +21,6 @@ invariant-loop-k l = record {
       ≡ min (max l.most (widest_with (with_version (versions_of l.versions) stamp
       (operator_of l.op) (operators_of l.inverse)) (length l.versions.list.items + 1) l.k))
       18446744073709551615;
-  fit : l.most ≤ 18446744073709551615;
 }
 
 abbrev pub decreases-loop-k : goal.decreases-loop-k
