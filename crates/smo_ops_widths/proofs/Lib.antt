@@ -11,3 +11,4 @@ pub mod FoundLaws
 pub mod CarryLaws
 pub mod OperatorLists
 pub mod SkippedVersions
+mod WidestSteps
