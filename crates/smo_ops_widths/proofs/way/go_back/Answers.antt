@@ -9,7 +9,7 @@ returns-in-len0 c = λ k before shown s.
     shown c.args.inverse.now c.in-len0.len (c.undo.ensures before shown s)
 
 pub returns-in-len1-up : goal.returns-in-len1-up
-returns-in-len1-up c = λ k before shown s.
+returns-in-len1-up c = IfOk-weaker c.carry_each.result _ _ (λ done h. λ k before shown s.
     back_by_each k before c.args.after.now (operator_of c.args.op.now)
     c.carry_each.new.widths.entries shown c.args.inverse.now c.in-len1-up.len_at_least
-    (c.carry_each.ensures shown s)
+    (h shown s)) c.carry_each.ensures
