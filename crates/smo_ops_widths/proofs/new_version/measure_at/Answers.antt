@@ -1,0 +1,29 @@
+use Rattle.std.proofs.Common.{◌≡◌, ◌+◌, ◌-◌, ◌≤◌, ◌<◌, ℕ, suc, false, sym, ap, subst, ◌∙◌, length}
+use Rattle.std.proofs.Common.{arith}
+use Rattle.std.specs.FinMap.{entries}
+use Rattle.schema_catalog.specs.Tables.{Tables}
+use Rattle.smo_ops_types.specs.Operators.{operator_of}
+use Rattle.smo_ops_types.specs.Commands.{versions_of}
+use Rattle.smo_ops_spec.specs.Past.{no_tables, tables_from}
+use Rattle.smo_ops_widths.specs.Widths.{Widths, widths_of, with_version, greatest, greatest_of}
+use Rattle.smo_ops_widths.specs.Widths.{widest_with}
+use Rattle.smo_ops_widths.specs.Counted.{stopped}
+use Rattle.smo_ops_widths.proofs.StoppedLaws.{both_read, back_read}
+use Rattle.smo_ops_widths.proofs.VersionLaws.{tables_before}
+use Rattle.smo_ops_widths.proofs.SkippedVersions.{read_less}
+use Rattle.smo_ops_widths.proofs.new_version.measure_at.Goals as goal
+
+pub returns-in_ok-on : goal.returns-in_ok-on
+returns-in_ok-on c = λ stamp inverse s.
+    let vs = c.args.versions.now.list.items in
+    let op = operator_of c.args.op.now in
+    let k = c.args.k in
+    let all = with_version (versions_of c.args.versions.now) stamp op inverse in
+    let widths = widths_of all (length vs + 1) k in
+    let back = c.greatest-back.ensures widths s
+    ∙ ap (λ (t : Tables). stopped (greatest (entries t) widths))
+    (c.tables_at.ensures ∙ sym (tables_before vs stamp op inverse k c.requires.there)) in
+    ap (λ (n : ℕ). stopped (max n (widest_with all (length vs + 1) k))) c.max.ensures
+    ∙ both_read c.in_ok-on.on c.greatest-back.result (greatest_of all k (length vs + 1))
+    (greatest_of all (length vs + 1) k) (widest_with all (length vs + 1) k)
+    (c.in_ok-on.ensures stamp inverse) back

@@ -1,0 +1,26 @@
+use Rattle.std.proofs.Common.{◌≡◌, ◌+◌, ◌∙◌, sym, ap, subst, length}
+use Rattle.std.specs.FinMap.{entries}
+use Rattle.schema_catalog.specs.Tables.{Tables}
+use Rattle.smo_ops_types.specs.Operators.{operator_of}
+use Rattle.smo_ops_types.specs.Commands.{versions_of}
+use Rattle.smo_ops_spec.specs.Past.{no_tables, tables_from}
+use Rattle.smo_ops_widths.specs.Widths.{Widths, widths_of, with_version, greatest}
+use Rattle.smo_ops_widths.specs.Counted.{stopped}
+use Rattle.smo_ops_widths.specs.Shown.{Show}
+use Rattle.smo_ops_widths.proofs.VersionLaws.{last_step, tables_last}
+use Rattle.smo_ops_widths.proofs.new_version.measure_on.Goals as goal
+
+pub returns-in_ok-carry : goal.returns-in_ok-carry
+returns-in_ok-carry c = λ stamp inverse.
+    let vs = c.args.versions.now.list.items in
+    let op = operator_of c.args.op.now in
+    let all = with_version (versions_of c.args.versions.now) stamp op inverse in
+    let widths = widths_of all c.args.stored (length vs + 1) in
+    let shown = subst (λ (w : Widths). Show c.carry.new.widths.entries w)
+    (last_step vs stamp op inverse c.tables_at-newest.result.now c.args.stored c.requires.there
+    c.tables_at-newest.ensures)
+    (c.in_ok-carry.ensures (widths_of (versions_of c.args.versions.now) c.args.stored (length vs))
+    c.in_ok-widths.ensures) in
+    c.greatest.ensures widths shown
+    ∙ ap (λ (t : Tables). stopped (greatest (entries t) widths))
+    (c.requires.next ∙ sym (tables_last vs stamp op inverse))

@@ -1,0 +1,27 @@
+use Rattle.std.proofs.Common.{◌≡◌, ◌≤◌, ◌+◌, ◌-◌, ℕ, length, min, max}
+use Rattle.smo_ops_types.specs.Operators.{operator_of, operators_of}
+use Rattle.smo_ops_types.specs.Commands.{versions_of}
+use Rattle.smo_ops_spec.specs.After.{schema_after}
+use Rattle.smo_ops_spec.specs.Past.{no_tables, newest_from}
+use Rattle.smo_ops_widths.specs.Widths.{widths_of, widest_with, with_version}
+use Rattle.smo_ops_widths.specs.Shown.{Show}
+use Rattle.smo_ops_widths.proofs.new_version.widest.Given as goal
+
+abbrev pub invariant-loop-k : goal.invariant-loop-k
+invariant-loop-k l = record {
+  within : l.k ≤ length l.versions.list.items;
+  next : l.next ≡ schema_after (newest_from no_tables (versions_of l.versions))
+      (operator_of l.op);
+  shown : (stamp : ℕ) → Show l.widths.entries (widths_of (with_version
+      (versions_of l.versions) stamp (operator_of l.op) (operators_of l.inverse))
+      (length l.versions.list.items + 1) l.k);
+  most : (stamp : ℕ) → min (widest_with (with_version (versions_of l.versions) stamp
+      (operator_of l.op) (operators_of l.inverse)) (length l.versions.list.items + 1)
+      (length l.versions.list.items + 1)) 18446744073709551615
+      ≡ min (max l.most (widest_with (with_version (versions_of l.versions) stamp
+      (operator_of l.op) (operators_of l.inverse)) (length l.versions.list.items + 1) l.k))
+      18446744073709551615;
+}
+
+abbrev pub decreases-loop-k : goal.decreases-loop-k
+decreases-loop-k l = l.k

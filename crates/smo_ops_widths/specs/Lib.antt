@@ -1,0 +1,5 @@
+pub mod Widths
+pub mod Creating
+pub mod Counted
+pub mod Shown
+pub mod MeasureFaults

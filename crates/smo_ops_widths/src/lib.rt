@@ -1,0 +1,12 @@
+//! How wide the tables of a version are where they are read from another, and the measure of what
+//! makes a version.
+#![tactic(auto)]
+
+mod measure;
+mod new_version;
+mod size;
+mod way;
+mod width;
+mod widths;
+
+pub use new_version::{MAX_MEASURE, widest};

@@ -1,0 +1,163 @@
+ghost use Rattle.std.specs.Prelude.{◌≡◌, ◌+◌, ◌≤◌, ℕ, suc, List, None, IfOk, vec_len};
+ghost use Rattle.std.specs.Prelude.{max};
+ghost use Rattle.smo_ops_types.specs.Operators.{Operator, operator_of, operators_of};
+ghost use Rattle.smo_ops_types.specs.Commands.{versions_of};
+ghost use Rattle.smo_ops_spec.specs.After.{op_fault, schema_after, HasFewNodes, HaveFewNodes};
+ghost use Rattle.smo_ops_spec.specs.Inverses.{inverse_fault};
+ghost use Rattle.smo_ops_spec.specs.Past.{no_tables, tables_from, newest_from};
+ghost use Rattle.smo_ops_spec.specs.ValidPast.{AreVersions};
+ghost use Rattle.smo_ops_widths.specs.Widths.{greatest_of, widths_of, widest};
+ghost use Rattle.smo_ops_widths.specs.Widths.{widest_with, with_version};
+ghost use Rattle.smo_ops_widths.specs.Creating.{creates};
+ghost use Rattle.smo_ops_widths.specs.Counted.{stopped};
+ghost use Rattle.smo_ops_widths.specs.Shown.{Show};
+
+use crate::measure::greatest;
+use crate::way::{carry, go_back};
+use crate::width::TableWidth;
+use crate::widths::own_widths;
+use prima_base::{Name, NoMemory};
+use schema_catalog::Schema;
+use smo_ops_operators::schema_after;
+use smo_ops_types::{Op, Versions};
+use std::alloc::Global;
+use std::collections::BTreeMap;
+
+// At this number the measure of what makes a version stops.
+const MOST: u64 = 1 << 63;
+
+/// The greatest measure that what makes a version may have.
+pub const MAX_MEASURE: u64 = 1_000_000;
+
+// The tables of version `k`; `nothing` has none.
+fn tables_at<'a>(nothing: &'a Schema, versions: &'a Versions, k: usize) -> &'a Schema
+    requires nothing { nothing.now ≡ no_tables }
+    requires there { k ≤ vec_len versions.now.list }
+    ensures { result.now ≡ tables_from no_tables (versions_of versions.now) k }
+{
+    if k == 0 {
+        nothing
+    } else {
+        &versions.list[k - 1].schema
+    }
+}
+
+// The widths of the tables of the newest version, read from version `stored`.
+fn widths_on(
+    alloc: Global,
+    versions: &Versions,
+    stored: usize,
+) -> Result<BTreeMap<Name, TableWidth>, NoMemory>
+    requires there { stored ≤ vec_len versions.now.list }
+    ensures { IfOk result (λ m. Show m.entries
+        (widths_of (versions_of versions.now) stored (vec_len versions.now.list))) }
+{
+    let nothing = Schema::empty(alloc);
+    let mut widths = own_widths(alloc, tables_at(&nothing, versions, stored))?;
+    let mut k = stored;
+    while k < versions.list.len() {
+        let before = tables_at(&nothing, versions, k);
+        carry(alloc, before, &versions.list[k].op, &mut widths)?;
+        k += 1;
+    }
+    Ok(widths)
+}
+
+// The greatest measure of the tables of the version that the operator makes, read from version
+// `stored`.
+fn measure_on(
+    alloc: Global,
+    versions: &Versions,
+    op: &Op,
+    next: &Schema,
+    stored: usize,
+) -> Result<u64, NoMemory>
+    requires there { stored ≤ vec_len versions.now.list }
+    requires next { next.now ≡ schema_after (newest_from no_tables (versions_of versions.now))
+        (operator_of op.now) }
+    ensures { IfOk result (λ most. (stamp : ℕ) → (inverse : List Operator)
+        → most ≡ stopped (greatest_of (with_version (versions_of versions.now) stamp
+        (operator_of op.now) inverse) stored (vec_len versions.now.list + 1))) }
+{
+    let mut widths = widths_on(alloc, versions, stored)?;
+    let nothing = Schema::empty(alloc);
+    let newest = tables_at(&nothing, versions, versions.list.len());
+    carry(alloc, newest, op, &mut widths)?;
+    Ok(greatest(next, &widths))
+}
+
+// Whether the operator creates a table.
+fn creates(op: &Op) -> bool
+    ensures { result ≡ creates (operator_of op.now) }
+{
+    matches!(op, Op::CreateTable { .. })
+}
+
+// The greatest measure of the tables of version `k`, which have these widths, and of the tables of
+// the version that the operator makes, read from version `k`. Where version `k` creates no table,
+// these are left out: they are at least as wide where they are read from the version before.
+fn measure_at(
+    alloc: Global,
+    versions: &Versions,
+    op: &Op,
+    next: &Schema,
+    k: usize,
+    widths: &BTreeMap<Name, TableWidth>,
+) -> Result<u64, NoMemory>
+    requires there { k ≤ vec_len versions.now.list }
+    requires versions { AreVersions None no_tables (versions_of versions.now) }
+    requires next { next.now ≡ schema_after (newest_from no_tables (versions_of versions.now))
+        (operator_of op.now) }
+    ensures { IfOk result (λ most. (stamp : ℕ) → (inverse : List Operator)
+        → Show widths.now.entries (widths_of (with_version (versions_of versions.now) stamp
+        (operator_of op.now) inverse) (vec_len versions.now.list + 1) k)
+        → stopped (max most (widest_with (with_version (versions_of versions.now) stamp
+        (operator_of op.now) inverse) (vec_len versions.now.list + 1) k))
+        ≡ stopped (widest_with (with_version (versions_of versions.now) stamp
+        (operator_of op.now) inverse) (vec_len versions.now.list + 1) (suc k))) }
+{
+    let nothing = Schema::empty(alloc);
+    let back = greatest(tables_at(&nothing, versions, k), widths);
+    if k > 0 && !creates(&versions.list[k - 1].op) {
+        return Ok(back);
+    }
+    let on = measure_on(alloc, versions, op, next, k)?;
+    Ok(on.max(back))
+}
+
+/// The measure of what makes a version after these, by an operator with its inverse, none where the
+/// list is empty: the greatest over the tables of the new version read from an earlier one, and of
+/// an earlier version read from the new one, of the pieces times what the largest of them has: its
+/// atoms, the size of its condition and that of what stands for each column. It stops at 2^63. The
+/// operator is accepted on the newest schema, and the inverse leads back.
+pub fn widest(alloc: Global, versions: &Versions, op: &Op, inverse: &[Op]) -> Result<u64, NoMemory>
+    requires versions { AreVersions None no_tables (versions_of versions.now) }
+    requires accepted { op_fault (newest_from no_tables (versions_of versions.now))
+        (operator_of op.now) ≡ None }
+    requires operator { HasFewNodes (operator_of op.now) }
+    requires few { HaveFewNodes (operators_of inverse.now) }
+    requires inverse { inverse_fault (newest_from no_tables (versions_of versions.now))
+        (operator_of op.now) (operators_of inverse.now) ≡ None }
+    ensures { (stamp : ℕ) → IfOk result (λ most. most ≡ widest (with_version
+        (versions_of versions.now) stamp (operator_of op.now) (operators_of inverse.now))) }
+{
+    let nothing = Schema::empty(alloc);
+    let mut k = versions.list.len();
+    let next = schema_after(alloc, tables_at(&nothing, versions, k), op)?;
+    let mut widths = own_widths(alloc, &next)?;
+    go_back(alloc, op, &next, inverse, &mut widths)?;
+    let mut most = measure_at(alloc, versions, op, &next, k, &widths)?;
+    while k > 0 {
+        k -= 1;
+        let version = &versions.list[k];
+        go_back(
+            alloc,
+            &version.op,
+            &version.schema,
+            &version.inverse,
+            &mut widths,
+        )?;
+        most = most.max(measure_at(alloc, versions, op, &next, k, &widths)?);
+    }
+    Ok(most.min(MOST))
+}
