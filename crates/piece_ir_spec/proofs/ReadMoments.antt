@@ -139,7 +139,7 @@ module _ (book : Book) (valid : IsValidBook book) (past : Past) (is : IsPast pas
   one_branch : (reads : PlainBranch → List Read) (b : PlainBranch)
       → Suffices (tables_of past q) (reads b) b
       → ((i : Item) → In i b.from → get (lost_tables past.versions (version_at past m) q) i.0
-          ≡ None)
+      ≡ None)
       → unfolded_answers book past m q reads b
       ≡ answers_read (tables_of past q) (migrated past m q) reads b
   one_branch reads b s none =

@@ -100,4 +100,4 @@ stays_lost versions w v q n l r e =
     taken_so LostToo lost_stepped lost_stepped step_kept (way versions v q) empty
     (lost_tables versions w v) (λ m f. get-empty bytes_cmp m) n
     (ap (λ (x : LostTables). get x n) (sym (taken_back_by versions lost_stepped w v q empty l r))
-        ∙ e)
+    ∙ e)

@@ -136,7 +136,7 @@ module _ (kept_ : Kept) (past : Past) (asked query : PlainQuery)
     none_lost b m x k p i =
         let a = part_asked p i in
         subst (λ (q : ℕ). get (lost_tables past.versions p.1 q) x.0 ≡ None)
-            (sym (at ∙ same_version))
+        (sym (at ∙ same_version))
         (subst (λ (v : ℕ). get (lost_tables past.versions v asked.version) x.0 ≡ None) a.1
         (items_kept past asked h.accepted p.0.start a.0 b m x k))
 

@@ -263,7 +263,7 @@ module _ (vs : List Version) (are : AreVersions None no_tables (map version_of v
       → AllTyped (at (k + 1)) ps → AllTyped (schema_after before (operator_of v.op)) ps
   step_typed before ps b y =
       subst (λ (t : Tables). AllTyped t ps) ((sides vs are k v l e).next
-          ∙ (sides vs are k v l e).tables
+      ∙ (sides vs are k v l e).tables
       ∙ ap (λ (t : Tables). schema_after t (operator_of v.op)) (sym b)) y
 
   pub step_is : (book : Book) (before : Tables) (ps news : List PlainPiece) → before ≡ at k
@@ -289,7 +289,7 @@ module _ (vs : List Version) (are : AreVersions None no_tables (map version_of v
       step (x ∷ inverse) s i =
           subst (λ (t : Tables). AllTyped t ps)
           (sym (ap (λ (t : Tables). schema_after_each t (operators_of (x ∷ inverse)))
-              (sides vs are k v l e).tables
+          (sides vs are k v l e).tables
           ∙ (accepted_leads_back (at k) (operator_of v.op) (operator_of x) (operators_of inverse)
           i).1)) y
 
@@ -307,7 +307,7 @@ module _ (vs : List Version) (are : AreVersions None no_tables (map version_of v
       (λ (e : operators_of v.inverse.items ≡ []). some (sym (length-map v.inverse.items operator_of)
       ∙ ap length e))
       ∙ ap (λ o. taken_back (brought book) (back_over_version (k + 1) (at k) o) ps)
-          (sym (here vs are k v l e))
+      (sym (here vs are k v l e))
 
   -- where none is named
   pub unnamed_is : (book : Book) (before : Tables) (ps news : List PlainPiece) → before ≡ at k
@@ -318,7 +318,7 @@ module _ (vs : List Version) (are : AreVersions None no_tables (map version_of v
       is ∙ ap (λ (t : Tables). brought book (step_back (k + 1, 1) t (operator_of v.op)) ps) b
       ∙ step v.inverse.items none
       ∙ ap (λ o. taken_back (brought book) (back_over_version (k + 1) (at k) o) ps)
-          (sym (here vs are k v l e))
+      (sym (here vs are k v l e))
     where
       step : (ops : List Op) → length ops ≡ 0
           → brought book (step_back (k + 1, 1) (at k) (operator_of v.op)) ps

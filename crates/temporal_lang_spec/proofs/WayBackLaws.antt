@@ -329,8 +329,7 @@ branch_of_loss losses (b ∷ branches) l e =
     step (Some k) p more =
         let s : Some k ≡ Some l = sym (first_before (branch_losses losses b)
         (flat_map (branch_losses losses) branches) k p) ∙ e in
-        let h = item_of losses b 0 b.from l (p ∙ s) in
-        (
+        let h = item_of losses b 0 b.from l (p ∙ s) in (
           b,
           inl refl,
           h.0,
