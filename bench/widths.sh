@@ -181,6 +181,28 @@ def over(op, schema, widths):
     return schema2, widths2
 
 
+def derived(op):
+    """The operator back over one for which no inverse is named, or none. A dropped column is filled
+    with a constant."""
+    kind, gone, made = parse(op)
+    words = TOKEN.findall(op)
+    if kind == "CREATE TABLE":
+        return [f"DROP TABLE {made[0][0]}"]
+    if kind == "RENAME TABLE":
+        return [f"RENAME TABLE {made[0][0]} INTO {gone[0]}"]
+    if kind == "COPY TABLE":
+        return [f"DROP TABLE {made[0][0]}"]
+    if kind == "PARTITION TABLE":
+        return [f"MERGE TABLE {made[0][0]}, {made[1][0]} INTO {gone[0]}"]
+    if kind == "ADD COLUMN":
+        return [f"DROP COLUMN {made[0][2]} FROM {gone[0]}"]
+    if kind == "DROP COLUMN":
+        return [f"ADD COLUMN {made[0][2]} AS 0 INTO {gone[0]}"]
+    if kind == "RENAME COLUMN":
+        return [f"RENAME COLUMN {made[0][3]} IN {gone[0]} TO {made[0][2]}"]
+    return ["NOP"] if kind.split()[0] == "NOP" else []
+
+
 def read_from(versions, schemas, v, q):
     """The widths of version q's tables, read from version v."""
     widths = {t: (1, 1, 1, {}) for t in schemas[v]}
@@ -189,6 +211,7 @@ def read_from(versions, schemas, v, q):
     for k in range(v, q, -1):
         op, inverse = versions[k - 1]
         schema = schemas[k]
+        inverse = inverse or derived(op)
         if not inverse:
             _, gone, made = parse(op)
             widths = {t: w for t, w in widths.items()

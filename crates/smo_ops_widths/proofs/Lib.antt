@@ -7,6 +7,8 @@ pub mod VersionLaws
 pub mod WithinLaws
 pub mod OwnWithin
 pub mod ReadFrom
+pub mod NamesLeftOut
+pub mod CreatedBeside
 pub mod FoundLaws
 pub mod CarryLaws
 pub mod OperatorLists

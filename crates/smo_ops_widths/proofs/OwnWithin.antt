@@ -49,13 +49,13 @@ found_own (t ∷ ts) n = step (found_own ts n) (is_at (bytes_cmp n) t.0)
     step more true = refl
     step more false = more
 
-own_by : (tables : Tables) (n : List ℕ) → get (own_widths tables) n
+pub own_by : (tables : Tables) (n : List ℕ) → get (own_widths tables) n
     ≡ option_map (λ (cs : List Column). own_width) (get tables n)
 own_by tables n = get-from_entries nat_list_cmp_total
     (map (λ (t : List ℕ × List Column). (t.0, own_width)) (entries tables)) n
     ∙ found_own (entries tables) n
 
-own_there : (tables : Tables) (n : List ℕ) → is_some (get tables n) ≡ true
+pub own_there : (tables : Tables) (n : List ℕ) → is_some (get tables n) ≡ true
     → get (own_widths tables) n ≡ Some own_width
 own_there tables n e = own_by tables n ∙ step (get tables n) e
   where
@@ -70,9 +70,9 @@ abbrev Owned : Tables → Widths → Type 0
 Owned tables widths = (n : List ℕ)
     → MayBeWithin (option_map (λ (cs : List Column). own_width) (get tables n)) (get widths n)
 
-itself : (o : Option Width) → MayBeWithin o o
-itself None = tt
-itself (Some a) = record {
+pub maybe_itself : (o : Option Width) → MayBeWithin o o
+maybe_itself None = tt
+maybe_itself (Some a) = record {
   pieces = omega arith;
   atoms = omega arith;
   cond = omega arith;
@@ -83,7 +83,7 @@ owned_first : (tables : Tables) → Owned tables (own_widths tables)
 owned_first tables n = subst (λ (o : Option Width).
     MayBeWithin (option_map (λ (cs : List Column). own_width) (get tables n)) o)
     (sym (own_by tables n))
-    (itself (option_map (λ (cs : List Column). own_width) (get tables n)))
+    (maybe_itself (option_map (λ (cs : List Column). own_width) (get tables n)))
 
 owned_less : (tables : Tables) (widths : Widths) (m : List ℕ) → Owned tables widths
     → Owned (remove tables m) (remove widths m)
@@ -155,7 +155,7 @@ module _ (tables : Tables) where
 
   as_own : (r : List ℕ) → is_there tables r ≡ None → MayBeWithin (Some own_width) (of r)
   as_own r e = subst (λ (o : Option Width). MayBeWithin (Some own_width) o) (sym (there r e))
-      (itself (Some own_width))
+      (maybe_itself (Some own_width))
 
   of_one : (F : Width → Width) → AreBy Within own_width (F own_width) → (r : List ℕ)
       → is_there tables r ≡ None → MayBeWithin (Some own_width) (option_map F (of r))

@@ -71,17 +71,19 @@ pub same_at_most : (a b : ℕ) → stopped b ≡ stopped a
     → min a 9223372036854775808 ≡ min 9223372036854775808 b
 same_at_most a b p = omega (arith, p)
 
--- the greater of what is read on and back, and of a third number
-pub both_read : (on back a b w : ℕ) → on ≡ stopped a → back ≡ stopped b
-    → stopped (max (max on back) w) ≡ stopped (max (max a b) w)
-both_read on back a b w p q = omega (arith, p, q)
+-- the greater of what is read on and back, beside a third number and the greatest up to now
+pub both_read : (most on back a b w : ℕ) → on ≡ stopped a → back ≡ stopped b
+    → stopped (max (max most (max on back)) w) ≡ stopped (max most (max (max a b) w))
+both_read most on back a b w p q = omega (arith, p, q)
 
--- what is read on is left out where it is no greater than the third
-pub back_read : (back a b w : ℕ) → back ≡ stopped b → a ≤ w
-    → stopped (max back w) ≡ stopped (max (max a b) w)
-back_read back a b w q l = omega (arith, q, l)
+-- what is read on is left out where it is no greater than the third, or than one up to now
+pub back_read : (most back a b w last : ℕ) → back ≡ stopped b → a ≤ max w last
+    → stopped last ≤ most
+    → stopped (max (max most back) w) ≡ stopped (max most (max (max a b) w))
+back_read most back a b w last q l m = omega (arith, q, l, m)
 
--- one more of the greatest
-pub one_more : (all most more w v : ℕ) → stopped all ≡ stopped (max most w)
-    → stopped (max more v) ≡ stopped w → stopped all ≡ stopped (max (max most more) v)
-one_more all most more w v p q = omega (arith, p, q)
+-- the first of them
+pub first_read : (all most on back a b w : ℕ) → all ≡ max (max a b) w → on ≡ stopped a
+    → back ≡ stopped b → most ≡ max on back
+    → (stopped a ≤ most) × (stopped all ≡ stopped (max most w))
+first_read all most on back a b w e p q m = (omega (arith, p, m), omega (arith, e, p, q, m))

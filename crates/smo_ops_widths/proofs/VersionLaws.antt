@@ -89,7 +89,7 @@ module _ (vs : List Version) (stamp : ℕ) (op : Operator) (inverse : List Opera
   abbrev newest : Tables
   newest = newest_from no_tables (map version_of vs)
 
-  abbrev new : PlainVersion
+  abbrev pub new : PlainVersion
   new = record {
     stamp = stamp;
     op = op;
@@ -116,7 +116,8 @@ module _ (vs : List Version) (stamp : ℕ) (op : Operator) (inverse : List Opera
       ≡ tables_from no_tables (map version_of vs) k
   tables_before k l = prefix_tables no_tables plain (new ∷ []) k (omega (arith, l, count))
 
-  newest_here : tables_from no_tables all (length vs) ≡ newest
+  pub newest_here : tables_from no_tables (with_version (map version_of vs) stamp op inverse)
+      (length vs) ≡ newest_from no_tables (map version_of vs)
   newest_here = tables_before (length vs) (omega arith)
       ∙ ap (tables_from no_tables plain) (sym count) ∙ newest_tables_from no_tables plain
 
@@ -125,7 +126,8 @@ module _ (vs : List Version) (stamp : ℕ) (op : Operator) (inverse : List Opera
   tables_last = (let further : length vs + 1 ≡ suc (length plain) = omega (arith, count) in
       ap (tables_from no_tables all) further ∙ tables_added no_tables plain new)
 
-  new_here : slice_get all (length vs) ≡ Some new
+  pub new_here : slice_get (with_version (map version_of vs) stamp op inverse) (length vs)
+      ≡ Some (new vs stamp op inverse)
   new_here = ap (slice_get all) (sym count) ∙ last_version plain new
 
   pub version_here : (k : ℕ) (v : Version) → k < length vs → v ≡ get_or vs k v

@@ -1,7 +1,9 @@
 -- The steps of the code that measures a version.
 use Rattle.std.proofs.Common.{◌≡◌, ◌+◌, ◌≤◌, ◌<◌, ℕ, suc, List, map, max, min, length, get_or, sym}
-use Rattle.std.proofs.Common.{ap, subst, ◌∙◌, arith}
-use Rattle.std.specs.Prelude.{None}
+use Rattle.std.proofs.Common.{◌⊎◌, Bool, false, inl, inr, ap, subst, ◌∙◌, arith}
+use Rattle.std.proofs.lemmas.Bool.{cases_lt}
+use Rattle.std.proofs.lemmas.Option.{slice_get_within}
+use Rattle.std.specs.Prelude.{Option, Some, None, slice_get}
 use Rattle.schema_catalog.specs.Tables.{Tables}
 use Rattle.smo_ops_types.specs.declared.version.Version.{Version}
 use Rattle.smo_ops_types.specs.Operators.{Operator, operator_of, operators_of}
@@ -13,17 +15,22 @@ use Rattle.smo_ops_versions_spec.specs.Steps.{taken}
 use Rattle.smo_ops_versions_spec.specs.Ways.{back_over}
 use Rattle.smo_ops_widths.specs.declared.width.TableWidth.{TableWidth}
 use Rattle.smo_ops_widths.specs.Widths.{Widths, own_widths, widths_of, widths_stepped, with_version}
-use Rattle.smo_ops_widths.specs.Widths.{widest, widest_with}
+use Rattle.smo_ops_widths.specs.Widths.{widest, widest_with, greatest_of}
+use Rattle.smo_ops_widths.specs.Creating.{LeavesOut, NameAll}
 use Rattle.smo_ops_widths.specs.Counted.{stopped}
 use Rattle.smo_ops_widths.specs.Shown.{Show}
-use Rattle.smo_ops_widths.proofs.StoppedLaws.{same_at_most, one_more}
+use Rattle.smo_ops_widths.proofs.StoppedLaws.{same_at_most, first_read}
 use Rattle.smo_ops_widths.proofs.VersionLaws.{newest_at, accepted_back, own_last, first_step_back}
-use Rattle.smo_ops_widths.proofs.VersionLaws.{step_back, all_count}
+use Rattle.smo_ops_widths.proofs.VersionLaws.{step_back, all_count, tables_before, new, new_here}
+use Rattle.smo_ops_widths.proofs.VersionLaws.{version_here}
+
+the_same : {v w : PlainVersion} → ◌≡◌ {A = Option PlainVersion} (Some v) (Some w) → v ≡ w
+the_same e = cc
 
 -- what going back over an operator does to widths
-abbrev pub GoesBack : List (List ℕ × TableWidth) → List (List ℕ × TableWidth) → Operator → Tables
-    → List Operator → Type 0
-GoesBack old new op after inverse = (k : ℕ) → (before : Tables) → (shown : Widths)
+abbrev pub GoesBack : List (List ℕ × TableWidth) → List (List ℕ × TableWidth) → Tables → Operator
+    → Tables → List Operator → Type 0
+GoesBack old new before op after inverse = (k : ℕ) → (shown : Widths)
     → Show old shown → Show new (taken widths_stepped (back_over k before op after inverse) shown)
 
 module _ (vs : List Version) (op : Operator) (inverse : List Operator) where
@@ -53,60 +60,104 @@ module _ (vs : List Version) (op : Operator) (inverse : List Operator) where
     all = with_version (map version_of vs) stamp op inverse
 
     -- the widths of the newest of the versions before, read from the new one
-    pub shown_first : (next : Tables) (own old new : List (List ℕ × TableWidth))
+    pub shown_first : (newest next : Tables) (old new : List (List ℕ × TableWidth))
+        → newest ≡ newest_from no_tables (map version_of vs)
         → next ≡ schema_after (newest_from no_tables (map version_of vs)) op
-        → Show old (own_widths next) → GoesBack old new op next inverse
+        → Show old (own_widths next) → GoesBack old new newest op next inverse
         → Show new (widths_of (with_version (map version_of vs) stamp op inverse)
         (length vs + 1) (length vs))
-    shown_first next own old new e s back =
-        subst (λ (w : Widths). Show new w) (first_step_back vs stamp op inverse next e)
-        (back (length vs + 1) (newest_from no_tables (map version_of vs))
-        (widths_of all (length vs + 1) (length vs + 1))
+    shown_first newest next old new n e s back =
+        subst (λ (w : Widths). Show new w) (ap (λ (t : Tables). taken widths_stepped
+        (back_over (length vs + 1) t op next inverse)
+        (widths_of all (length vs + 1) (length vs + 1))) n
+        ∙ first_step_back vs stamp op inverse next e)
+        (back (length vs + 1) (widths_of all (length vs + 1) (length vs + 1))
         (subst (λ (w : Widths). Show old w)
         (ap own_widths e ∙ own_last vs stamp op inverse) s))
 
     -- and of the version before version k
-    pub shown_next : (k j : ℕ) (v : Version) (old new : List (List ℕ × TableWidth))
-        → j + 1 ≡ k → j < length vs → v ≡ get_or vs j v
+    pub shown_next : (k j : ℕ) (v : Version) (before : Tables)
+        (old new : List (List ℕ × TableWidth)) → j + 1 ≡ k → j < length vs → v ≡ get_or vs j v
+        → before ≡ tables_from no_tables (map version_of vs) j
         → Show old (widths_of (with_version (map version_of vs) stamp op inverse)
         (length vs + 1) k)
-        → GoesBack old new (operator_of v.op) v.schema (operators_of v.inverse.items)
+        → GoesBack old new before (operator_of v.op) v.schema (operators_of v.inverse.items)
         → Show new (widths_of (with_version (map version_of vs) stamp op inverse)
         (length vs + 1) j)
-    shown_next k j v old new e l is s back =
-        subst (λ (w : Widths). Show new w) (step_back vs stamp op inverse j v l is)
-        (back (j + 1) (tables_from no_tables all j) (widths_of all (length vs + 1) (j + 1))
+    shown_next k j v before old new e l is b s back =
+        subst (λ (w : Widths). Show new w) (ap (λ (t : Tables). taken widths_stepped
+        (back_over (j + 1) t (operator_of v.op) v.schema (operators_of v.inverse.items))
+        (widths_of all (length vs + 1) (j + 1)))
+        (b ∙ sym (tables_before vs stamp op inverse j (omega (arith, l))))
+        ∙ step_back vs stamp op inverse j v l is)
+        (back (j + 1) (widths_of all (length vs + 1) (j + 1))
         (subst (λ (n : ℕ). Show old (widths_of all (length vs + 1) n)) (sym e) s))
 
     abbrev reads : ℕ → ℕ
     reads k = widest_with (with_version (map version_of vs) stamp op inverse) (length vs + 1) k
 
-    -- the greatest of what is read from the newest version before and back to it
-    pub most_first : (most : ℕ)
-        → stopped (max most (widest_with (with_version (map version_of vs) stamp op inverse)
-        (length vs + 1) (length vs)))
-        ≡ stopped (widest_with (with_version (map version_of vs) stamp op inverse) (length vs + 1)
-        (suc (length vs)))
-        → stopped (widest_with (with_version (map version_of vs) stamp op inverse) (length vs + 1)
-        (length vs + 1))
-        ≡ stopped (max most (widest_with (with_version (map version_of vs) stamp op inverse)
-        (length vs + 1) (length vs)))
-    most_first most e =
+    -- of the first of them
+    pub most_first : (most on back : ℕ)
+        → on ≡ stopped (greatest_of (with_version (map version_of vs) stamp op inverse)
+        (length vs) (length vs + 1))
+        → back ≡ stopped (greatest_of (with_version (map version_of vs) stamp op inverse)
+        (length vs + 1) (length vs)) → most ≡ max on back
+        → (stopped (greatest_of (with_version (map version_of vs) stamp op inverse) (length vs)
+        (length vs + 1)) ≤ most) × (stopped (widest_with (with_version (map version_of vs) stamp op
+        inverse) (length vs + 1) (length vs + 1)) ≡ stopped (max most (widest_with (with_version
+        (map version_of vs) stamp op inverse) (length vs + 1) (length vs))))
+    most_first most on back p q m =
         let further : length vs + 1 ≡ suc (length vs) = omega arith in
-        ap (λ (n : ℕ). stopped (reads n)) further ∙ sym e
+        first_read (reads (length vs + 1)) most on back
+        (greatest_of all (length vs) (length vs + 1)) (greatest_of all (length vs + 1) (length vs))
+        (reads (length vs)) (ap reads further) p q m
 
     pub most_next : (k j most more : ℕ) → suc j ≡ k
         → stopped (widest_with (with_version (map version_of vs) stamp op inverse) (length vs + 1)
         (length vs + 1)) ≡ stopped (max most (widest_with (with_version (map version_of vs) stamp
         op inverse) (length vs + 1) k))
-        → stopped (max more (widest_with (with_version (map version_of vs) stamp op inverse)
-        (length vs + 1) j)) ≡ stopped (widest_with (with_version (map version_of vs) stamp op
-        inverse) (length vs + 1) (suc j))
+        → stopped (max (max most more) (widest_with (with_version (map version_of vs) stamp op
+        inverse) (length vs + 1) j)) ≡ stopped (max most (widest_with (with_version
+        (map version_of vs) stamp op inverse) (length vs + 1) (suc j)))
         → stopped (widest_with (with_version (map version_of vs) stamp op inverse) (length vs + 1)
         (length vs + 1)) ≡ stopped (max (max most more) (widest_with (with_version
         (map version_of vs) stamp op inverse) (length vs + 1) j))
-    most_next k j most more e so here = one_more (reads (length vs + 1)) most more (reads k)
-        (reads j) so (here ∙ ap (λ (n : ℕ). stopped (reads n)) e)
+    most_next k j most more e so here = so
+        ∙ sym (ap (λ (n : ℕ). stopped (max most (reads n))) e) ∙ sym here
+
+    -- the names of one operator more
+    pub named_first : (these : List ℕ → Bool)
+        → ((n : List ℕ) → these n ≡ false → LeavesOut op n)
+        → NameAll these (with_version (map version_of vs) stamp op inverse) (length vs)
+    named_first these leaves n f j low w is = step (cases_lt (length vs) j)
+      where
+        step : (length vs < j) ⊎ (j ≤ length vs) → LeavesOut w.op n
+        step (inl l) =
+            let inside = slice_get_within all j w is in
+            let count = all_count vs stamp op inverse in
+            absurd (omega (arith, l, inside, count))
+        step (inr l) =
+            let same_place : j ≡ length vs = omega (arith, low, l) in
+            let is_new : ◌≡◌ {A = Option PlainVersion} (Some (new vs stamp op inverse)) (Some w) =
+            sym (new_here vs stamp op inverse) ∙ sym (ap (slice_get all) same_place) ∙ is in
+            subst (λ (x : PlainVersion). LeavesOut x.op n) (the_same is_new) (leaves n f)
+
+    pub named_next : (old new_ones : List ℕ → Bool) (k j : ℕ) (v : Version) → j + 1 ≡ k
+        → j < length vs → v ≡ get_or vs j v
+        → ((n : List ℕ) → new_ones n ≡ false
+        → (old n ≡ false) × LeavesOut (operator_of v.op) n)
+        → NameAll old (with_version (map version_of vs) stamp op inverse) k
+        → NameAll new_ones (with_version (map version_of vs) stamp op inverse) j
+    named_next old new_ones k j v e l is leaves named n f i low w here = step (cases_lt j i)
+      where
+        step : (j < i) ⊎ (i ≤ j) → LeavesOut w.op n
+        step (inl m) = named n (leaves n f).0 i (omega (arith, m, e)) w here
+        step (inr m) =
+            let same_place : i ≡ j = omega (arith, low, m) in
+            let is_this : ◌≡◌ {A = Option PlainVersion} (Some (version_of v)) (Some w) =
+            sym (version_here vs stamp op inverse j v l is)
+            ∙ sym (ap (slice_get all) same_place) ∙ here in
+            subst (λ (x : PlainVersion). LeavesOut x.op n) (the_same is_this) (leaves n f).1
 
     -- and in the end
     pub most_last : (k most : ℕ) → k ≡ 0

@@ -17,7 +17,8 @@ use Rattle.smo_ops_types.specs.Operators.{copy_table, merge_table, partition_tab
 use Rattle.smo_ops_types.specs.Operators.{join_table, add_column, drop_column, rename_column}
 use Rattle.smo_ops_spec.specs.Effects.{columns_of}
 use Rattle.smo_ops_spec.specs.OperatorTable.{line, made_names}
-use Rattle.smo_ops_versions_spec.specs.Steps.{Step, carrying, undoing}
+use Rattle.smo_ops_spec.specs.WaysBack.{blank, filled_with}
+use Rattle.smo_ops_versions_spec.specs.Steps.{Step, carrying, filling, undoing}
 use Rattle.smo_ops_widths.specs.Widths.{Width, Widths, a_width, own_width, made_widths, of_both}
 use Rattle.smo_ops_widths.specs.Widths.{part_width, merged_width, joined_width, with_size, sized_as}
 use Rattle.smo_ops_widths.specs.Widths.{sized, no_width, put_width, put_widths, widths_over}
@@ -177,7 +178,7 @@ as_many tables (add_column c e r) f g = refl
 as_many tables (drop_column c r) f g = refl
 as_many tables (rename_column b r c) f g = refl
 
-over_within : (tables : Tables) (op : Operator) (xs ys : Widths) → AllWithin xs ys
+pub over_within : (tables : Tables) (op : Operator) (xs ys : Widths) → AllWithin xs ys
     → AllWithin (widths_over tables op xs) (widths_over tables op ys)
 over_within tables op xs ys h = put_within (made_names (line tables op).made)
     (made_widths tables op (get xs)) (made_widths tables op (get ys))
@@ -188,6 +189,7 @@ over_within tables op xs ys h = put_within (made_names (line tables op).made)
 pub step_within : (s : Step) (xs ys : Widths) → AllWithin xs ys
     → AllWithin (widths_stepped s xs) (widths_stepped s ys)
 step_within (carrying tables op) xs ys h = over_within tables op xs ys h
+step_within (filling loss tables f) xs ys h = over_within tables (filled_with blank f) xs ys h
 step_within (undoing loss tables op) xs ys h = fewer_within (line tables op).consumed
     (no_width (made_names (line tables op).made) xs)
     (no_width (made_names (line tables op).made) ys)
@@ -195,7 +197,7 @@ step_within (undoing loss tables op) xs ys h = fewer_within (line tables op).con
 
 -- ---- the measures
 
-measured_within : (columns : List Column) (a b : Option Width) → MayBeWithin a b
+pub measured_within : (columns : List Column) (a b : Option Width) → MayBeWithin a b
     → measure_of columns a ≤ measure_of columns b
 measured_within columns None b h = omega arith
 measured_within columns (Some a) None h = absurd h

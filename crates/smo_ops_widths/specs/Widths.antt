@@ -19,7 +19,8 @@ use Rattle.smo_ops_spec.specs.Preconditions.{among}
 use Rattle.smo_ops_spec.specs.OperatorTable.{line, made_names}
 use Rattle.smo_ops_spec.specs.After.{schema_after}
 use Rattle.smo_ops_spec.specs.Past.{no_tables, tables_from, newest_from}
-use Rattle.smo_ops_versions_spec.specs.Steps.{Step, carrying, undoing, taken}
+use Rattle.smo_ops_spec.specs.WaysBack.{blank, filled_with}
+use Rattle.smo_ops_versions_spec.specs.Steps.{Step, carrying, filling, undoing, taken}
 use Rattle.smo_ops_versions_spec.specs.Ways.{way}
 
 -- what stands for a column, by its name, has this size
@@ -145,9 +146,10 @@ abbrev pub widths_over : Tables → Operator → Widths → Widths
 widths_over tables op widths = put_widths (made_names (line tables op).made)
     (made_widths tables op (get widths)) (no_width (line tables op).consumed widths)
 
--- a lost table has no width
+-- a filled column has the size of a constant, and a lost table has no width
 abbrev pub widths_stepped : Step → Widths → Widths
 widths_stepped (carrying tables op) widths = widths_over tables op widths
+widths_stepped (filling loss tables f) widths = widths_over tables (filled_with blank f) widths
 widths_stepped (undoing loss tables op) widths =
     no_width (line tables op).consumed (no_width (made_names (line tables op).made) widths)
 

@@ -3,6 +3,7 @@
 #![tactic(auto)]
 
 mod measure;
+mod names;
 mod new_version;
 mod size;
 mod way;

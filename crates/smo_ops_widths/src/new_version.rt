@@ -1,5 +1,7 @@
-ghost use Rattle.std.specs.Prelude.{◌≡◌, ◌+◌, ◌≤◌, ℕ, suc, List, None, IfOk, vec_len};
+ghost use Rattle.std.specs.Prelude.{◌≡◌, ◌+◌, ◌≤◌, ◌<◌, ℕ, suc, List, None, IfOk, vec_len};
 ghost use Rattle.std.specs.Prelude.{max};
+ghost use Rattle.std.specs.BTreeSet.{contains};
+ghost use Rattle.prima_base.specs.Order.{bytes_cmp};
 ghost use Rattle.smo_ops_types.specs.Operators.{Operator, operator_of, operators_of};
 ghost use Rattle.smo_ops_types.specs.Commands.{versions_of};
 ghost use Rattle.smo_ops_spec.specs.After.{op_fault, schema_after, HasFewNodes, HaveFewNodes};
@@ -8,11 +10,12 @@ ghost use Rattle.smo_ops_spec.specs.Past.{no_tables, tables_from, newest_from};
 ghost use Rattle.smo_ops_spec.specs.ValidPast.{AreVersions};
 ghost use Rattle.smo_ops_widths.specs.Widths.{greatest_of, widths_of, widest};
 ghost use Rattle.smo_ops_widths.specs.Widths.{widest_with, with_version};
-ghost use Rattle.smo_ops_widths.specs.Creating.{creates};
+ghost use Rattle.smo_ops_widths.specs.Creating.{NameAll};
 ghost use Rattle.smo_ops_widths.specs.Counted.{stopped};
 ghost use Rattle.smo_ops_widths.specs.Shown.{Show};
 
 use crate::measure::greatest;
+use crate::names::{creates_one, insert_named};
 use crate::way::{carry, go_back};
 use crate::width::TableWidth;
 use crate::widths::own_widths;
@@ -21,7 +24,7 @@ use schema_catalog::Schema;
 use smo_ops_operators::schema_after;
 use smo_ops_types::{Op, Versions};
 use std::alloc::Global;
-use std::collections::BTreeMap;
+use std::collections::{BTreeMap, BTreeSet};
 
 // At this number the measure of what makes a version stops.
 const MOST: u64 = 1 << 63;
@@ -86,16 +89,11 @@ fn measure_on(
     Ok(greatest(next, &widths))
 }
 
-// Whether the operator creates a table.
-fn creates(op: &Op) -> bool
-    ensures { result ≡ creates (operator_of op.now) }
-{
-    matches!(op, Op::CreateTable { .. })
-}
-
 // The greatest measure of the tables of version `k`, which have these widths, and of the tables of
 // the version that the operator makes, read from version `k`. Where version `k` creates no table,
-// these are left out: they are at least as wide where they are read from the version before.
+// or one that is not among the names of later operators, these are left out: they are at least as
+// wide where they are read from the version before, and the created table is as wide as it is where
+// it is read from the newest version.
 fn measure_at(
     alloc: Global,
     versions: &Versions,
@@ -103,22 +101,28 @@ fn measure_at(
     next: &Schema,
     k: usize,
     widths: &BTreeMap<Name, TableWidth>,
+    names: &BTreeSet<Name>,
 ) -> Result<u64, NoMemory>
-    requires there { k ≤ vec_len versions.now.list }
+    requires there { k < vec_len versions.now.list }
     requires versions { AreVersions None no_tables (versions_of versions.now) }
     requires next { next.now ≡ schema_after (newest_from no_tables (versions_of versions.now))
         (operator_of op.now) }
-    ensures { IfOk result (λ most. (stamp : ℕ) → (inverse : List Operator)
+    ensures { IfOk result (λ more. (stamp : ℕ) → (inverse : List Operator)
         → Show widths.now.entries (widths_of (with_version (versions_of versions.now) stamp
         (operator_of op.now) inverse) (vec_len versions.now.list + 1) k)
-        → stopped (max most (widest_with (with_version (versions_of versions.now) stamp
+        → NameAll (contains bytes_cmp names.now) (with_version (versions_of versions.now) stamp
+        (operator_of op.now) inverse) k
+        → (most : ℕ) → stopped (greatest_of (with_version (versions_of versions.now) stamp
+        (operator_of op.now) inverse) (vec_len versions.now.list)
+        (vec_len versions.now.list + 1)) ≤ most
+        → stopped (max (max most more) (widest_with (with_version (versions_of versions.now) stamp
         (operator_of op.now) inverse) (vec_len versions.now.list + 1) k))
-        ≡ stopped (widest_with (with_version (versions_of versions.now) stamp
-        (operator_of op.now) inverse) (vec_len versions.now.list + 1) (suc k))) }
+        ≡ stopped (max most (widest_with (with_version (versions_of versions.now) stamp
+        (operator_of op.now) inverse) (vec_len versions.now.list + 1) (suc k)))) }
 {
     let nothing = Schema::empty(alloc);
     let back = greatest(tables_at(&nothing, versions, k), widths);
-    if k > 0 && !creates(&versions.list[k - 1].op) {
+    if k > 0 && !creates_one(names, &versions.list[k - 1].op) {
         return Ok(back);
     }
     let on = measure_on(alloc, versions, op, next, k)?;
@@ -143,21 +147,28 @@ pub fn widest(alloc: Global, versions: &Versions, op: &Op, inverse: &[Op]) -> Re
 {
     let nothing = Schema::empty(alloc);
     let mut k = versions.list.len();
-    let next = schema_after(alloc, tables_at(&nothing, versions, k), op)?;
+    let newest = tables_at(&nothing, versions, k);
+    let next = schema_after(alloc, newest, op)?;
     let mut widths = own_widths(alloc, &next)?;
-    go_back(alloc, op, &next, inverse, &mut widths)?;
-    let mut most = measure_at(alloc, versions, op, &next, k, &widths)?;
+    go_back(alloc, newest, op, &next, inverse, &mut widths)?;
+    let mut names = BTreeSet::new(alloc);
+    insert_named(&mut names, op)?;
+    let on = measure_on(alloc, versions, op, &next, k)?;
+    let mut most = on.max(greatest(newest, &widths));
     while k > 0 {
         k -= 1;
         let version = &versions.list[k];
         go_back(
             alloc,
+            tables_at(&nothing, versions, k),
             &version.op,
             &version.schema,
             &version.inverse,
             &mut widths,
         )?;
-        most = most.max(measure_at(alloc, versions, op, &next, k, &widths)?);
+        insert_named(&mut names, &version.op)?;
+        let more = measure_at(alloc, versions, op, &next, k, &widths, &names)?;
+        most = most.max(more);
     }
     Ok(most.min(MOST))
 }

@@ -7,10 +7,11 @@ ghost use Rattle.std.specs.FinMap.{get};
 ghost use Rattle.schema_catalog.specs.Tables.{Tables, columns_of};
 ghost use Rattle.cond_expr.specs.Seen.{tree, test};
 ghost use Rattle.smo_ops_types.specs.Operators.{Operator, operator_of, operators_of};
-ghost use Rattle.smo_ops_spec.specs.After.{HaveFewNodes};
+ghost use Rattle.smo_ops_spec.specs.After.{schema_after, HaveFewNodes};
+ghost use Rattle.smo_ops_spec.specs.Losses.{Loss};
 ghost use Rattle.smo_ops_spec.specs.Inverses.{AllOperatorsAccepted};
 ghost use Rattle.smo_ops_versions_spec.specs.Steps.{carrying_each, taken};
-ghost use Rattle.smo_ops_versions_spec.specs.Ways.{back_over};
+ghost use Rattle.smo_ops_versions_spec.specs.Ways.{back_over, step_back};
 ghost use Rattle.smo_ops_widths.specs.Widths.{Widths, Width, made_widths, widths_over};
 ghost use Rattle.smo_ops_widths.specs.Widths.{widths_stepped, merged_width, part_width};
 ghost use Rattle.smo_ops_widths.specs.Widths.{joined_width, with_size, sized_as, sized};
@@ -24,7 +25,7 @@ use crate::widths::{MadeWidths, forget_all, put_made};
 use cond_expr::{Cond, Expr};
 use prima_base::{Name, NoMemory};
 use schema_catalog::Schema;
-use smo_ops_operators::{consumed, made, schema_after};
+use smo_ops_operators::{consumed, derived, made, schema_after};
 use smo_ops_types::Op;
 use std::alloc::Global;
 use std::collections::BTreeMap;
@@ -233,27 +234,46 @@ fn undo(op: &Op, widths: &mut BTreeMap<Name, TableWidth>)
     forget_all(widths, consumed(op));
 }
 
-/// Back over an operator, by its inverse or with none; the operators of the inverse stand after
-/// these tables.
+// Back over an operator, which stands after the tables `before`, where no inverse is named: over
+// what is derived, and where there is no way back what it made and consumed has no width.
+fn go_back_unnamed(
+    alloc: Global,
+    before: &Schema,
+    op: &Op,
+    after: &Schema,
+    widths: &mut BTreeMap<Name, TableWidth>,
+) -> Result<(), NoMemory>
+    requires after { after.now ≡ schema_after before.now (operator_of op.now) }
+    ensures { OnOk result ((loss : Loss) → (shown : Widths) → Show widths.old.entries shown
+        → Show widths.new.entries (widths_stepped (step_back loss before.now (operator_of op.now))
+        shown)) }
+{
+    match derived(alloc, op, before)? {
+        None => undo(op, widths),
+        Some(back) => carry(alloc, after, &back, widths)?,
+    }
+    Ok(())
+}
+
+/// Back over an operator, which stands after the tables `before`, by its inverse or with none; the
+/// operators of the inverse stand after the tables `after`.
 pub(crate) fn go_back(
     alloc: Global,
+    before: &Schema,
     op: &Op,
     after: &Schema,
     inverse: &[Op],
     widths: &mut BTreeMap<Name, TableWidth>,
 ) -> Result<(), NoMemory>
+    requires after { after.now ≡ schema_after before.now (operator_of op.now) }
     requires accepted { AllOperatorsAccepted after.now (operators_of inverse.now) }
     requires few { HaveFewNodes (operators_of inverse.now) }
-    ensures { OnOk result ((k : ℕ) → (before : Tables) → (shown : Widths)
-        → Show widths.old.entries shown
-        → Show widths.new.entries (taken widths_stepped (back_over k before (operator_of op.now)
-        after.now (operators_of inverse.now)) shown)) }
+    ensures { OnOk result ((k : ℕ) → (shown : Widths) → Show widths.old.entries shown
+        → Show widths.new.entries (taken widths_stepped (back_over k before.now
+        (operator_of op.now) after.now (operators_of inverse.now)) shown)) }
 {
     match inverse {
-        [] => {
-            undo(op, widths);
-            Ok(())
-        }
+        [] => go_back_unnamed(alloc, before, op, after, widths),
         [_, ..] => carry_each(alloc, after, inverse, widths),
     }
 }

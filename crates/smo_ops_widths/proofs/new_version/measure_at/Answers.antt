@@ -1,6 +1,7 @@
-use Rattle.std.proofs.Common.{◌≡◌, ◌+◌, ◌-◌, ◌≤◌, ◌<◌, ℕ, suc, false, sym, ap, subst, ◌∙◌, length}
-use Rattle.std.proofs.Common.{arith}
+use Rattle.std.proofs.Common.{◌≡◌, ◌+◌, ◌-◌, ◌≤◌, ◌<◌, ℕ, suc, max, sym, ap, subst, ◌∙◌, length, arith}
 use Rattle.std.specs.FinMap.{entries}
+use Rattle.std.specs.BTreeSet.{contains}
+use Rattle.prima_base.specs.Order.{bytes_cmp}
 use Rattle.schema_catalog.specs.Tables.{Tables}
 use Rattle.smo_ops_types.specs.Operators.{operator_of}
 use Rattle.smo_ops_types.specs.Commands.{versions_of}
@@ -14,16 +15,17 @@ use Rattle.smo_ops_widths.proofs.SkippedVersions.{read_less}
 use Rattle.smo_ops_widths.proofs.new_version.measure_at.Goals as goal
 
 pub returns-in_ok-on : goal.returns-in_ok-on
-returns-in_ok-on c = λ stamp inverse s.
+returns-in_ok-on c = λ stamp inverse s named most low.
     let vs = c.args.versions.now.list.items in
     let op = operator_of c.args.op.now in
     let k = c.args.k in
     let all = with_version (versions_of c.args.versions.now) stamp op inverse in
     let widths = widths_of all (length vs + 1) k in
+    let near : k ≤ length vs = (let there = c.requires.there in omega (arith, there)) in
     let back = c.greatest-back.ensures widths s
     ∙ ap (λ (t : Tables). stopped (greatest (entries t) widths))
-    (c.tables_at.ensures ∙ sym (tables_before vs stamp op inverse k c.requires.there)) in
-    ap (λ (n : ℕ). stopped (max n (widest_with all (length vs + 1) k))) c.max.ensures
-    ∙ both_read c.in_ok-on.on c.greatest-back.result (greatest_of all k (length vs + 1))
+    (c.tables_at.ensures ∙ sym (tables_before vs stamp op inverse k near)) in
+    ap (λ (n : ℕ). stopped (max (max most n) (widest_with all (length vs + 1) k))) c.max.ensures
+    ∙ both_read most c.in_ok-on.on c.greatest-back.result (greatest_of all k (length vs + 1))
     (greatest_of all (length vs + 1) k) (widest_with all (length vs + 1) k)
     (c.in_ok-on.ensures stamp inverse) back

@@ -1,45 +1,121 @@
-use Rattle.std.proofs.Common.{◌≡◌, ◌+◌, ◌-◌, ◌≤◌, ◌<◌, suc, ap, ◌∙◌, length, arith}
+use Rattle.std.proofs.Common.{◌≡◌, ◌+◌, ◌-◌, ◌≤◌, ◌<◌, ℕ, suc, List, false, ap, sym, ◌∙◌, length}
+use Rattle.std.proofs.Common.{arith}
+use Rattle.std.specs.BTreeSet.{contains}
+use Rattle.std.specs.FinMap.{entries}
+use Rattle.prima_base.specs.Order.{bytes_cmp}
+use Rattle.schema_catalog.specs.Tables.{Tables}
 use Rattle.smo_ops_types.specs.Operators.{operator_of, operators_of}
 use Rattle.smo_ops_types.specs.Commands.{versions_of}
+use Rattle.smo_ops_spec.specs.After.{schema_after}
 use Rattle.smo_ops_spec.specs.Past.{no_tables, tables_from}
-use Rattle.smo_ops_widths.proofs.VersionLaws.{version_few, version_accepted}
+use Rattle.smo_ops_widths.specs.Widths.{widths_of, with_version, greatest}
+use Rattle.smo_ops_widths.specs.Counted.{stopped}
+use Rattle.smo_ops_widths.proofs.VersionLaws.{version_few, version_accepted, version_leads}
+use Rattle.smo_ops_widths.proofs.VersionLaws.{tables_before, newest_at}
 use Rattle.smo_ops_widths.proofs.WidestSteps.{accepted_here, next_here, inverse_accepted}
 use Rattle.smo_ops_widths.proofs.WidestSteps.{shown_first, shown_next, most_first, most_next}
-use Rattle.smo_ops_widths.proofs.WidestSteps.{most_last}
+use Rattle.smo_ops_widths.proofs.WidestSteps.{most_last, named_first, named_next}
 use Rattle.smo_ops_widths.proofs.new_version.widest.Goals as goal
+
+pub go_back-requires-clause-after : goal.go_back-requires-clause-after
+go_back-requires-clause-after c =
+    let vs = c.args.versions.now.list.items in
+    let op = operator_of c.args.op.now in
+    let inverse = operators_of c.args.inverse.now in
+    let newest = c.tables_at-newest.result.now in
+    let there = c.tables_at-newest.ensures
+    ∙ ap (tables_from no_tables (versions_of c.args.versions.now)) c.len-k.ensures in
+    c.in_ok-next.ensures.after
+    (accepted_here vs op inverse newest c.in_ok-next.next there c.requires.accepted)
 
 pub go_back-requires-clause-accepted : goal.go_back-requires-clause-accepted
 go_back-requires-clause-accepted c =
     let vs = c.args.versions.now.list.items in
     let op = operator_of c.args.op.now in
     let inverse = operators_of c.args.inverse.now in
-    let newest = c.tables_at.ensures
+    let newest = c.tables_at-newest.result.now in
+    let there = c.tables_at-newest.ensures
     ∙ ap (tables_from no_tables (versions_of c.args.versions.now)) c.len-k.ensures in
     inverse_accepted vs op inverse c.in_ok-next.next
-    (next_here vs op inverse c.tables_at.result.now c.in_ok-next.next newest
-    (c.in_ok-next.ensures.after (accepted_here vs op inverse c.tables_at.result.now
-    c.in_ok-next.next newest c.requires.accepted))) c.requires.inverse
+    (next_here vs op inverse newest c.in_ok-next.next there (c.in_ok-next.ensures.after
+    (accepted_here vs op inverse newest c.in_ok-next.next there c.requires.accepted)))
+    c.requires.inverse
+
+pub measure_on-requires-clause-next : goal.measure_on-requires-clause-next
+measure_on-requires-clause-next c =
+    let vs = c.args.versions.now.list.items in
+    let op = operator_of c.args.op.now in
+    let inverse = operators_of c.args.inverse.now in
+    let newest = c.tables_at-newest.result.now in
+    let there = c.tables_at-newest.ensures
+    ∙ ap (tables_from no_tables (versions_of c.args.versions.now)) c.len-k.ensures in
+    next_here vs op inverse newest c.in_ok-next.next there (c.in_ok-next.ensures.after
+    (accepted_here vs op inverse newest c.in_ok-next.next there c.requires.accepted))
 
 pub loop-k-init : goal.loop-k-init
 loop-k-init c =
     let vs = c.args.versions.now.list.items in
     let op = operator_of c.args.op.now in
     let inverse = operators_of c.args.inverse.now in
-    let newest = c.tables_at.ensures
+    let newest = c.tables_at-newest.result.now in
+    let there = c.tables_at-newest.ensures
     ∙ ap (tables_from no_tables (versions_of c.args.versions.now)) c.len-k.ensures in
-    let next = next_here vs op inverse c.tables_at.result.now c.in_ok-next.next newest
-    (c.in_ok-next.ensures.after (accepted_here vs op inverse c.tables_at.result.now
-    c.in_ok-next.next newest c.requires.accepted)) in
-    let shown = λ stamp. shown_first vs op inverse stamp c.in_ok-next.next
-    c.in_ok-widths.widths.entries c.in_ok-widths.widths.entries c.go_back.new.widths.entries next
+    let next = next_here vs op inverse newest c.in_ok-next.next there (c.in_ok-next.ensures.after
+    (accepted_here vs op inverse newest c.in_ok-next.next there c.requires.accepted)) in
+    let shown = λ stamp. shown_first vs op inverse stamp newest c.in_ok-next.next
+    c.in_ok-widths.widths.entries c.go_back.new.widths.entries (there ∙ newest_at vs) next
     c.in_ok-widths.ensures c.in_ok-go_back.ensures in
+    let most = λ stamp.
+    let all = with_version (versions_of c.args.versions.now) stamp op inverse in
+    let widths = widths_of all (length vs + 1) (length vs) in
+    most_first vs op inverse stamp c.max-most.result c.in_ok-on.on c.greatest.result
+    (c.in_ok-on.ensures stamp inverse)
+    (c.greatest.ensures widths (shown stamp)
+    ∙ ap (λ (t : Tables). stopped (greatest (entries t) widths))
+    (there ∙ sym (tables_before vs stamp op inverse (length vs) (omega arith))))
+    c.max-most.ensures in
     record {
       within = (let k = c.len-k.ensures in omega (arith, k));
       next = next;
       shown = shown;
-      most = λ stamp. most_first vs op inverse stamp c.in_ok-most.most
-          (c.in_ok-most.ensures stamp inverse (shown stamp));
+      named = λ stamp. named_first vs op inverse stamp
+          (contains bytes_cmp c.insert_named.new.names)
+          (λ n f. (c.in_ok-insert_named.ensures n f).1);
+      last = λ stamp. (most stamp).0;
+      most = λ stamp. (most stamp).1;
     }
+
+pub go_back-2-requires-clause-after : goal.go_back-2-requires-clause-after
+go_back-2-requires-clause-after c =
+    let vs = c.args.versions.now.list.items in
+    let test = c.loop-k-test.true in
+    let within = c.loop-k.invariant.within in
+    let j = c.loop-k.k - 1 in
+    let below : j < length vs = omega (arith, test, within) in
+    let leads = version_leads vs c.requires.versions j c.index-version.result.now below
+    c.index-version.ensures in
+    leads.tables
+    ∙ ap (λ (t : Tables). schema_after t (operator_of c.index-version.result.now.op))
+    (sym c.tables_at.ensures)
+
+pub go_back-2-requires-clause-accepted : goal.go_back-2-requires-clause-accepted
+go_back-2-requires-clause-accepted c =
+    let vs = c.args.versions.now.list.items in
+    let test = c.loop-k-test.true in
+    let within = c.loop-k.invariant.within in
+    let j = c.loop-k.k - 1 in
+    let below : j < length vs = omega (arith, test, within) in
+    version_accepted vs c.requires.versions j c.index-version.result.now below
+    c.index-version.ensures
+
+pub go_back-2-requires-clause-few : goal.go_back-2-requires-clause-few
+go_back-2-requires-clause-few c =
+    let vs = c.args.versions.now.list.items in
+    let test = c.loop-k-test.true in
+    let within = c.loop-k.invariant.within in
+    let j = c.loop-k.k - 1 in
+    let below : j < length vs = omega (arith, test, within) in
+    version_few vs c.requires.versions j c.index-version.result.now below c.index-version.ensures
 
 pub loop-k-preserved : goal.loop-k-preserved
 loop-k-preserved c =
@@ -49,17 +125,27 @@ loop-k-preserved c =
     let test = c.loop-k-test.true in
     let within = c.loop-k.invariant.within in
     let j = c.loop-k.k - 1 in
+    let v = c.index-version.result.now in
     let below : j < length vs = omega (arith, test, within) in
-    let shown = λ stamp. shown_next vs op inverse stamp c.loop-k.k j c.index-version.result.now
-    c.loop-k.widths.entries c.go_back-2.new.widths.entries (omega (arith, test)) below
-    c.index-version.ensures (c.loop-k.invariant.shown stamp) c.in_ok-go_back-2.ensures in
+    let behind : j + 1 ≡ c.loop-k.k = omega (arith, test) in
+    let shown = λ stamp. shown_next vs op inverse stamp c.loop-k.k j v c.tables_at.result.now
+    c.loop-k.widths.entries c.go_back-2.new.widths.entries behind below c.index-version.ensures
+    c.tables_at.ensures (c.loop-k.invariant.shown stamp) c.in_ok-go_back-2.ensures in
+    let named = λ stamp. named_next vs op inverse stamp (contains bytes_cmp c.loop-k.names)
+    (contains bytes_cmp c.insert_named-2.new.names) c.loop-k.k j v behind below
+    c.index-version.ensures c.in_ok-insert_named-2.ensures (c.loop-k.invariant.named stamp) in
     record {
       within = omega (arith, within);
       next = c.loop-k.invariant.next;
       shown = shown;
-      most = λ stamp. most_next vs op inverse stamp c.loop-k.k j c.loop-k.most
-          c.in_ok-measure_at.field-0 (omega (arith, test)) (c.loop-k.invariant.most stamp)
-          (c.in_ok-measure_at.ensures stamp inverse (shown stamp));
+      named = named;
+      last = λ stamp.
+          (let last = c.loop-k.invariant.last stamp in
+          let more = c.max.ensures in omega (arith, last, more));
+      most = λ stamp. most_next vs op inverse stamp c.loop-k.k j c.loop-k.most c.in_ok-more.more
+          (omega (arith, test)) (c.loop-k.invariant.most stamp)
+          (c.in_ok-more.ensures stamp inverse (shown stamp) (named stamp) c.loop-k.most
+          (c.loop-k.invariant.last stamp));
     }
 
 pub returns : goal.returns

@@ -1,0 +1,57 @@
+//! The tables that operators name: one that none of them names stays as it is.
+
+ghost use Rattle.std.specs.Prelude.{◌≡◌, ℕ, List, true, false, cond, OnOk};
+ghost use Rattle.std.specs.Option.{option_copied};
+ghost use Rattle.std.specs.BTreeSet.{contains};
+ghost use Rattle.prima_base.specs.Order.{bytes_cmp, same};
+ghost use Rattle.smo_ops_types.specs.Operators.{operator_of};
+ghost use Rattle.smo_ops_spec.specs.Preconditions.{among};
+ghost use Rattle.smo_ops_spec.specs.Touching.{these_names};
+ghost use Rattle.smo_ops_widths.specs.Creating.{creates_one, LeavesOut};
+
+use prima_base::{Name, NoMemory};
+use smo_ops_operators::{Made, consumed, made, made_of};
+use smo_ops_types::Op;
+use std::collections::BTreeSet;
+
+fn insert_copy(names: &mut BTreeSet<Name>, name: &Name) -> Result<(), NoMemory>
+    ensures { OnOk result ((n : List ℕ) → contains bytes_cmp names.new n
+        ≡ cond (same name.now n) true (contains bytes_cmp names.old n)) }
+{
+    let _is_new = names.insert(name.copy()?)?;
+    Ok(())
+}
+
+fn insert_made(names: &mut BTreeSet<Name>, made: Made<'_>) -> Result<(), NoMemory>
+    ensures { OnOk result ((n : List ℕ) → contains bytes_cmp names.new n ≡ false
+        → (contains bytes_cmp names.old n ≡ false) × (among n (these_names
+        (option_copied made.entry.first) (option_copied made.entry.second)) ≡ false)) }
+{
+    if let Some(first) = made.first {
+        insert_copy(names, first)?;
+        if let Some(second) = made.second {
+            insert_copy(names, second)?;
+        }
+    }
+    Ok(())
+}
+
+/// Inserts the tables that the operator names.
+pub(crate) fn insert_named(names: &mut BTreeSet<Name>, op: &Op) -> Result<(), NoMemory>
+    ensures { OnOk result ((n : List ℕ) → contains bytes_cmp names.new n ≡ false
+        → (contains bytes_cmp names.old n ≡ false) × LeavesOut (operator_of op.now) n) }
+{
+    insert_made(names, made(op))?;
+    insert_made(names, consumed(op))?;
+    insert_made(names, made_of(op))
+}
+
+/// Whether the operator creates a table with one of these names.
+pub(crate) fn creates_one(names: &BTreeSet<Name>, op: &Op) -> bool
+    ensures { result ≡ creates_one (contains bytes_cmp names.now) (operator_of op.now) }
+{
+    match op {
+        Op::CreateTable { table, .. } => names.contains(table),
+        _ => false,
+    }
+}
