@@ -1,7 +1,7 @@
 -- What is read from a version that creates a table which no later operator names is no wider than
 -- what is read from the version before, but for that table, which is as wide as it is where it is
 -- read from the newest version.
-use Rattle.std.proofs.Common.{◌≡◌, ◌+◌, ◌<◌, ◌≤◌, ℕ, zero, suc, Bool, true, false, List, [], ◌∷◌}
+use Rattle.std.proofs.Common.{◌≡◌, ◌+◌, ◌-◌, ◌≤◌, ℕ, zero, suc, Bool, true, false, List, [], ◌∷◌}
 use Rattle.std.proofs.Common.{max, refl, sym, ap, subst, ◌∙◌, arith, inl, inr}
 use Rattle.std.specs.Prelude.{cond, is_some, Option, Some, None, slice_get}
 use Rattle.std.specs.Option.{option_map}
@@ -72,7 +72,7 @@ module _ (tables : Tables) (r : List ℕ) (cs : List Column) where
       (widths_over tables (create_table r cs) (own_widths tables))
   created_beside = record {
     others = is_others;
-    own = own_there more r (ap is_some with_it);
+    own = own_there more r (ap (λ (o : Option (List Column)). is_some o) with_it);
   }
 
 -- ---- and behind it
@@ -145,10 +145,9 @@ module _ (versions : List PlainVersion) (k : ℕ) (v : PlainVersion) (r : List �
 
     stand : Beside r all before
     stand =
-        let n : ℕ = l - k in
-        let end : k + 1 + n ≡ l + 1 = omega (arith, behind) in
+        let end : k + 1 + (l - k) ≡ l + 1 = omega (arith, behind) in
         subst (λ (p : ℕ). Beside r (widths_of versions (k + 1) p) (widths_of versions k p)) end
-        (on_to n)
+        (on_to (l - k))
 
     last_step : newest ≡ widths_over (at l) w.op (own l)
     last_step = taken_forward versions widths_stepped l l (own l) (omega arith)
@@ -167,7 +166,7 @@ module _ (versions : List PlainVersion) (k : ℕ) (v : PlainVersion) (r : List �
         (leaves.makes (at l)) (leaves.consumes (at l)))
         ∙ ap (λ (t : Tables). get t r) (sym made) ∙ e in
         ap (λ (x : Widths). get x r) last_step ∙ own_stays (at l) w.op r leaves (own l)
-        ∙ own_there (at l) r (ap is_some was)
+        ∙ own_there (at l) r (ap (λ (o : Option (List Column)). is_some o) was)
 
     measured : (t : List ℕ × List Column) → In t (entries (at (l + 1)))
         → measure_of t.1 (get all t.0)

@@ -7,6 +7,7 @@ pub mod VersionLaws
 pub mod WithinLaws
 pub mod OwnWithin
 pub mod ReadFrom
+pub mod NamesInserted
 pub mod NamesLeftOut
 pub mod CreatedBeside
 pub mod FoundLaws

@@ -127,7 +127,7 @@ module _ (vs : List Version) (stamp : ℕ) (op : Operator) (inverse : List Opera
       ap (tables_from no_tables all) further ∙ tables_added no_tables plain new)
 
   pub new_here : slice_get (with_version (map version_of vs) stamp op inverse) (length vs)
-      ≡ Some (new vs stamp op inverse)
+      ≡ Some new
   new_here = ap (slice_get all) (sym count) ∙ last_version plain new
 
   pub version_here : (k : ℕ) (v : Version) → k < length vs → v ≡ get_or vs k v

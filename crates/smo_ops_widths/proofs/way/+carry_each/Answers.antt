@@ -7,7 +7,7 @@ use Rattle.smo_ops_widths.proofs.OperatorLists.{rest_accepted, over_all}
 use Rattle.smo_ops_widths.proofs.way.+carry_each.Goals as goal
 
 pub carry_each-requires : goal.carry_each-requires
-carry_each-requires c =
+carry_each-requires t c =
     let accepted = first_accepted c.args.before.now c.args.ops.now c.op-item.result
     c.in-len1-up.len_at_least c.op-item.is c.requires.accepted in
     let after = c.in_ok-next-in-len1-up.ensures.after accepted in
@@ -21,7 +21,7 @@ carry_each-requires c =
     )
 
 pub returns-in_ok-next-in-len1-up : goal.returns-in_ok-next-in-len1-up
-returns-in_ok-next-in-len1-up c =
+returns-in_ok-next-in-len1-up t c =
     let accepted = first_accepted c.args.before.now c.args.ops.now c.op-item.result
     c.in-len1-up.len_at_least c.op-item.is c.requires.accepted in
     IfOk-weaker c.carry_each.result _ _ (λ done h. λ shown s.
