@@ -1,8 +1,12 @@
 -- What an accepted operator and the versions before it are for the measure of what it makes.
 use Rattle.std.proofs.Common.{◌≡◌, ℕ, List, [], ◌∷◌, length, sym, ap, subst, ◌∙◌}
-use Rattle.std.specs.Prelude.{nat_lt, Some, None, map}
+use Rattle.std.specs.Prelude.{nat_lt, Some, None, Ok, Err, map}
 use Rattle.std.specs.Option.{option_map}
+use Rattle.prima_base.specs.Faults.{IsTested, IsTestedAs}
 use Rattle.prima_base.specs.Limits.{max_versions}
+use Rattle.prima_base.specs.declared.fault.CallFault.{CallFault}
+use Rattle.prima_base.specs.declared.fault.CallFault.TheVariants.{Refused, NoMemory}
+use Rattle.prima_base.specs.declared.refusal.Refusal.{Refusal}
 use Rattle.prima_base.specs.declared.refusal.What.TheVariants.{Versions as TheVersions}
 use Rattle.prima_base.specs.declared.refusal.Refusal.TheVariants.{TooMany}
 use Rattle.smo_ops_types.specs.Commands.{evolving, PlainVersion, version_of, versions_of}
@@ -16,7 +20,7 @@ use Rattle.smo_ops_spec.specs.Inverses.{inverse_fault, inverse_tests}
 use Rattle.smo_ops_spec.specs.Past.{Past, no_tables, newest_from, newest_tables}
 use Rattle.smo_ops_spec.specs.ValidPast.{AreVersions}
 use Rattle.smo_ops_spec.proofs.CountedOperators.{counted_operator, counted_inverse}
-use Rattle.smo_ops_spec.proofs.Firsts.{none_of_first, none_mapped}
+use Rattle.smo_ops_spec.proofs.Firsts.{none_of_first, none_mapped, first_at, first_later}
 use Rattle.smo_ops_spec.proofs.PastSteps.{counts_accepted, body_accepted}
 use Rattle.smo_ops_widths.specs.Widths.{widest, with_version}
 use Rattle.smo_ops_widths.specs.MeasureFaults.{measure_fault, width_fault}
@@ -78,3 +82,32 @@ module _ (kept : Kept) (past : Past) (represents : Represents kept past) (versio
       pub few_nodes_each : HaveFewNodes inverse
       few_nodes_each = counted_inverse op inverse
           (counts_accepted past (a_command stamp (evolving op inverse)) accepted)
+
+-- ---- a new command, by its past and then by its width
+
+module _ {A : Type 0} (so : A → Type 0) (past : Past) (command : PlainCommand) where
+  -- what is refused by its past is refused so
+  pub refused_by_past : (f : CallFault Refusal)
+      → IsTestedAs so (command_fault past command) (Err f)
+      → IsTestedAs so (new_command_fault past command) (Err f)
+  refused_by_past (Refused r) e = first_at (command_fault past command)
+      (width_fault past command ∷ []) r e
+  refused_by_past NoMemory e = tt
+
+  -- and what its past accepts, by its width
+  pub refused_by_width : command_fault past command ≡ None → (f : CallFault Refusal)
+      → IsTested {A = Unit {0}} (width_fault past command) (Err f)
+      → IsTestedAs so (new_command_fault past command) (Err f)
+  refused_by_width met (Refused r) e =
+      first_later (command_fault past command) (width_fault past command ∷ []) met
+      ∙ first_at (width_fault past command) [] r e
+  refused_by_width met NoMemory e = tt
+
+  pub accepted_new : (a : A) → command_fault past command ≡ None
+      → width_fault past command ≡ None → so a
+      → IsTestedAs so (new_command_fault past command) (Ok a)
+  accepted_new a met narrow s = (
+    first_later (command_fault past command) (width_fault past command ∷ []) met
+        ∙ first_later (width_fault past command) [] narrow,
+    s,
+  )

@@ -147,9 +147,13 @@ impl ArchiveState {
             result }
         ensures represents { RepresentsSome self.now }
     {
-        let checked = self.check(command)?;
-        check_width(self.alloc, &self.groups, &checked)?;
-        Ok(checked)
+        match self.check(command) {
+            Err(fault) => Err(fault),
+            Ok(checked) => match check_width(self.alloc, &self.groups, &checked) {
+                Err(fault) => Err(fault),
+                Ok(()) => Ok(checked),
+            },
+        }
     }
 
     /// Makes a command ready that was checked, and is accepted: all the memory that it needs is

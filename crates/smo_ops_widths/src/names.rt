@@ -43,7 +43,8 @@ pub(crate) fn insert_named(names: &mut BTreeSet<Name>, op: &Op) -> Result<(), No
 {
     insert_made(names, made(op))?;
     insert_made(names, consumed(op))?;
-    insert_made(names, made_of(op))
+    insert_made(names, made_of(op))?;
+    Ok(())
 }
 
 /// Whether the operator creates a table with one of these names.

@@ -1,7 +1,8 @@
 ghost use Rattle.std.specs.Prelude.{◌≡◌, ◌+◌, ◌≤◌, ◌<◌, ℕ, suc, List, None, IfOk, vec_len};
-ghost use Rattle.std.specs.Prelude.{max};
+ghost use Rattle.std.specs.Prelude.{◌-◌, max, true, false, get_or};
 ghost use Rattle.std.specs.BTreeSet.{contains};
 ghost use Rattle.prima_base.specs.Order.{bytes_cmp};
+ghost use Rattle.smo_ops_types.specs.declared.version.Version.{Version};
 ghost use Rattle.smo_ops_types.specs.Operators.{Operator, operator_of, operators_of};
 ghost use Rattle.smo_ops_types.specs.Commands.{versions_of};
 ghost use Rattle.smo_ops_spec.specs.After.{op_fault, schema_after, HasFewNodes, HaveFewNodes};
@@ -10,7 +11,7 @@ ghost use Rattle.smo_ops_spec.specs.Past.{no_tables, tables_from, newest_from};
 ghost use Rattle.smo_ops_spec.specs.ValidPast.{AreVersions};
 ghost use Rattle.smo_ops_widths.specs.Widths.{greatest_of, widths_of, widest};
 ghost use Rattle.smo_ops_widths.specs.Widths.{widest_with, with_version};
-ghost use Rattle.smo_ops_widths.specs.Creating.{NameAll};
+ghost use Rattle.smo_ops_widths.specs.Creating.{creates_one, NameAll};
 ghost use Rattle.smo_ops_widths.specs.Counted.{stopped};
 ghost use Rattle.smo_ops_widths.specs.Shown.{Show};
 
@@ -89,11 +90,23 @@ fn measure_on(
     Ok(greatest(next, &widths))
 }
 
+// Whether version `k` creates no table, or one that is not among the names of later operators.
+fn is_covered(versions: &Versions, names: &BTreeSet<Name>, k: usize) -> bool
+    requires there { k ≤ vec_len versions.now.list }
+    ensures { result ≡ true → (v : Version) × (k - 1 < vec_len versions.now.list)
+        × (v ≡ get_or versions.now.list.items (k - 1) v) × (k - 1 + 1 ≡ k)
+        × (creates_one (contains bytes_cmp names.now) (operator_of v.op) ≡ false) }
+{
+    if k == 0 {
+        return false;
+    }
+    !creates_one(names, &versions.list[k - 1].op)
+}
+
 // The greatest measure of the tables of version `k`, which have these widths, and of the tables of
-// the version that the operator makes, read from version `k`. Where version `k` creates no table,
-// or one that is not among the names of later operators, these are left out: they are at least as
-// wide where they are read from the version before, and the created table is as wide as it is where
-// it is read from the newest version.
+// the version that the operator makes, read from version `k`. Where it is covered these are left
+// out: they are at least as wide where they are read from the version before, and a table that it
+// creates is as wide where it is read from the newest version.
 fn measure_at(
     alloc: Global,
     versions: &Versions,
@@ -122,7 +135,7 @@ fn measure_at(
 {
     let nothing = Schema::empty(alloc);
     let back = greatest(tables_at(&nothing, versions, k), widths);
-    if k > 0 && !creates_one(names, &versions.list[k - 1].op) {
+    if is_covered(versions, names, k) {
         return Ok(back);
     }
     let on = measure_on(alloc, versions, op, next, k)?;

@@ -1,4 +1,5 @@
-use Rattle.std.proofs.Common.{◌≡◌, ◌+◌, ◌-◌, ◌≤◌, ◌<◌, ℕ, suc, max, sym, ap, subst, ◌∙◌, length, arith}
+use Rattle.std.proofs.Common.{◌≡◌, ◌+◌, ◌-◌, ◌≤◌, ◌<◌, ℕ, suc, max, sym, ap, subst, ◌∙◌, length}
+use Rattle.std.proofs.Common.{arith}
 use Rattle.std.specs.FinMap.{entries}
 use Rattle.std.specs.BTreeSet.{contains}
 use Rattle.prima_base.specs.Order.{bytes_cmp}
@@ -29,3 +30,21 @@ returns-in_ok-on c = λ stamp inverse s named most low.
     ∙ both_read most c.in_ok-on.on c.greatest-back.result (greatest_of all k (length vs + 1))
     (greatest_of all (length vs + 1) k) (widest_with all (length vs + 1) k)
     (c.in_ok-on.ensures stamp inverse) back
+
+pub returns-then-is_covered : goal.returns-then-is_covered
+returns-then-is_covered c = λ stamp inverse s named most low.
+    let vs = c.args.versions.now.list.items in
+    let op = operator_of c.args.op.now in
+    let k = c.args.k in
+    let all = with_version (versions_of c.args.versions.now) stamp op inverse in
+    let widths = widths_of all (length vs + 1) k in
+    let near : k ≤ length vs = (let there = c.requires.there in omega (arith, there)) in
+    let back = c.greatest-back.ensures widths s
+    ∙ ap (λ (t : Tables). stopped (greatest (entries t) widths))
+    (c.tables_at.ensures ∙ sym (tables_before vs stamp op inverse k near)) in
+    let skips = c.is_covered.ensures c.if-is_covered.true in
+    back_read most c.greatest-back.result (greatest_of all k (length vs + 1))
+    (greatest_of all (length vs + 1) k) (widest_with all (length vs + 1) k)
+    (greatest_of all (length vs) (length vs + 1)) back
+    (read_less vs stamp op inverse c.requires.versions (k - 1) k skips.0 skips.1 skips.2 skips.3
+    (contains bytes_cmp c.args.names.now) named skips.4) low

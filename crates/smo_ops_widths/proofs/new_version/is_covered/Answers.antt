@@ -1,0 +1,14 @@
+use Rattle.std.proofs.Common.{◌≡◌, ◌+◌, ◌-◌, ◌<◌, ◌≤◌, length, sym, ◌∙◌, arith}
+use Rattle.smo_ops_spec.proofs.TouchedTables.{opposite}
+use Rattle.smo_ops_widths.proofs.new_version.is_covered.Goals as goal
+
+pub returns-else-k-eq0 : goal.returns-else-k-eq0
+returns-else-k-eq0 c = λ skips.
+    let some = c.if-k-eq0.false in
+    let there = c.requires.there in (
+      c.index.result.now,
+      omega (arith, some, there),
+      c.index.ensures,
+      omega (arith, some),
+      sym c.creates_one.ensures ∙ opposite c.creates_one.result skips,
+    )
