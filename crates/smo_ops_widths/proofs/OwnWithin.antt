@@ -7,7 +7,7 @@ use Rattle.std.specs.Prelude.{cond, is_some, if◌then◌else◌, Option, Some, 
 use Rattle.std.specs.Option.{option_map}
 use Rattle.std.specs.BTreeMap.{is_at}
 use Rattle.std.specs.FinMap.{get, find, insert, remove, entries, from_entries, get-insert}
-use Rattle.std.specs.FinMap.{get-remove}
+use Rattle.std.specs.FinMap.{get-remove, get-entries}
 use Rattle.std.specs.FinMap.{get-from_entries, contains_key}
 use Rattle.std.specs.Cmp.Lexicographic.{nat_list_cmp_total}
 use Rattle.prima_base.specs.Order.{bytes_cmp}
@@ -54,6 +54,8 @@ pub own_by : (tables : Tables) (n : List ℕ) → get (own_widths tables) n
 own_by tables n = get-from_entries nat_list_cmp_total
     (map (λ (t : List ℕ × List Column). (t.0, own_width)) (entries tables)) n
     ∙ found_own (entries tables) n
+    ∙ ap (λ (o : Option (List Column)). option_map (λ (cs : List Column). own_width) o)
+    (sym (get-entries tables n))
 
 pub own_there : (tables : Tables) (n : List ℕ) → is_some (get tables n) ≡ true
     → get (own_widths tables) n ≡ Some own_width

@@ -1,4 +1,4 @@
-ghost use Rattle.std.specs.Prelude.{◌≡◌, ◌+◌, ◌≤◌, ◌<◌, ℕ, suc, List, None, IfOk, vec_len};
+ghost use Rattle.std.specs.Prelude.{◌≡◌, ◌+◌, ◌≤◌, ◌<◌, ℕ, suc, List, None, IfOk, length};
 ghost use Rattle.std.specs.Prelude.{◌-◌, max, true, false, get_or};
 ghost use Rattle.std.specs.BTreeSet.{contains};
 ghost use Rattle.prima_base.specs.Order.{bytes_cmp};
@@ -36,7 +36,7 @@ pub const MAX_MEASURE: u64 = 1_000_000;
 // The tables of version `k`; `nothing` has none.
 fn tables_at<'a>(nothing: &'a Schema, versions: &'a Versions, k: usize) -> &'a Schema
     requires nothing { nothing.now ≡ no_tables }
-    requires there { k ≤ vec_len versions.now.list }
+    requires there { k ≤ length versions.now.list.items }
     ensures { result.now ≡ tables_from no_tables (versions_of versions.now) k }
 {
     if k == 0 {
@@ -52,9 +52,9 @@ fn widths_on(
     versions: &Versions,
     stored: usize,
 ) -> Result<BTreeMap<Name, TableWidth>, NoMemory>
-    requires there { stored ≤ vec_len versions.now.list }
+    requires there { stored ≤ length versions.now.list.items }
     ensures { IfOk result (λ m. Show m.entries
-        (widths_of (versions_of versions.now) stored (vec_len versions.now.list))) }
+        (widths_of (versions_of versions.now) stored (length versions.now.list.items))) }
 {
     let nothing = Schema::empty(alloc);
     let mut widths = own_widths(alloc, tables_at(&nothing, versions, stored))?;
@@ -76,12 +76,12 @@ fn measure_on(
     next: &Schema,
     stored: usize,
 ) -> Result<u64, NoMemory>
-    requires there { stored ≤ vec_len versions.now.list }
+    requires there { stored ≤ length versions.now.list.items }
     requires next { next.now ≡ schema_after (newest_from no_tables (versions_of versions.now))
         (operator_of op.now) }
     ensures { IfOk result (λ most. (stamp : ℕ) → (inverse : List Operator)
         → most ≡ stopped (greatest_of (with_version (versions_of versions.now) stamp
-        (operator_of op.now) inverse) stored (vec_len versions.now.list + 1))) }
+        (operator_of op.now) inverse) stored (length versions.now.list.items + 1))) }
 {
     let mut widths = widths_on(alloc, versions, stored)?;
     let nothing = Schema::empty(alloc);
@@ -92,8 +92,8 @@ fn measure_on(
 
 // Whether version `k` creates no table, or one that is not among the names of later operators.
 fn is_covered(versions: &Versions, names: &BTreeSet<Name>, k: usize) -> bool
-    requires there { k ≤ vec_len versions.now.list }
-    ensures { result ≡ true → (v : Version) × (k - 1 < vec_len versions.now.list)
+    requires there { k ≤ length versions.now.list.items }
+    ensures { result ≡ true → (v : Version) × (k - 1 < length versions.now.list.items)
         × (v ≡ get_or versions.now.list.items (k - 1) v) × (k - 1 + 1 ≡ k)
         × (creates_one (contains bytes_cmp names.now) (operator_of v.op) ≡ false) }
 {
@@ -116,22 +116,22 @@ fn measure_at(
     widths: &BTreeMap<Name, TableWidth>,
     names: &BTreeSet<Name>,
 ) -> Result<u64, NoMemory>
-    requires there { k < vec_len versions.now.list }
+    requires there { k < length versions.now.list.items }
     requires versions { AreVersions None no_tables (versions_of versions.now) }
     requires next { next.now ≡ schema_after (newest_from no_tables (versions_of versions.now))
         (operator_of op.now) }
     ensures { IfOk result (λ more. (stamp : ℕ) → (inverse : List Operator)
         → Show widths.now.entries (widths_of (with_version (versions_of versions.now) stamp
-        (operator_of op.now) inverse) (vec_len versions.now.list + 1) k)
+        (operator_of op.now) inverse) (length versions.now.list.items + 1) k)
         → NameAll (contains bytes_cmp names.now) (with_version (versions_of versions.now) stamp
         (operator_of op.now) inverse) k
         → (most : ℕ) → stopped (greatest_of (with_version (versions_of versions.now) stamp
-        (operator_of op.now) inverse) (vec_len versions.now.list)
-        (vec_len versions.now.list + 1)) ≤ most
+        (operator_of op.now) inverse) (length versions.now.list.items)
+        (length versions.now.list.items + 1)) ≤ most
         → stopped (max (max most more) (widest_with (with_version (versions_of versions.now) stamp
-        (operator_of op.now) inverse) (vec_len versions.now.list + 1) k))
+        (operator_of op.now) inverse) (length versions.now.list.items + 1) k))
         ≡ stopped (max most (widest_with (with_version (versions_of versions.now) stamp
-        (operator_of op.now) inverse) (vec_len versions.now.list + 1) (suc k)))) }
+        (operator_of op.now) inverse) (length versions.now.list.items + 1) (suc k)))) }
 {
     let nothing = Schema::empty(alloc);
     let back = greatest(tables_at(&nothing, versions, k), widths);

@@ -2,8 +2,8 @@ use Rattle.std.proofs.Common.{ap, ◌∙◌}
 use Rattle.smo_ops_spec.specs.Preconditions.{among}
 use Rattle.smo_ops_widths.proofs.names.insert_named.Goals as goal
 
-pub returns-in_ok-insert_made-3 : goal.returns-in_ok-insert_made-3
-returns-in_ok-insert_made-3 c = λ n f.
+pub returns : goal.returns
+returns c = λ n f.
     let third = c.in_ok-insert_made-3.ensures n f in
     let second = c.in_ok-insert_made-2.ensures n third.0 in
     let first = c.in_ok-insert_made.ensures n second.0 in (

@@ -2,8 +2,8 @@ use Rattle.std.proofs.Common.{◌≡◌, ◌+◌, ◌-◌, ◌<◌, ◌≤◌, l
 use Rattle.smo_ops_spec.proofs.TouchedTables.{opposite}
 use Rattle.smo_ops_widths.proofs.new_version.is_covered.Goals as goal
 
-pub returns-else-k-eq0 : goal.returns-else-k-eq0
-returns-else-k-eq0 c = λ skips.
+pub returns : goal.returns
+returns c = λ skips.
     let some = c.if-k-eq0.false in
     let there = c.requires.there in (
       c.index.result.now,

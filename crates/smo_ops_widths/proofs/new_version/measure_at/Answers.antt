@@ -15,8 +15,8 @@ use Rattle.smo_ops_widths.proofs.VersionLaws.{tables_before}
 use Rattle.smo_ops_widths.proofs.SkippedVersions.{read_less}
 use Rattle.smo_ops_widths.proofs.new_version.measure_at.Goals as goal
 
-pub returns-in_ok-on : goal.returns-in_ok-on
-returns-in_ok-on c = λ stamp inverse s named most low.
+pub returns : goal.returns
+returns c = λ stamp inverse s named most low.
     let vs = c.args.versions.now.list.items in
     let op = operator_of c.args.op.now in
     let k = c.args.k in

@@ -10,8 +10,8 @@ use Rattle.smo_ops_widths.specs.Shown.{Show}
 use Rattle.smo_ops_widths.proofs.VersionLaws.{last_step, tables_last}
 use Rattle.smo_ops_widths.proofs.new_version.measure_on.Goals as goal
 
-pub returns-in_ok-carry : goal.returns-in_ok-carry
-returns-in_ok-carry c = λ stamp inverse.
+pub returns : goal.returns
+returns c = λ stamp inverse.
     let vs = c.args.versions.now.list.items in
     let op = operator_of c.args.op.now in
     let all = with_version (versions_of c.args.versions.now) stamp op inverse in
