@@ -167,7 +167,8 @@ pub fn widest(alloc: Global, versions: &Versions, op: &Op, inverse: &[Op]) -> Re
     let mut names = BTreeSet::new(alloc);
     insert_named(&mut names, op)?;
     let on = measure_on(alloc, versions, op, &next, k)?;
-    let mut most = on.max(greatest(newest, &widths));
+    let begun = on.max(greatest(newest, &widths));
+    let mut most = begun;
     while k > 0 {
         k -= 1;
         let version = &versions.list[k];

@@ -1,4 +1,4 @@
-use Rattle.std.proofs.Common.{◌≡◌, ◌+◌, ◌∙◌, sym, ap, subst, length}
+use Rattle.std.proofs.Common.{◌≡◌, ◌+◌, ◌∙◌, sym, ap, subst, length, arith}
 use Rattle.std.specs.FinMap.{entries}
 use Rattle.schema_catalog.specs.Tables.{Tables}
 use Rattle.smo_ops_types.specs.Operators.{operator_of}
@@ -13,12 +13,16 @@ use Rattle.smo_ops_widths.proofs.new_version.measure_on.Goals as goal
 pub returns : goal.returns
 returns c = λ stamp inverse.
     let vs = c.args.versions.now.list.items in
+    let count : c.len.result ≡ length c.args.versions.now.list.items =
+    (let n = c.len.ensures in omega (arith, n)) in
+    let there = c.tables_at-newest.ensures
+    ∙ ap (tables_from no_tables (versions_of c.args.versions.now)) count in
     let op = operator_of c.args.op.now in
     let all = with_version (versions_of c.args.versions.now) stamp op inverse in
     let widths = widths_of all c.args.stored (length vs + 1) in
     let shown = subst (λ (w : Widths). Show c.carry.new.widths.entries w)
     (last_step vs stamp op inverse c.tables_at-newest.result.now c.args.stored c.requires.there
-    c.tables_at-newest.ensures)
+    there)
     (c.in_ok-carry.ensures (widths_of (versions_of c.args.versions.now) c.args.stored (length vs))
     c.in_ok-widths.ensures) in
     c.greatest.ensures widths shown

@@ -1,4 +1,4 @@
-use Rattle.std.proofs.Common.{◌≡◌, ◌+◌, ◌-◌, ◌≤◌, ◌<◌, ℕ, suc, List, false, ap, sym, ◌∙◌, length}
+use Rattle.std.proofs.Common.{◌≡◌, ◌+◌, ◌-◌, ◌≤◌, ◌<◌, ℕ, max, ap, sym, subst, ◌∙◌, length}
 use Rattle.std.proofs.Common.{arith}
 use Rattle.std.specs.BTreeSet.{contains}
 use Rattle.std.specs.FinMap.{entries}
@@ -8,8 +8,10 @@ use Rattle.smo_ops_types.specs.Operators.{operator_of, operators_of}
 use Rattle.smo_ops_types.specs.Commands.{versions_of}
 use Rattle.smo_ops_spec.specs.After.{schema_after}
 use Rattle.smo_ops_spec.specs.Past.{no_tables, tables_from}
-use Rattle.smo_ops_widths.specs.Widths.{widths_of, with_version, greatest}
+use Rattle.smo_ops_widths.specs.Widths.{widths_of, with_version, greatest, greatest_of, widest_with}
+use Rattle.smo_ops_widths.specs.Creating.{NameAll}
 use Rattle.smo_ops_widths.specs.Counted.{stopped}
+use Rattle.smo_ops_widths.specs.Shown.{Show}
 use Rattle.smo_ops_widths.proofs.VersionLaws.{version_few, version_accepted, version_leads}
 use Rattle.smo_ops_widths.proofs.VersionLaws.{tables_before, newest_at}
 use Rattle.smo_ops_widths.proofs.WidestSteps.{accepted_here, next_here, inverse_accepted}
@@ -23,8 +25,10 @@ go_back-requires-clause-after c =
     let op = operator_of c.args.op.now in
     let inverse = operators_of c.args.inverse.now in
     let newest = c.tables_at-newest.result.now in
+    let count : c.len-k.result ≡ length c.args.versions.now.list.items =
+    (let n = c.len-k.ensures in omega (arith, n)) in
     let there = c.tables_at-newest.ensures
-    ∙ ap (tables_from no_tables (versions_of c.args.versions.now)) c.len-k.ensures in
+    ∙ ap (tables_from no_tables (versions_of c.args.versions.now)) count in
     c.in_ok-next.ensures.after
     (accepted_here vs op inverse newest c.in_ok-next.next there c.requires.accepted)
 
@@ -34,8 +38,10 @@ go_back-requires-clause-accepted c =
     let op = operator_of c.args.op.now in
     let inverse = operators_of c.args.inverse.now in
     let newest = c.tables_at-newest.result.now in
+    let count : c.len-k.result ≡ length c.args.versions.now.list.items =
+    (let n = c.len-k.ensures in omega (arith, n)) in
     let there = c.tables_at-newest.ensures
-    ∙ ap (tables_from no_tables (versions_of c.args.versions.now)) c.len-k.ensures in
+    ∙ ap (tables_from no_tables (versions_of c.args.versions.now)) count in
     inverse_accepted vs op inverse c.in_ok-next.next
     (next_here vs op inverse newest c.in_ok-next.next there (c.in_ok-next.ensures.after
     (accepted_here vs op inverse newest c.in_ok-next.next there c.requires.accepted)))
@@ -47,8 +53,10 @@ measure_on-requires-clause-next c =
     let op = operator_of c.args.op.now in
     let inverse = operators_of c.args.inverse.now in
     let newest = c.tables_at-newest.result.now in
+    let count : c.len-k.result ≡ length c.args.versions.now.list.items =
+    (let n = c.len-k.ensures in omega (arith, n)) in
     let there = c.tables_at-newest.ensures
-    ∙ ap (tables_from no_tables (versions_of c.args.versions.now)) c.len-k.ensures in
+    ∙ ap (tables_from no_tables (versions_of c.args.versions.now)) count in
     next_here vs op inverse newest c.in_ok-next.next there (c.in_ok-next.ensures.after
     (accepted_here vs op inverse newest c.in_ok-next.next there c.requires.accepted))
 
@@ -58,35 +66,56 @@ loop-k-init c =
     let op = operator_of c.args.op.now in
     let inverse = operators_of c.args.inverse.now in
     let newest = c.tables_at-newest.result.now in
+    let count : c.len-k.result ≡ length c.args.versions.now.list.items =
+    (let n = c.len-k.ensures in omega (arith, n)) in
     let there = c.tables_at-newest.ensures
-    ∙ ap (tables_from no_tables (versions_of c.args.versions.now)) c.len-k.ensures in
+    ∙ ap (tables_from no_tables (versions_of c.args.versions.now)) count in
     let next = next_here vs op inverse newest c.in_ok-next.next there (c.in_ok-next.ensures.after
     (accepted_here vs op inverse newest c.in_ok-next.next there c.requires.accepted)) in
-    let shown = λ stamp. shown_first vs op inverse stamp newest c.in_ok-next.next
+    let shown : (stamp : ℕ) → Show c.go_back.new.widths.entries (widths_of (with_version
+    (versions_of c.args.versions.now) stamp op inverse) (length vs + 1) (length vs)) =
+    λ stamp. shown_first vs op inverse stamp newest c.in_ok-next.next
     c.in_ok-widths.widths.entries c.go_back.new.widths.entries (there ∙ newest_at vs) next
-    c.in_ok-widths.ensures c.in_ok-go_back.ensures in
-    let most = λ stamp.
-    let all = with_version (versions_of c.args.versions.now) stamp op inverse in
-    let widths = widths_of all (length vs + 1) (length vs) in
-    most_first vs op inverse stamp c.max-most.result c.in_ok-on.on c.greatest.result
-    (c.in_ok-on.ensures stamp inverse)
-    (c.greatest.ensures widths (shown stamp)
-    ∙ ap (λ (t : Tables). stopped (greatest (entries t) widths))
-    (there ∙ sym (tables_before vs stamp op inverse (length vs) (omega arith))))
-    c.max-most.ensures in
+    c.in_ok-widths.ensures (c.in_ok-go_back.ensures) in
     record {
-      within = (let k = c.len-k.ensures in omega (arith, k));
+      within = omega (arith, count);
       next = next;
-      shown = shown;
-      named = λ stamp. named_first vs op inverse stamp
-          (contains bytes_cmp c.insert_named.new.names)
-          (λ n f. (c.in_ok-insert_named.ensures n f).1);
-      last = λ stamp. (most stamp).0;
-      most = λ stamp. (most stamp).1;
+      shown = λ stamp.
+          (let all = with_version (versions_of c.args.versions.now) stamp op inverse in
+          subst (λ (n : ℕ). Show c.go_back.new.widths.entries (widths_of all (length vs + 1) n))
+          (sym count) (shown stamp));
+      named = λ stamp.
+          (let all = with_version (versions_of c.args.versions.now) stamp op inverse in
+          subst (λ (n : ℕ). NameAll (contains bytes_cmp c.insert_named.new.names) all n) (sym count)
+          (named_first vs op inverse stamp (contains bytes_cmp c.insert_named.new.names)
+          (λ n f. (c.in_ok-insert_named.ensures n f).1)));
+      last = λ stamp.
+          (let all = with_version (versions_of c.args.versions.now) stamp op inverse in
+          let widths = widths_of all (length vs + 1) (length vs) in
+          most_first vs op inverse stamp c.max-begun.result c.in_ok-on.on c.greatest.result
+          (c.in_ok-on.ensures stamp inverse
+          ∙ ap (λ (n : ℕ). stopped (greatest_of all n (length vs + 1))) count)
+          (c.greatest.ensures widths (shown stamp)
+          ∙ ap (λ (t : Tables). stopped (greatest (entries t) widths))
+          (there ∙ sym (tables_before vs stamp op inverse (length vs) (omega arith))))
+          c.max-begun.ensures).0;
+      most = λ stamp.
+          (let every = with_version (versions_of c.args.versions.now) stamp op inverse in
+          subst (λ (n : ℕ). stopped (widest_with every (length vs + 1) (length vs + 1))
+          ≡ stopped (max c.max-begun.result (widest_with every (length vs + 1) n))) (sym count)
+          (let all = with_version (versions_of c.args.versions.now) stamp op inverse in
+          let widths = widths_of all (length vs + 1) (length vs) in
+          most_first vs op inverse stamp c.max-begun.result c.in_ok-on.on c.greatest.result
+          (c.in_ok-on.ensures stamp inverse
+          ∙ ap (λ (n : ℕ). stopped (greatest_of all n (length vs + 1))) count)
+          (c.greatest.ensures widths (shown stamp)
+          ∙ ap (λ (t : Tables). stopped (greatest (entries t) widths))
+          (there ∙ sym (tables_before vs stamp op inverse (length vs) (omega arith))))
+          c.max-begun.ensures).1);
     }
 
-pub go_back-2-requires-clause-after : goal.go_back-2-requires-clause-after
-go_back-2-requires-clause-after c =
+pub go_back-requires-in-loop-k-clause-after : goal.go_back-requires-in-loop-k-clause-after
+go_back-requires-in-loop-k-clause-after c =
     let vs = c.args.versions.now.list.items in
     let test = c.loop-k-test.true in
     let within = c.loop-k.invariant.within in
@@ -98,8 +127,8 @@ go_back-2-requires-clause-after c =
     ∙ ap (λ (t : Tables). schema_after t (operator_of c.index-version.result.now.op))
     (sym c.tables_at.ensures)
 
-pub go_back-2-requires-clause-accepted : goal.go_back-2-requires-clause-accepted
-go_back-2-requires-clause-accepted c =
+pub go_back-requires-in-loop-k-clause-accepted : goal.go_back-requires-in-loop-k-clause-accepted
+go_back-requires-in-loop-k-clause-accepted c =
     let vs = c.args.versions.now.list.items in
     let test = c.loop-k-test.true in
     let within = c.loop-k.invariant.within in
@@ -108,8 +137,8 @@ go_back-2-requires-clause-accepted c =
     version_accepted vs c.requires.versions j c.index-version.result.now below
     c.index-version.ensures
 
-pub go_back-2-requires-clause-few : goal.go_back-2-requires-clause-few
-go_back-2-requires-clause-few c =
+pub go_back-requires-in-loop-k-clause-few : goal.go_back-requires-in-loop-k-clause-few
+go_back-requires-in-loop-k-clause-few c =
     let vs = c.args.versions.now.list.items in
     let test = c.loop-k-test.true in
     let within = c.loop-k.invariant.within in
@@ -128,11 +157,16 @@ loop-k-preserved c =
     let v = c.index-version.result.now in
     let below : j < length vs = omega (arith, test, within) in
     let behind : j + 1 ≡ c.loop-k.k = omega (arith, test) in
-    let shown = λ stamp. shown_next vs op inverse stamp c.loop-k.k j v c.tables_at.result.now
-    c.loop-k.widths.entries c.go_back-2.new.widths.entries behind below c.index-version.ensures
-    c.tables_at.ensures (c.loop-k.invariant.shown stamp) c.in_ok-go_back-2.ensures in
-    let named = λ stamp. named_next vs op inverse stamp (contains bytes_cmp c.loop-k.names)
-    (contains bytes_cmp c.insert_named-2.new.names) c.loop-k.k j v behind below
+    let shown : (stamp : ℕ) → Show c.go_back-in-loop-k.new.widths.entries (widths_of (with_version
+    (versions_of c.args.versions.now) stamp op inverse) (length vs + 1) (c.loop-k.k - 1)) =
+    λ stamp. shown_next vs op inverse stamp c.loop-k.k j v c.tables_at.result.now
+    c.loop-k.widths.entries c.go_back-in-loop-k.new.widths.entries behind below
+    c.index-version.ensures c.tables_at.ensures (c.loop-k.invariant.shown stamp)
+    c.in_ok-go_back-2.ensures in
+    let named : (stamp : ℕ) → NameAll (contains bytes_cmp c.insert_named-in-loop-k.new.names)
+    (with_version (versions_of c.args.versions.now) stamp op inverse) (c.loop-k.k - 1) =
+    λ stamp. named_next vs op inverse stamp (contains bytes_cmp c.loop-k.names)
+    (contains bytes_cmp c.insert_named-in-loop-k.new.names) c.loop-k.k j v behind below
     c.index-version.ensures c.in_ok-insert_named-2.ensures (c.loop-k.invariant.named stamp) in
     record {
       within = omega (arith, within);
@@ -141,11 +175,15 @@ loop-k-preserved c =
       named = named;
       last = λ stamp.
           (let last = c.loop-k.invariant.last stamp in
-          let more = c.max.ensures in omega (arith, last, more));
-      most = λ stamp. most_next vs op inverse stamp c.loop-k.k j c.loop-k.most c.in_ok-more.more
+          let more = c.max-most.ensures in omega (arith, last, more));
+      most = λ stamp.
+          (let all = with_version (versions_of c.args.versions.now) stamp op inverse in
+          most_next vs op inverse stamp c.loop-k.k j c.loop-k.most c.in_ok-more.more
           (omega (arith, test)) (c.loop-k.invariant.most stamp)
           (c.in_ok-more.ensures stamp inverse (shown stamp) (named stamp) c.loop-k.most
-          (c.loop-k.invariant.last stamp));
+          (c.loop-k.invariant.last stamp))
+          ∙ sym (ap (λ (n : ℕ). stopped (max n (widest_with all (length vs + 1) (c.loop-k.k - 1))))
+          c.max-most.ensures));
     }
 
 pub returns : goal.returns
@@ -154,5 +192,6 @@ returns c = λ stamp.
     let op = operator_of c.args.op.now in
     let inverse = operators_of c.args.inverse.now in
     let test = c.loop-k-test.false in
-    most_last vs op inverse stamp c.loop-k.k c.loop-k.most (omega (arith, test))
+    c.min.ensures
+    ∙ most_last vs op inverse stamp c.loop-k.k c.loop-k.most (omega (arith, test))
     (c.loop-k.invariant.most stamp)
