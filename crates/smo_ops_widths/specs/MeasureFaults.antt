@@ -1,5 +1,5 @@
--- Commands that make a version which is too wide. They are refused only where they are new: a record
--- or an image that has such a version is read.
+-- Commands that make a version which is too wide. They are refused only where they are new: a
+-- record or an image that has such a version is read.
 use Rattle.std.specs.Prelude.{ℕ, nat_le, None}
 use Rattle.prima_base.specs.declared.refusal.Refusal.TheVariants.{TooWide}
 use Rattle.smo_ops_types.specs.Commands.{PlainBody, changing, evolving, PlainCommand}

@@ -8,7 +8,7 @@ pub returns-in-empty : goal.returns-in-empty
 returns-in-empty c = IfOk-weaker c.go_back_unnamed.result _ _ (λ done h. λ k shown s.
     back_by_none k c.args.before.now c.args.after.now (operator_of c.args.op.now)
     c.go_back_unnamed.new.widths.entries shown c.args.inverse.now
-        (let k = c.in-empty.len_below in omega (arith, k))
+    (let k = c.in-empty.len_below in omega (arith, k))
     (h (k, 1) shown s)) c.go_back_unnamed.ensures
 
 pub returns-in-len1-up : goal.returns-in-len1-up
