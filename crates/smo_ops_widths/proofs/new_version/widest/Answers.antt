@@ -1,12 +1,14 @@
 use Rattle.std.proofs.Common.{◌≡◌, ◌+◌, ◌-◌, ◌≤◌, ◌<◌, ℕ, max, ap, sym, subst, ◌∙◌, length}
-use Rattle.std.proofs.Common.{arith}
+use Rattle.std.proofs.Common.{List, arith}
 use Rattle.std.specs.BTreeSet.{contains}
 use Rattle.std.specs.FinMap.{entries}
 use Rattle.prima_base.specs.Order.{bytes_cmp}
 use Rattle.schema_catalog.specs.Tables.{Tables}
+use Rattle.smo_ops_types.specs.declared.op.Op.{Op}
 use Rattle.smo_ops_types.specs.Operators.{operator_of, operators_of}
 use Rattle.smo_ops_types.specs.Commands.{versions_of}
-use Rattle.smo_ops_spec.specs.After.{schema_after}
+use Rattle.smo_ops_spec.specs.After.{schema_after, HaveFewNodes}
+use Rattle.smo_ops_spec.specs.Inverses.{AllOperatorsAccepted}
 use Rattle.smo_ops_spec.specs.Past.{no_tables, tables_from}
 use Rattle.smo_ops_widths.specs.Widths.{widths_of, with_version, greatest, greatest_of, widest_with}
 use Rattle.smo_ops_widths.specs.Creating.{NameAll}
@@ -14,7 +16,7 @@ use Rattle.smo_ops_widths.specs.Counted.{stopped}
 use Rattle.smo_ops_widths.specs.Shown.{Show}
 use Rattle.smo_ops_widths.proofs.VersionLaws.{version_few, version_accepted, version_leads}
 use Rattle.smo_ops_widths.proofs.VersionLaws.{tables_before, newest_at}
-use Rattle.smo_ops_widths.proofs.WidestSteps.{accepted_here, next_here, inverse_accepted}
+use Rattle.smo_ops_widths.proofs.WidestSteps.{GoesBack, accepted_here, next_here, inverse_accepted}
 use Rattle.smo_ops_widths.proofs.WidestSteps.{shown_first, shown_next, most_first, most_next}
 use Rattle.smo_ops_widths.proofs.WidestSteps.{most_last, named_first, named_next}
 use Rattle.smo_ops_widths.proofs.new_version.widest.Goals as goal
@@ -134,8 +136,10 @@ go_back-requires-in-loop-k-clause-accepted c =
     let within = c.loop-k.invariant.within in
     let j = c.loop-k.k - 1 in
     let below : j < length vs = omega (arith, test, within) in
-    version_accepted vs c.requires.versions j c.index-version.result.now below
-    c.index-version.ensures
+    subst (λ (ops : List Op). AllOperatorsAccepted c.index-version.result.now.schema
+    (operators_of ops)) (sym c.deref.ensures.value)
+    (version_accepted vs c.requires.versions j c.index-version.result.now below
+    c.index-version.ensures)
 
 pub go_back-requires-in-loop-k-clause-few : goal.go_back-requires-in-loop-k-clause-few
 go_back-requires-in-loop-k-clause-few c =
@@ -144,7 +148,8 @@ go_back-requires-in-loop-k-clause-few c =
     let within = c.loop-k.invariant.within in
     let j = c.loop-k.k - 1 in
     let below : j < length vs = omega (arith, test, within) in
-    version_few vs c.requires.versions j c.index-version.result.now below c.index-version.ensures
+    subst (λ (ops : List Op). HaveFewNodes (operators_of ops)) (sym c.deref.ensures.value)
+    (version_few vs c.requires.versions j c.index-version.result.now below c.index-version.ensures)
 
 pub loop-k-preserved : goal.loop-k-preserved
 loop-k-preserved c =
@@ -162,7 +167,9 @@ loop-k-preserved c =
     λ stamp. shown_next vs op inverse stamp c.loop-k.k j v c.tables_at.result.now
     c.loop-k.widths.entries c.go_back-in-loop-k.new.widths.entries behind below
     c.index-version.ensures c.tables_at.ensures (c.loop-k.invariant.shown stamp)
-    c.in_ok-go_back-2.ensures in
+    (subst (λ (ops : List Op). GoesBack c.loop-k.widths.entries
+    c.go_back-in-loop-k.new.widths.entries c.tables_at.result.now (operator_of v.op) v.schema
+    (operators_of ops)) c.deref.ensures.value c.in_ok-go_back-2.ensures) in
     let named : (stamp : ℕ) → NameAll (contains bytes_cmp c.insert_named-in-loop-k.new.names)
     (with_version (versions_of c.args.versions.now) stamp op inverse) (c.loop-k.k - 1) =
     λ stamp. named_next vs op inverse stamp (contains bytes_cmp c.loop-k.names)
