@@ -1,10 +1,8 @@
 -- What operators make of widths whose numbers are in a relation, which sums, products and greater
 -- ones keep, is so too: as of numbers that are one where they stop.
-use Rattle.std.proofs.Common.{◌≡◌, ◌+◌, ◌*◌, ℕ, Bool, true, false, List, [], ◌∷◌, max, refl, ap}
-use Rattle.std.proofs.Common.{sym}
+use Rattle.std.proofs.Common.{◌≡◌, ◌+◌, ◌*◌, ℕ, Bool, true, false, List, [], ◌∷◌, max, refl}
 use Rattle.std.proofs.Common.{◌∙◌}
 use Rattle.std.specs.Prelude.{if◌then◌else◌, Option, Some, None}
-use Rattle.std.specs.Option.{option_map}
 use Rattle.prima_base.specs.Columns.{Column, names_of}
 use Rattle.cond_expr.specs.Trees.{Tree, Trees, Test, Tests, column, constant, length_of, joined}
 use Rattle.cond_expr.specs.Trees.{choose, no_trees, a_tree, never, always, compared, all_of}
@@ -12,9 +10,9 @@ use Rattle.cond_expr.specs.Trees.{some_of, fails, no_tests, a_test}
 use Rattle.smo_ops_spec.specs.OneRow.{same}
 use Rattle.smo_ops_spec.specs.Preconditions.{among}
 use Rattle.smo_ops_widths.specs.Widths.{Width, Sizes, sized, trees_sized, test_sized}
-use Rattle.smo_ops_widths.specs.Widths.{tests_sized, a_width, with_size, sized_as}
+use Rattle.smo_ops_widths.specs.Widths.{tests_sized, with_size, sized_as}
 use Rattle.smo_ops_widths.specs.Widths.{merged_width, part_width, joined_width, equalities}
-use Rattle.smo_ops_widths.specs.Widths.{size_of_both, of_both, sum_of_sizes, measure}
+use Rattle.smo_ops_widths.specs.Widths.{size_of_both, sum_of_sizes, measure}
 use Rattle.smo_ops_widths.specs.Widths.{measure_of}
 use Rattle.smo_ops_widths.specs.Counted.{stopped, AreBy, SameStopped, AreAlike, MayBeAlike}
 use Rattle.smo_ops_widths.proofs.StoppedLaws.{add_stopped, max_stopped, mul_stopped}

@@ -1,5 +1,5 @@
 -- One name, or two, inserted into a set of names.
-use Rattle.std.proofs.Common.{◌≡◌, ℕ, Bool, true, false, List, [], ◌∷◌, refl, sym, ap, subst, ◌∙◌}
+use Rattle.std.proofs.Common.{◌≡◌, ℕ, Bool, true, false, List, [], ◌∷◌, refl, sym, ap, ◌∙◌}
 use Rattle.std.specs.Prelude.{cond, ◌||◌, Option, Some, None}
 use Rattle.smo_ops_spec.specs.OneRow.{same}
 use Rattle.smo_ops_spec.specs.Preconditions.{among}

@@ -1,20 +1,19 @@
 -- What an operator that creates no table makes of tables that are read from their own version is at
 -- least as wide as the next version's own tables.
-use Rattle.std.proofs.Common.{◌≡◌, ◌+◌, ◌*◌, ◌≤◌, ◌<◌, ℕ, Bool, true, false, List, [], ◌∷◌, max}
+use Rattle.std.proofs.Common.{◌≡◌, ◌≤◌, ℕ, Bool, true, false, List, [], ◌∷◌}
 use Rattle.std.proofs.Common.{refl}
 use Rattle.std.proofs.Common.{ap, sym, subst, ◌∙◌, map, arith}
 use Rattle.std.specs.Prelude.{cond, is_some, if◌then◌else◌, Option, Some, None, ⊤}
 use Rattle.std.specs.Option.{option_map}
 use Rattle.std.specs.BTreeMap.{is_at}
-use Rattle.std.specs.FinMap.{get, find, insert, remove, entries, from_entries, get-insert}
+use Rattle.std.specs.FinMap.{get, find, insert, remove, entries, get-insert}
 use Rattle.std.specs.FinMap.{get-remove, get-entries}
-use Rattle.std.specs.FinMap.{get-from_entries, contains_key}
+use Rattle.std.specs.FinMap.{get-from_entries}
 use Rattle.std.specs.Cmp.Lexicographic.{nat_list_cmp_total}
 use Rattle.prima_base.specs.Order.{bytes_cmp}
 use Rattle.prima_base.specs.Columns.{Column, names_of}
 use Rattle.schema_catalog.specs.Tables.{Tables}
-use Rattle.cond_expr.specs.Trees.{Tree, Test, column, constant, length_of, joined, choose, never}
-use Rattle.cond_expr.specs.Trees.{always, compared, all_of, some_of, fails}
+use Rattle.cond_expr.specs.Trees.{Tree, Test, column, constant, length_of, joined, choose}
 use Rattle.smo_ops_types.specs.Operators.{Operator, nop, create_table, drop_table, rename_table}
 use Rattle.smo_ops_types.specs.Operators.{copy_table, merge_table, partition_table, decompose_table}
 use Rattle.smo_ops_types.specs.Operators.{join_table, add_column, drop_column, rename_column}
@@ -27,8 +26,8 @@ use Rattle.smo_ops_spec.proofs.StepLaws.{AllMet}
 use Rattle.smo_ops_spec.proofs.NextSchemas.{all_preconditions, is_table}
 use Rattle.smo_ops_widths.specs.Widths.{Width, Widths, own_width, own_widths, made_widths, of_both}
 use Rattle.smo_ops_widths.specs.Widths.{part_width, merged_width, joined_width, with_size, sized_as}
-use Rattle.smo_ops_widths.specs.Widths.{sized, test_sized, no_width, put_width, put_widths}
-use Rattle.smo_ops_widths.specs.Widths.{widths_over, equalities}
+use Rattle.smo_ops_widths.specs.Widths.{sized, no_width, put_width, put_widths}
+use Rattle.smo_ops_widths.specs.Widths.{widths_over}
 use Rattle.smo_ops_widths.specs.Creating.{creates}
 use Rattle.smo_ops_widths.specs.Counted.{AreBy}
 use Rattle.smo_ops_widths.proofs.ShownLaws.{put_at}

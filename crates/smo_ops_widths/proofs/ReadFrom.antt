@@ -1,5 +1,5 @@
 -- What is read from a version that creates no table need not be measured.
-use Rattle.std.proofs.Common.{◌≡◌, ◌+◌, ◌<◌, ◌≤◌, ℕ, suc, false, List, [], ◌∷◌, max, refl, sym, ap}
+use Rattle.std.proofs.Common.{◌≡◌, ◌+◌, ◌≤◌, ℕ, suc, false, List, sym, ap}
 use Rattle.std.proofs.Common.{subst, ◌∙◌, arith}
 use Rattle.std.specs.Prelude.{Some, None, slice_get}
 use Rattle.std.specs.FinMap.{entries}
@@ -7,7 +7,7 @@ use Rattle.schema_catalog.specs.Tables.{Tables}
 use Rattle.smo_ops_types.specs.Commands.{PlainVersion}
 use Rattle.smo_ops_spec.specs.After.{op_fault, schema_after}
 use Rattle.smo_ops_spec.specs.Past.{no_tables, tables_from}
-use Rattle.smo_ops_versions_spec.specs.Steps.{Step, taken}
+use Rattle.smo_ops_versions_spec.specs.Steps.{taken}
 use Rattle.smo_ops_versions_spec.specs.Ways.{over_version, way}
 use Rattle.smo_ops_versions_spec.proofs.StepLaws.{taken_so}
 use Rattle.smo_ops_versions_spec.proofs.WaySteps.{taken_stays, taken_forward, taken_forward_by}

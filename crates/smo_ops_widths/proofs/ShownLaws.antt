@@ -7,7 +7,7 @@ use Rattle.std.specs.Option.{option_map}
 use Rattle.std.specs.Map.{lookup}
 use Rattle.std.specs.BTreeMap.{is_at}
 use Rattle.std.specs.Cmp.{eq_by_cmp_equiv}
-use Rattle.std.specs.FinMap.{FinMap, get, find, insert, remove, from_entries, get-insert}
+use Rattle.std.specs.FinMap.{get, find, remove, get-insert}
 use Rattle.std.specs.FinMap.{get-remove}
 use Rattle.std.specs.FinMap.{get-from_entries, entries}
 use Rattle.std.specs.Cmp.Lexicographic.{nat_list_cmp_total}

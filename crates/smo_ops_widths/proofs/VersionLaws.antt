@@ -2,24 +2,23 @@
 use Rattle.std.proofs.Common.{◌≡◌, ◌+◌, ◌-◌, ◌<◌, ◌≤◌, ℕ, zero, suc, List, [], ◌∷◌, ◌++◌, map}
 use Rattle.std.proofs.Common.{length}
 use Rattle.std.proofs.Common.{get_or, refl, sym, ap, subst, ◌∙◌, arith}
-use Rattle.std.specs.Prelude.{Option, Some, None, slice_get}
+use Rattle.std.specs.Prelude.{Some, None, slice_get}
 use Rattle.std.specs.Option.{option_map}
 use Rattle.std.proofs.lemmas.Option.{slice_get-get_or, slice_get-map}
 use Rattle.schema_catalog.specs.Tables.{Tables}
 use Rattle.smo_ops_types.specs.declared.version.Version.{Version}
 use Rattle.smo_ops_types.specs.Operators.{Operator, operator_of, operators_of}
 use Rattle.smo_ops_types.specs.Commands.{PlainVersion, version_of}
-use Rattle.smo_ops_spec.specs.After.{op_fault, schema_after, HaveFewNodes}
+use Rattle.smo_ops_spec.specs.After.{schema_after, HaveFewNodes}
 use Rattle.smo_ops_spec.specs.Inverses.{inverse_fault, AllOperatorsAccepted}
 use Rattle.smo_ops_spec.specs.Past.{no_tables, tables_from, newest_from}
 use Rattle.smo_ops_spec.specs.ValidPast.{AreVersions}
 use Rattle.smo_ops_spec.proofs.CountedOperators.{counted_inverse}
 use Rattle.smo_ops_spec.proofs.PastMoments.{newest_tables_from, tables_added}
 use Rattle.smo_ops_spec.proofs.ValidInverses.{accepted_leads_back}
-use Rattle.smo_ops_versions_spec.specs.Steps.{Step, carrying, taken}
+use Rattle.smo_ops_versions_spec.specs.Steps.{Step, taken}
 use Rattle.smo_ops_versions_spec.specs.Ways.{back_over, over_version, back_over_version, to_next}
-use Rattle.smo_ops_versions_spec.specs.Ways.{from_next}
-use Rattle.smo_ops_widths.specs.Widths.{Widths, widths_over, widths_stepped, widths_of}
+use Rattle.smo_ops_widths.specs.Widths.{widths_over, widths_stepped, widths_of}
 use Rattle.smo_ops_widths.specs.Widths.{own_widths, with_version}
 use Rattle.smo_ops_versions_spec.proofs.VersionSteps.{Leads, leads}
 use Rattle.smo_ops_versions_spec.proofs.WaySteps.{taken_stays, taken_forward, taken_backward}

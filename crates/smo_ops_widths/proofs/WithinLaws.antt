@@ -1,13 +1,13 @@
 -- A version that creates no table need not be read from: read from the version before, each table
 -- is at least as wide.
-use Rattle.std.proofs.Common.{◌≡◌, ◌+◌, ◌*◌, ◌≤◌, ◌<◌, ℕ, Bool, true, false, List, [], ◌∷◌, max}
+use Rattle.std.proofs.Common.{◌≡◌, ◌≤◌, ℕ, Bool, true, false, List, [], ◌∷◌}
 use Rattle.std.proofs.Common.{length, refl}
-use Rattle.std.proofs.Common.{ap, sym, subst, ◌∙◌, map, arith}
+use Rattle.std.proofs.Common.{sym, subst, arith}
 use Rattle.std.proofs.lemmas.Nat.{mul-le}
-use Rattle.std.specs.Prelude.{cond, ◌||◌, is_some, if◌then◌else◌, Option, Some, None, ⊤}
+use Rattle.std.specs.Prelude.{cond, Option, Some, None, ⊤}
 use Rattle.std.specs.Option.{option_map}
 use Rattle.std.specs.BTreeMap.{is_at}
-use Rattle.std.specs.FinMap.{get, insert, remove, get-insert, get-remove}
+use Rattle.std.specs.FinMap.{get, remove, get-remove}
 use Rattle.std.specs.Cmp.Lexicographic.{nat_list_cmp_total}
 use Rattle.prima_base.specs.Order.{bytes_cmp}
 use Rattle.prima_base.specs.Columns.{Column}
@@ -19,7 +19,7 @@ use Rattle.smo_ops_spec.specs.Effects.{columns_of}
 use Rattle.smo_ops_spec.specs.OperatorTable.{line, made_names}
 use Rattle.smo_ops_spec.specs.WaysBack.{blank, filled_with}
 use Rattle.smo_ops_versions_spec.specs.Steps.{Step, carrying, filling, undoing}
-use Rattle.smo_ops_widths.specs.Widths.{Width, Widths, a_width, own_width, made_widths, of_both}
+use Rattle.smo_ops_widths.specs.Widths.{Width, Widths, made_widths, of_both}
 use Rattle.smo_ops_widths.specs.Widths.{part_width, merged_width, joined_width, with_size, sized_as}
 use Rattle.smo_ops_widths.specs.Widths.{sized, no_width, put_width, put_widths, widths_over}
 use Rattle.smo_ops_widths.specs.Widths.{widths_stepped, measure_of, greatest}

@@ -9,7 +9,7 @@ use Rattle.smo_ops_spec.specs.OneRow.{same}
 use Rattle.smo_ops_spec.specs.Past.{no_tables}
 use Rattle.prima_base.specs.declared.value.ColType.TheVariants.{Int as INT, Text as TEXT}
 use Rattle.prima_base.specs.Columns.{Column}
-use Rattle.smo_ops_widths.specs.Widths.{Width, a_width, made_widths, measure_of, own_width}
+use Rattle.smo_ops_widths.specs.Widths.{Width, made_widths, measure_of, own_width}
 use Rattle.smo_ops_widths.specs.Widths.{joined_width, measure}
 use Rattle.smo_ops_versions_spec.proofs.WorkedWords.{a, k, x, y, r, s, t, int, at_atom}
 use Rattle.smo_ops_versions_spec.proofs.WorkedWords.{a_columns, kx_columns, ky_columns}

@@ -1,4 +1,4 @@
-use Rattle.std.proofs.Common.{◌≡◌, ◌+◌, ◌≤◌, ℕ, List, ap, ◌∙◌, arith}
+use Rattle.std.proofs.Common.{ℕ, List, ap, ◌∙◌, arith}
 use Rattle.std.specs.FinMap.{entries, len-entries}
 use Rattle.prima_base.specs.Columns.{Column}
 use Rattle.smo_ops_widths.specs.Widths.{greatest}

@@ -1,4 +1,4 @@
-use Rattle.std.proofs.Common.{Bool, true, List, ℕ, ap, ◌∙◌}
+use Rattle.std.proofs.Common.{true, List, ℕ, ap, ◌∙◌}
 use Rattle.std.specs.Prelude.{cond}
 use Rattle.std.specs.BTreeSet.{contains}
 use Rattle.prima_base.specs.Order.{bytes_cmp, same}

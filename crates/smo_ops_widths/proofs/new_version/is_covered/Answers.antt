@@ -1,4 +1,4 @@
-use Rattle.std.proofs.Common.{◌≡◌, ◌+◌, ◌-◌, ◌<◌, ◌≤◌, length, sym, ◌∙◌, arith}
+use Rattle.std.proofs.Common.{sym, ◌∙◌, arith}
 use Rattle.smo_ops_spec.proofs.TouchedTables.{opposite}
 use Rattle.smo_ops_widths.proofs.new_version.is_covered.Goals as goal
 

@@ -1,4 +1,4 @@
-use Rattle.std.proofs.Common.{◌≡◌, ◌+◌, ◌-◌, ◌≤◌, ◌<◌, ℕ, suc, max, sym, ap, subst, ◌∙◌, length}
+use Rattle.std.proofs.Common.{◌+◌, ◌-◌, ◌≤◌, ℕ, max, sym, ap, ◌∙◌, length}
 use Rattle.std.proofs.Common.{arith}
 use Rattle.std.specs.FinMap.{entries}
 use Rattle.std.specs.BTreeSet.{contains}
@@ -6,8 +6,7 @@ use Rattle.prima_base.specs.Order.{bytes_cmp}
 use Rattle.schema_catalog.specs.Tables.{Tables}
 use Rattle.smo_ops_types.specs.Operators.{operator_of}
 use Rattle.smo_ops_types.specs.Commands.{versions_of}
-use Rattle.smo_ops_spec.specs.Past.{no_tables, tables_from}
-use Rattle.smo_ops_widths.specs.Widths.{Widths, widths_of, with_version, greatest, greatest_of}
+use Rattle.smo_ops_widths.specs.Widths.{widths_of, with_version, greatest, greatest_of}
 use Rattle.smo_ops_widths.specs.Widths.{widest_with}
 use Rattle.smo_ops_widths.specs.Counted.{stopped}
 use Rattle.smo_ops_widths.proofs.StoppedLaws.{both_read, back_read}

@@ -1,4 +1,4 @@
-use Rattle.std.proofs.Common.{◌≡◌, ◌+◌, ◌-◌, ◌≤◌, ◌<◌, ℕ, max, ap, sym, subst, ◌∙◌, length}
+use Rattle.std.proofs.Common.{◌≡◌, ◌+◌, ◌-◌, ◌<◌, ℕ, max, ap, sym, subst, ◌∙◌, length}
 use Rattle.std.proofs.Common.{List, arith}
 use Rattle.std.specs.BTreeSet.{contains}
 use Rattle.std.specs.FinMap.{entries}

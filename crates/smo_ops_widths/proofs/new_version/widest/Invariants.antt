@@ -1,4 +1,4 @@
-use Rattle.std.proofs.Common.{◌≡◌, ◌≤◌, ◌+◌, ◌-◌, ℕ, length, min, max}
+use Rattle.std.proofs.Common.{◌≡◌, ◌≤◌, ◌+◌, ℕ, length, min, max}
 use Rattle.std.specs.BTreeSet.{contains}
 use Rattle.prima_base.specs.Order.{bytes_cmp}
 use Rattle.smo_ops_types.specs.Operators.{operator_of, operators_of}

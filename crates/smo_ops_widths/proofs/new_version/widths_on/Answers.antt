@@ -1,5 +1,4 @@
-use Rattle.std.proofs.Common.{◌≡◌, ◌+◌, ◌≤◌, ◌<◌, sym, ap, subst, ◌∙◌, length, arith}
-use Rattle.smo_ops_types.specs.Operators.{operator_of}
+use Rattle.std.proofs.Common.{◌≡◌, sym, ap, subst, ◌∙◌, length, arith}
 use Rattle.smo_ops_types.specs.Commands.{versions_of}
 use Rattle.smo_ops_spec.specs.Past.{no_tables, tables_from}
 use Rattle.smo_ops_versions_spec.proofs.WaySteps.{taken_stays}

@@ -1,4 +1,4 @@
-use Rattle.std.proofs.Common.{◌≡◌, ◌≤◌, ◌-◌, length}
+use Rattle.std.proofs.Common.{◌≤◌, ◌-◌, length}
 use Rattle.smo_ops_types.specs.Commands.{versions_of}
 use Rattle.smo_ops_widths.specs.Widths.{widths_of}
 use Rattle.smo_ops_widths.specs.Shown.{Show}

@@ -1,9 +1,9 @@
-use Rattle.std.proofs.Common.{◌≡◌, ℕ, List, sym, ap, subst, ◌∙◌}
+use Rattle.std.proofs.Common.{List, sym, subst}
 use Rattle.std.specs.FinMap.{get}
 use Rattle.prima_base.specs.Columns.{Column}
 use Rattle.schema_catalog.specs.Tables.{columns_of}
 use Rattle.cond_expr.specs.Seen.{test}
-use Rattle.smo_ops_widths.specs.Widths.{Width, joined_width}
+use Rattle.smo_ops_widths.specs.Widths.{joined_width}
 use Rattle.smo_ops_widths.specs.Counted.{AreAlike, SameStopped}
 use Rattle.smo_ops_widths.specs.Shown.{width_of}
 use Rattle.smo_ops_widths.proofs.AlikeLaws.{same_stopped, joined_so}

@@ -1,4 +1,4 @@
-use Rattle.std.proofs.Common.{◌≡◌, ◌+◌, ◌*◌, ◌++◌, ℕ, List, [], map, min, sym, ap, ◌∙◌, arith}
+use Rattle.std.proofs.Common.{◌≡◌, ◌*◌, ◌++◌, ℕ, List, map, ap, ◌∙◌, arith}
 use Rattle.prima_base.specs.Columns.{Column}
 use Rattle.cond_expr.specs.Seen.{test}
 use Rattle.smo_ops_widths.specs.Widths.{size_of_both, test_sized, equalities}

@@ -1,10 +1,9 @@
-use Rattle.std.proofs.Common.{◌≡◌, ◌+◌, ◌≤◌, ℕ, List, [], sym, ap, subst, ◌∙◌, arith, drop}
+use Rattle.std.proofs.Common.{◌≡◌, ◌+◌, ℕ, List, sym, subst, ◌∙◌, arith, drop}
 use Rattle.std.specs.Prelude.{cond, Option, Some, None}
 use Rattle.std.specs.Map.{lookup}
 use Rattle.std.specs.BTreeMap.{is_at}
 use Rattle.prima_base.specs.Order.{bytes_cmp}
-use Rattle.std.specs.Option.{option_map}
-use Rattle.std.specs.FinMap.{entries, get, len-entries}
+use Rattle.std.specs.FinMap.{entries, len-entries}
 use Rattle.prima_base.specs.Columns.{Column}
 use Rattle.smo_ops_spec.specs.Preconditions.{among}
 use Rattle.smo_ops_spec.specs.Checks.{pair_names}

@@ -1,4 +1,4 @@
-use Rattle.std.proofs.Common.{◌≡◌, ◌≤◌, ◌-◌, ℕ, List, drop}
+use Rattle.std.proofs.Common.{◌≤◌, ◌-◌, ℕ, List, drop}
 use Rattle.std.specs.Prelude.{None}
 use Rattle.std.specs.FinMap.{entries, len}
 use Rattle.smo_ops_spec.specs.Preconditions.{among}
