@@ -1,7 +1,13 @@
-use Rattle.std.proofs.Common.{subst}
+use Rattle.std.proofs.Common.{◌≡◌, List, sym, ap, subst}
+use Rattle.std.specs.Prelude.{None}
 use Rattle.prima_base.specs.Faults.{IsTested}
-use Rattle.smo_ops_types.specs.Operators.{operator_of, operators_of}
+use Rattle.smo_ops_types.specs.Operators.{Operator, operator_of, operators_of}
+use Rattle.smo_ops_types.specs.Commands.{versions_of}
 use Rattle.smo_ops_spec.specs.Checks.{Fault}
+use Rattle.smo_ops_spec.specs.After.{HaveFewNodes}
+use Rattle.smo_ops_spec.specs.Inverses.{inverse_fault}
+use Rattle.smo_ops_spec.specs.Past.{no_tables, newest_from}
+use Rattle.smo_ops_widths.specs.Widths.{widest, with_version}
 use Rattle.archive_core_state.proofs.AcceptedWidths.{past_versions, operator_met, inverse_met}
 use Rattle.archive_core_state.proofs.AcceptedWidths.{few_nodes, few_nodes_each, measured}
 use Rattle.archive_core_state.proofs.width.check_version.Goals as goal
@@ -19,8 +25,11 @@ widest-requires-clause-accepted c =
 pub widest-requires-clause-inverse : goal.widest-requires-clause-inverse
 widest-requires-clause-inverse c =
     let v = c.args.version.now in
-    inverse_met c.args.groups.now c.requires.0 c.requires.1 c.versions.result.now
-    c.versions.ensures v.stamp (operator_of v.op) (operators_of v.inverse.items) c.requires.2
+    subst (λ (inverse : List Operator). inverse_fault (newest_from no_tables (versions_of
+    c.versions.result.now)) (operator_of v.op) inverse ≡ None)
+    (sym (ap operators_of c.deref.ensures.value))
+    (inverse_met c.args.groups.now c.requires.0 c.requires.1 c.versions.result.now
+    c.versions.ensures v.stamp (operator_of v.op) (operators_of v.inverse.items) c.requires.2)
 
 pub widest-requires-clause-operator : goal.widest-requires-clause-operator
 widest-requires-clause-operator c =
@@ -31,13 +40,17 @@ widest-requires-clause-operator c =
 pub widest-requires-clause-few : goal.widest-requires-clause-few
 widest-requires-clause-few c =
     let v = c.args.version.now in
-    few_nodes_each c.args.groups.now c.requires.0 c.requires.1 c.versions.result.now
-    c.versions.ensures v.stamp (operator_of v.op) (operators_of v.inverse.items) c.requires.2
+    subst HaveFewNodes (sym (ap operators_of c.deref.ensures.value))
+    (few_nodes_each c.args.groups.now c.requires.0 c.requires.1 c.versions.result.now
+    c.versions.ensures v.stamp (operator_of v.op) (operators_of v.inverse.items) c.requires.2)
 
-pub returns-in_ok-measure : goal.returns-in_ok-measure
-returns-in_ok-measure c past represents =
+pub returns : goal.returns
+returns c past represents =
     let v = c.args.version.now in
+    let measure = subst (λ (inverse : List Operator). c.in_ok-measure.measure ≡ widest
+        (with_version (versions_of c.versions.result.now) v.stamp (operator_of v.op) inverse))
+        (ap operators_of c.deref.ensures.value) (c.in_ok-measure.ensures v.stamp) in
     subst (λ (fault : Fault). IsTested fault c.check_measure.result)
     (measured c.args.groups.now past represents c.versions.result.now c.versions.ensures v.stamp
-    (operator_of v.op) (operators_of v.inverse.items) c.in_ok-measure.measure
-    (c.in_ok-measure.ensures v.stamp)) c.check_measure.ensures
+    (operator_of v.op) (operators_of v.inverse.items) c.in_ok-measure.measure measure)
+    c.check_measure.ensures
