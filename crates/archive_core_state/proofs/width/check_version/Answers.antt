@@ -48,8 +48,8 @@ pub returns : goal.returns
 returns c past represents =
     let v = c.args.version.now in
     let measure = subst (λ (inverse : List Operator). c.in_ok-measure.measure ≡ widest
-        (with_version (versions_of c.versions.result.now) v.stamp (operator_of v.op) inverse))
-        (ap operators_of c.deref.ensures.value) (c.in_ok-measure.ensures v.stamp) in
+    (with_version (versions_of c.versions.result.now) v.stamp (operator_of v.op) inverse))
+    (ap operators_of c.deref.ensures.value) (c.in_ok-measure.ensures v.stamp) in
     subst (λ (fault : Fault). IsTested fault c.check_measure.result)
     (measured c.args.groups.now past represents c.versions.result.now c.versions.ensures v.stamp
     (operator_of v.op) (operators_of v.inverse.items) c.in_ok-measure.measure measure)
