@@ -148,11 +148,11 @@ impl<D: Disk> Archive<D> {
     /// an earlier call has answered `Disk`. Then come the refusals in the one order, as those of
     /// the archive in memory; after them `TooWide`, exactly where an operator makes a version whose
     /// measure is above 1,000,000; and after it `JournalFull`, exactly where the record would end
-    /// past the limit. `Disk` comes only where the disk's count of faults rose: the file then has the
-    /// record or not. All memory is taken before the first call of the device. At each moment of
-    /// the call a crash leaves the records before, with the command's or without; after `Ok` every
-    /// crash leaves it. After `Ok` the archive represents the past with the command, and else the
-    /// past that it represented.
+    /// past the limit. `Disk` comes only where the disk's count of faults rose: the file then has
+    /// the record or not. All memory is taken before the first call of the device. At each moment
+    /// of the call a crash leaves the records before, with the command's or without; after `Ok`
+    /// every crash leaves it. After `Ok` the archive represents the past with the command, and else
+    /// the past that it represented.
     pub fn commit(&mut self, command: Command) -> Result<Done, CommitFault>
         ensures broken { (result ≡ Err fault.Broken) ↔ (is_broken self.old ≡ true) }
         ensures breaks { (is_broken self.new ≡ true)
