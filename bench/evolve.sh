@@ -3,7 +3,10 @@
 # otherwise, ascending), over the built program: the seconds of the inserts alone, then of 500 NOPs
 # after them, of a PARTITION with a MERGE, and of a DECOMPOSE with a JOIN; and the most memory in
 # KiB of the inserts alone and with the NOPs. An operator costs what it is given and makes: NOPs
-# take as long whatever the rows are, and the others grow as the rows do.
+# take as long whatever the rows are, and the others grow as the rows do. Then ten operators behind
+# ten versions, and ten behind 500, over tables of no rows, in milliseconds for one: the measure of
+# what an operator makes is taken over all versions before it, in one pass back and one forward, and
+# the second is to be at most a few times the first.
 set -eu
 top=$(cd "$(dirname "$0")/.." && pwd)
 "$top/prima" </dev/null >/dev/null || [ $? -eq 2 ] # builds what is missing; no words, no archive
@@ -45,4 +48,20 @@ for n in sizes:
     more = [play(rows + after) for after in (nops, parts, joined)]
     print(f"{n:>8} {alone:>9.3f} {more[0][0] - alone:>9.3f} {more[1][0] - alone:>9.3f} "
           f"{more[2][0] - alone:>9.3f} {least:>8} {more[0][1]:>9}")
+
+
+def versions(count):
+    ops = ["ADD COLUMN c AS a INTO t", "DROP COLUMN c FROM t", "RENAME TABLE t INTO u",
+        "RENAME TABLE u INTO t"]
+    return (["AT 1 EVOLVE CREATE TABLE t (a INT, b INT);"]
+        + [f"AT {2 + i} EVOLVE {ops[i % 4]};" for i in range(count - 1)])
+
+
+def one_more(count):
+    """The milliseconds of an operator behind so many versions: the least of five tries."""
+    return min(play(versions(count + 10))[0] - play(versions(count))[0] for _ in range(5)) * 100
+
+
+few, many = one_more(10), one_more(500)
+print(f"an operator behind 10 versions {few:.2f} ms, behind 500 versions {many:.2f} ms")
 PYTHON

@@ -1,9 +1,10 @@
 #!/usr/bin/env bash
-# Lets each call of the program fail in turn: over four scripts the k-th allocation, read, write,
+# Lets each call of the program fail in turn: over six scripts and a sample the k-th allocation, read, write,
 # write of the file and sync fails, comes short or is interrupted, k rising from 1 until a run meets
 # no such call (bench/faults.c does it, loaded by LD_PRELOAD). The status is that of the fault (7,
 # 3, 4, 5), or the run goes on as if nothing had been; and then the file opens and holds all that was
-# acknowledged, and at most one command more; with status 7 just what was acknowledged. PROGRAM
+# acknowledged, and at most one command more; with status 7 just what was acknowledged. Of a sample,
+# which tells no command by itself, the file opens with the first ones of the whole run. PROGRAM
 # names another build. It needs a C compiler.
 set -eu
 top=$(cd "$(dirname "$0")/.." && pwd)
@@ -32,6 +33,17 @@ SCRIPTS = [
         b"AT 4 INSERT INTO u (a) VALUES (2);\nQUERY VERSION 1 SELECT a FROM t;\n",
     TABLE + b"SHOW VERSIONS;\nEXPLAIN QUERY VERSION 1 SELECT a FROM t;\nnot a statement;\n"
         b"AT 9 INSERT INTO t (a) VALUES (9);\nSHOW SIZES;\n",
+    b"AT 1 EVOLVE CREATE TABLE t (a INT, b TEXT);\nAT 5 INSERT INTO t (a, b) VALUES (1, 'x');\n"
+        b"AT 7 UPDATE t SET b = 'y' WHERE a = 1;\n"
+        b"AT 9 EVOLVE RENAME TABLE t INTO u INVERSE RENAME TABLE u INTO t;\n"
+        b"QUERY VERSION 2 SELECT a FROM u;\nQUERY VERSION 1 SELECT b FROM t;\n",
+    b"AT 1 EVOLVE CREATE TABLE t (a INT, name TEXT, city TEXT);\n"
+        b"AT 2 INSERT INTO t (a, name, city) VALUES (1, 'Ann', 'Oslo');\n"
+        b"AT 3 EVOLVE DECOMPOSE TABLE t INTO who (a, name), home (a, city)"
+        b" INVERSE JOIN TABLE who, home INTO t WHERE TRUE;\n"
+        b"AT 5 UPDATE home SET city = 'Bergen' WHERE a = 1;\n"
+        b"QUERY VERSION 1 SELECT name, city FROM t;\n",
+    None, # a sample
 ]
 CALLS = [("malloc", "fail", 7), *((call, kind, status)
     for call, status in (("read", 3), ("write", 4), ("pwrite", 5), ("fdatasync", 5))
@@ -39,10 +51,11 @@ CALLS = [("malloc", "fail", 7), *((call, kind, status)
 
 
 def run(folder, script, fault=None):
+    words = ["run"] if script is not None else ["sample", "--size", "8"]
     env = dict(os.environ)
     if fault:
         env.update(LD_PRELOAD=shim, FAULT=fault, FAULT_MARK=os.path.join(folder, "mark"))
-    done = subprocess.run([program, "run"], cwd=folder, input=script, env=env,
+    done = subprocess.run([program, *words], cwd=folder, input=script or b"", env=env,
         stdout=subprocess.PIPE, check=False)
     return done.returncode, done.stdout
 
@@ -84,11 +97,13 @@ for script in SCRIPTS:
             runs += 1
             stopped = got[0] == status and whole[1].startswith(got[1])
             most = count + 1 if status == 7 else count + 2
+            if script is None:
+                count, most = 0, len(right)
             fine = left in right[count:most] if stopped else got == whole and left == right[-1]
             if not fine or (stopped and kind == "interrupt"):
                 wrong += 1
                 print(f"faults: {call} {number} {kind}: status {got[0]} and {got[1]}, then {left}")
-                print(script.decode())
+                print(script.decode() if script else "sample --size 8")
 print(f"faults: {runs} runs, {wrong} wrong, {time.time() - start:.0f} s")
 sys.exit(1 if wrong else 0)
 PYTHON

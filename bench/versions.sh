@@ -4,7 +4,8 @@
 # the last one. The versions are renames with their inverses (a table and a column in turn), ADD and
 # DROP COLUMN in turn, renames of another table, PARTITION and MERGE in turn, each the other's
 # inverse (a question has one piece and two in turn, since of those that both make of it the dead
-# ones are left out on the way), or cuts: a PARTITION with MERGE as its inverse, and a RENAME of the
+# ones are left out on the way; at most 26 of these, since by its width the table has twice as many
+# pieces after each MERGE, and a history that is too wide is refused), or cuts: a PARTITION with MERGE as its inverse, and a RENAME of the
 # table that is cut off (a question has one piece more after each cut). Prints the seconds of the
 # load with its operators, the seconds that each of the two questions adds, and the most memory in
 # KiB. A table is stored once over the versions that do not touch it, so memory grows as V + n times
@@ -90,7 +91,7 @@ print(f"{'versions of':>12} {'V':>4} {'rows':>7} {'load':>8} {'on first':>9} {'o
       f"{'KiB':>8}")
 for kind, make in (("renames", renames), ("columns", columns), ("others", others), ("parts", parts),
     ("cuts", cuts)):
-    for count in counts:
+    for count in sorted({min(count, 26) for count in counts} if kind == "parts" else counts):
         for n in sizes:
             script = ["AT 0 EVOLVE CREATE TABLE w (c INT);",
                 "AT 1 EVOLVE CREATE TABLE t (a INT, b INT);"]

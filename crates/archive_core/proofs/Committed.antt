@@ -12,9 +12,11 @@ use Rattle.smo_ops_types.specs.Commands.{PlainCommand}
 use Rattle.smo_ops_spec.specs.First.{unless}
 use Rattle.smo_ops_spec.specs.Past.{Past}
 use Rattle.smo_ops_spec.specs.Accepts.{command_fault}
-use Rattle.smo_ops_spec.proofs.Firsts.{first_at, first_later, first_alone}
+use Rattle.smo_ops_spec.proofs.Firsts.{first_at, first_later, first_alone, none_of_first}
 use Rattle.journal.specs.JournalFiles.{needs}
 use Rattle.archive_core_file_spec.specs.LogRecords.{logged, record_of}
+use Rattle.archive_core_state.specs.NewCommands.{new_command_fault}
+use Rattle.archive_core_state.proofs.AcceptedWidths.{accepted_by_past}
 use Rattle.archive_core.specs.declared.fault.CommitFault.{CommitFault}
 use Rattle.archive_core.specs.declared.fault.CommitFault.TheVariants as fault
 use Rattle.archive_core.specs.Committing.{need_fault, room_fault, commit_fault, IsPut}
@@ -63,15 +65,21 @@ module _ (at limit : ℕ) (r : Record) (result : Result (Unit {0}) PutFault)
 
 module _ (past : Past) (at limit : ℕ) (c : PlainCommand) where
   -- where a command is accepted, the room for its record decides
-  pub by_room : command_fault past c ≡ None → commit_fault past at limit c
+  pub by_room : new_command_fault past c ≡ None → commit_fault past at limit c
       ≡ room_fault at limit (record_of (logged c))
-  by_room met = first_later (command_fault past c) (room_fault at limit (record_of (logged c)) ∷ [])
-      met ∙ first_alone (room_fault at limit (record_of (logged c)))
+  by_room met = first_later (new_command_fault past c)
+      (room_fault at limit (record_of (logged c)) ∷ []) met
+          ∙ first_alone (room_fault at limit (record_of (logged c)))
 
-  pub refused : (r : Refusal) → command_fault past c ≡ Some r
+  pub refused : (r : Refusal) → new_command_fault past c ≡ Some r
       → commit_fault past at limit c ≡ Some r
-  refused r e = first_at (command_fault past c) (room_fault at limit (record_of (logged c)) ∷ []) r
-      e
+  refused r e = first_at (new_command_fault past c)
+      (room_fault at limit (record_of (logged c)) ∷ []) r e
+
+  -- a command that is committed is accepted by its past
+  pub committed_by_past : commit_fault past at limit c ≡ None → command_fault past c ≡ None
+  committed_by_past e = accepted_by_past past c (none_of_first (new_command_fault past c)
+      (room_fault at limit (record_of (logged c)) ∷ []) e).0
 
 -- what a put of an image's record says of the past that it shows
 pub checkpoint_answers : (past : Past) (r : Record) (at limit : ℕ)

@@ -5,7 +5,6 @@ use Rattle.prima_base.specs.declared.refusal.Refusal.TheVariants.{JournalFull}
 use Rattle.smo_ops_types.specs.Commands.{PlainCommand}
 use Rattle.smo_ops_spec.specs.First.{unless, first_refusal}
 use Rattle.smo_ops_spec.specs.Checks.{Fault}
-use Rattle.smo_ops_spec.specs.Accepts.{command_fault}
 use Rattle.smo_ops_spec.specs.Past.{Past, past_with}
 use Rattle.journal.specs.Records.{Record}
 use Rattle.journal.specs.JournalFiles.{needs}
@@ -14,6 +13,7 @@ use Rattle.archive_core_file_spec.specs.LogRecords.{logged, record_of}
 use Rattle.archive_core_state.specs.declared.accepted_command.AcceptedCommand.{AcceptedCommand}
 use Rattle.archive_core_state.specs.declared.archive.Done.{Done}
 use Rattle.archive_core_state.specs.AcceptedCommands.{IsAcceptedAfter}
+use Rattle.archive_core_state.specs.NewCommands.{new_command_fault}
 use Rattle.archive_core_state.specs.ArchiveContents.{ArchiveContent, RepresentsPast}
 use Rattle.archive_core_state.specs.Committing.{IsAsBefore, IsDone}
 use Rattle.archive_core.specs.declared.fault.CommitFault.{CommitFault}
@@ -28,10 +28,11 @@ need_fault at limit need = unless (nat_le (at + need) limit) (JournalFull at nee
 abbrev pub room_fault : ℕ → ℕ → Record → Fault
 room_fault at limit r = need_fault at limit (needs r)
 
--- the refusal of a command by its past, and after all others that its record does not fit
+-- the refusal of a new command by its past and by its width, and after all others that its record
+-- does not fit
 abbrev pub commit_fault : Past → ℕ → ℕ → PlainCommand → Fault
 commit_fault past at limit command = first_refusal
-    (command_fault past command ∷ room_fault at limit (record_of (logged command)) ∷ [])
+    (new_command_fault past command ∷ room_fault at limit (record_of (logged command)) ∷ [])
 
 -- the archive in memory is as it was, but for room that was made, and represents the past that it
 -- did
@@ -57,8 +58,9 @@ Commits past command at limit old (Err NoMemory) new = IsUnchanged past old new
 -- refusal
 abbrev pub IsCommandChecked : Past → PlainCommand → Result (AcceptedCommand × Sealed) CommitFault
     → Type 0
-IsCommandChecked past command (Ok it) = IsAcceptedAfter past it.0
-IsCommandChecked past command (Err (Refused r)) = command_fault past command ≡ Some r
+IsCommandChecked past command (Ok it) = (new_command_fault past command ≡ None)
+    × IsAcceptedAfter past it.0
+IsCommandChecked past command (Err (Refused r)) = new_command_fault past command ≡ Some r
 IsCommandChecked past command (Err Disk) = ⊥
 IsCommandChecked past command (Err Broken) = ⊥
 IsCommandChecked past command (Err NoMemory) = ⊤

@@ -1,5 +1,6 @@
 ghost use Rattle.std.specs.Prelude.{◌≡◌, ◌⊎◌, ◌+◌, ◌-◌, ◌^◌, ◌≤◌, ◌↔◌, IsTrue, ℕ};
-ghost use Rattle.std.specs.Prelude.{List, length, min, Some, Err, true, false, IfOk, IfErr, OnOk};
+ghost use Rattle.std.specs.Prelude.{List, length, min, Some, None, Err, true, false, IfOk, IfErr};
+ghost use Rattle.std.specs.Prelude.{OnOk};
 ghost use Rattle.relations_spec.specs.Sets.{In};
 ghost use Rattle.prima_io.specs.Causes.{Rose};
 ghost use Rattle.disk_model.specs.Meaning.{IfKnown, BothKnown};
@@ -16,6 +17,7 @@ ghost use Rattle.archive_core_file_spec.specs.LogRecords.{LogRecord, logged, rec
 ghost use Rattle.archive_core_file_spec.specs.LogRecords.{replayed_of};
 ghost use Rattle.archive_core_file_spec.specs.Opening.{Opens, Damages};
 ghost use Rattle.archive_core_state.specs.ArchiveContents.{RepresentsPast, RepresentsSome};
+ghost use Rattle.archive_core_state.specs.NewCommands.{new_command_fault};
 ghost use Rattle.version_groups.specs.CheckedCommands.{checked_command, IsCommandAccepted};
 ghost use Rattle.archive_core_state.specs.Asking.{IsAsked, IsExplained, TellsWayBack, ArePiecesOf};
 ghost use Rattle.archive_core_state.specs.Asking.{query_asked, pieces_told, IsKeptOfList};
@@ -144,12 +146,13 @@ impl<D: Disk> Archive<D> {
 
     /// Accepts the command and puts its record, or refuses it. `Broken` comes first, exactly where
     /// an earlier call has answered `Disk`. Then come the refusals in the one order, as those of
-    /// the archive in memory, and after them `JournalFull`, exactly where the record would end past
-    /// the limit. `Disk` comes only where the disk's count of faults rose: the file then has the
-    /// record or not. All memory is taken before the first call of the device. At each moment of
-    /// the call a crash leaves the records before, with the command's or without; after `Ok` every
-    /// crash leaves it. After `Ok` the archive represents the past with the command, and else the
-    /// past that it represented.
+    /// the archive in memory; after them `TooWide`, exactly where an operator makes a version whose
+    /// measure is above 1,000,000; and after it `JournalFull`, exactly where the record would end
+    /// past the limit. `Disk` comes only where the disk's count of faults rose: the file then has
+    /// the record or not. All memory is taken before the first call of the device. At each moment
+    /// of the call a crash leaves the records before, with the command's or without; after `Ok`
+    /// every crash leaves it. After `Ok` the archive represents the past with the command, and else
+    /// the past that it represented.
     pub fn commit(&mut self, command: Command) -> Result<Done, CommitFault>
         ensures broken { (result ≡ Err fault.Broken) ↔ (is_broken self.old ≡ true) }
         ensures breaks { (is_broken self.new ≡ true)
@@ -322,6 +325,7 @@ impl<D: Disk> Archive<D> {
         ensures unbroken { result ≡ Err fault.Broken → ⊥ }
         ensures commits { (past : Past) → RepresentsPast (standing_of self.old) past
             → IsCommandAccepted past checked.entry
+            → new_command_fault past (checked_command checked.entry) ≡ None
             → Commits past (checked_command checked.entry) (place_of self.old) (limit_of self.old)
             (standing_of self.old) result (standing_of self.new) }
         ensures represents { RepresentsSome (standing_of self.new) }

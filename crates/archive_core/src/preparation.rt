@@ -65,7 +65,7 @@ pub(crate) fn check_and_seal(
     ensures encoded { OnOk result (IsCommand (command_of command)) }
     ensures represents { RepresentsSome state.now }
 {
-    match state.check(command) {
+    match state.check_new(command) {
         Ok(accepted) => {
             accepted_commands_can_be_written();
             let sealed = seal(alloc, &accepted)?;

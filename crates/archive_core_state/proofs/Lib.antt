@@ -1,3 +1,4 @@
 pub mod QueryFaults
 pub mod Checking
 pub mod Applied
+pub mod AcceptedWidths

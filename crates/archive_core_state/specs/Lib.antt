@@ -1,4 +1,5 @@
 pub mod ArchiveContents
 pub mod AcceptedCommands
+pub mod NewCommands
 pub mod Committing
 pub mod Asking

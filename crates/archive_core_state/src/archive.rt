@@ -1,5 +1,6 @@
 use crate::acceptance::check;
 use crate::asked_query::{ask, explain_query};
+use crate::width::check_width;
 use crate::{AcceptedCommand, AskFault, CommandFault};
 use answer_text::Listing;
 use piece_ir::Explained;
@@ -70,6 +71,7 @@ impl ArchiveState {
     ghost use Rattle.archive_core_state.specs.ArchiveContents.{archive_content};
     ghost use Rattle.temporal_lang_types.specs.Queries.{query_of};
     ghost use Rattle.archive_core_state.specs.AcceptedCommands.{accepted_command, IsAcceptedAfter};
+    ghost use Rattle.archive_core_state.specs.NewCommands.{new_command_fault};
     ghost use Rattle.archive_core_state.specs.Committing.{IsAsBefore, IsDone, Accepts};
     ghost use Rattle.rewrite.specs.Books.{book_meaning};
     ghost use Rattle.piece_ir.specs.ExplainedPieces.{PlainExplained};
@@ -133,6 +135,25 @@ impl ArchiveState {
         ensures represents { RepresentsSome self.now }
     {
         check(self.alloc, &self.groups, self.last, command)
+    }
+
+    /// Checks a command whose record does not stand yet: as by `check`, and after these refusals
+    /// comes `TooWide` (39), exactly where an operator makes a version whose measure is above
+    /// 1,000,000. A record that stands is not judged by it.
+    pub fn check_new(&self, command: Command) -> Result<AcceptedCommand, CommandFault>
+        ensures same { IfOk result (λ accepted. accepted_command accepted ≡ command_of command) }
+        ensures checks { (past : Past) → RepresentsPast self.now past
+            → IsTestedAs (IsAcceptedAfter past) (new_command_fault past (command_of command))
+            result }
+        ensures represents { RepresentsSome self.now }
+    {
+        match self.check(command) {
+            Err(fault) => Err(fault),
+            Ok(checked) => match check_width(self.alloc, &self.groups, &checked) {
+                Err(fault) => Err(fault),
+                Ok(()) => Ok(checked),
+            },
+        }
     }
 
     /// Makes a command ready that was checked, and is accepted: all the memory that it needs is

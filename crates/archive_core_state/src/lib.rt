@@ -10,6 +10,7 @@ mod accepted_command;
 mod archive;
 mod asked_query;
 mod fault;
+mod width;
 
 pub use accepted_command::AcceptedCommand;
 pub use archive::{ArchiveState, Done};

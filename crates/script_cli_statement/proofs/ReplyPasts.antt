@@ -1,7 +1,6 @@
 -- The past after a statement is valid where it was before it.
 use Rattle.std.proofs.Common.{◌≡◌, ◌<◌, ℕ, List, [], ◌∷◌, refl, sym, subst}
 use Rattle.std.specs.Prelude.{Some, None}
-use Rattle.archive_core_file_spec.specs.LogRecords.{logged, record_of}
 use Rattle.relations_spec.specs.Spans.{forever}
 use Rattle.smo_ops_types.specs.Commands.{PlainBody, changing, evolving, PlainCommand}
 use Rattle.smo_ops_spec.specs.Checks.{Fault}
@@ -23,8 +22,8 @@ use Rattle.time_aggregate.specs.Aggregated.{aggregated}
 use Rattle.answer_text.specs.Texts.{pairs_text, aggregates_text}
 use Rattle.script_parse.specs.Reading.{Reading, Blank, Refused, Whole, reading}
 use Rattle.archive_core_state.specs.Asking.{tells_periods, pieces_told}
-use Rattle.smo_ops_spec.proofs.Firsts.{none_of_first}
-use Rattle.archive_core.specs.Committing.{room_fault, commit_fault}
+use Rattle.archive_core.specs.Committing.{commit_fault}
+use Rattle.archive_core.proofs.Committed.{committed_by_past}
 use Rattle.archive_core.specs.Checkpointing.{checkpoint_fault}
 use Rattle.script_cli_statement.specs.Given.{Given}
 use Rattle.script_cli_statement.specs.Replies.{Recorded, answered, refused_or, put_command}
@@ -78,8 +77,7 @@ module _ (limit : Given) where
       → IsOfScript (statement_reply limit s now).after.past
   statement_keeps now (write command) written h =
       put_keeps now command h written (commit_fault now.past now.at limit.limit command)
-      (λ e. (none_of_first (command_fault now.past command)
-      (room_fault now.at limit.limit (record_of (logged command)) ∷ []) e).0)
+      (committed_by_past now.past now.at limit.limit command)
   statement_keeps now (ask query) written h =
       same_past now (fault_of_query now.past query)
       (listing_text (tells_periods query.when) (answer now.past query)) h

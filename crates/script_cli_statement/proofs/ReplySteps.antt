@@ -8,7 +8,6 @@ use Rattle.smo_ops_types.specs.Commands.{PlainCommand}
 use Rattle.smo_ops_spec.specs.Checks.{Fault}
 use Rattle.smo_ops_spec.specs.Accepts.{command_fault}
 use Rattle.smo_ops_spec.specs.Past.{Past, beginning, past_with}
-use Rattle.smo_ops_spec.proofs.Firsts.{none_of_first}
 use Rattle.temporal_lang_spec.specs.Accepted.{version_fault, fault_of_query}
 use Rattle.journal.specs.Records.{Record, before_gate, body}
 use Rattle.journal.proofs.Putting.{before_gate-push}
@@ -18,7 +17,8 @@ use Rattle.archive_core_file_spec.specs.LogRecords.{gate_after, after_record, af
 use Rattle.archive_core_file_spec.specs.LogRecords.{past_recorded}
 use Rattle.archive_core_file_spec.specs.LogRecords.{AreSound}
 use Rattle.archive_core_file_spec.proofs.Records.{after_append}
-use Rattle.archive_core.specs.Committing.{room_fault, commit_fault}
+use Rattle.archive_core.specs.Committing.{commit_fault}
+use Rattle.archive_core.proofs.Committed.{committed_by_past}
 use Rattle.archive_core.specs.Checkpointing.{checkpoint_fault}
 use Rattle.script_parse.specs.Statements.{PlainStatement, write, ask, explain, show_versions}
 use Rattle.script_parse.specs.Statements.{show_schema, show_sizes, checkpoint, pairs, aggregate}
@@ -185,8 +185,8 @@ statement_step : (limit : Given) (now : Recorded) (s : PlainStatement)
     → IsStep now (statement_reply limit s now)
 statement_step limit now (write command) =
     put_step now _ (command_due command) (commit_fault now.past now.at limit.limit command)
-    (λ e. command_at now.past command (none_of_first (command_fault now.past command)
-    (room_fault now.at limit.limit (record_of (logged command)) ∷ []) e).0)
+    (λ e. command_at now.past command
+    (committed_by_past now.past now.at limit.limit command e))
 statement_step limit now (ask query) = refused_step now (fault_of_query now.past query) _
 statement_step limit now (explain query) = refused_step now (fault_of_query now.past query) _
 statement_step limit now (pairs left relation right) =

@@ -5,6 +5,7 @@ use Rattle.smo_ops_types.specs.declared.change.Change.{Change}
 use Rattle.version_groups.specs.Steps.{a_command}
 use Rattle.archive_core_file_spec.specs.LogRecords.{logged, record_of}
 use Rattle.archive_core_state.specs.AcceptedCommands.{accepted_command, IsAcceptedAfter}
+use Rattle.archive_core_state.specs.NewCommands.{new_command_fault}
 use Rattle.archive_core_state.proofs.Checking.{borrowed}
 use Rattle.archive_core.specs.Fields.{standing_of, place_of, limit_of}
 use Rattle.archive_core.specs.Committing.{Commits}
@@ -18,7 +19,7 @@ accept-requires-clause-accepted g c =
       borrowed some.0 c.in-Changes.stamp c.in-Changes.changes c.in-Changes.places c.deref.result
           c.deref.ensures.value
           (subst (IsAcceptedAfter some.0) c.in-Changes.is
-          (c.in_ok-accepted.ensures.checked some.0 some.1)),
+          (c.in_ok-accepted.ensures.checked some.0 some.1).1),
     )
 
 pub accept-requires-clause-sealed : goal.accept-requires-clause-sealed
@@ -34,7 +35,7 @@ accept-requires-in-Evolve-clause-accepted g c =
       some.0,
       some.1,
       subst (IsAcceptedAfter some.0) c.in-Evolve.is
-          (c.in_ok-accepted.ensures.checked some.0 some.1),
+          (c.in_ok-accepted.ensures.checked some.0 some.1).1,
     )
 
 pub accept-requires-in-Evolve-clause-sealed : goal.accept-requires-in-Evolve-clause-sealed
@@ -54,7 +55,11 @@ returns-in-Changes-clause-commits g c past represents =
     (borrowed past c.in-Changes.stamp c.in-Changes.changes c.in-Changes.places c.deref.result
     c.deref.ensures.value
     (subst (IsAcceptedAfter past) c.in-Changes.is
-    (c.in_ok-accepted.ensures.checked past represents))))
+    (c.in_ok-accepted.ensures.checked past represents).1))
+    (ap (new_command_fault past) (ap (λ (items : List Change). a_command c.in-Changes.stamp
+    (changing (changes_of items))) c.deref.ensures.value
+    ∙ ap accepted_command (sym c.in-Changes.is) ∙ c.in_ok-accepted.ensures.same)
+    ∙ (c.in_ok-accepted.ensures.checked past represents).0))
 
 pub returns-clause-commits : goal.returns-clause-commits
 returns-clause-commits g c past represents =
@@ -64,4 +69,7 @@ returns-clause-commits g c past represents =
     (ap accepted_command (sym c.in-Evolve.is) ∙ c.in_ok-accepted.ensures.same)
     (c.accept-in-Evolve.ensures.commits past represents
     (subst (IsAcceptedAfter past) c.in-Evolve.is
-    (c.in_ok-accepted.ensures.checked past represents)))
+    (c.in_ok-accepted.ensures.checked past represents).1)
+    (ap (new_command_fault past)
+    (ap accepted_command (sym c.in-Evolve.is) ∙ c.in_ok-accepted.ensures.same)
+    ∙ (c.in_ok-accepted.ensures.checked past represents).0))
