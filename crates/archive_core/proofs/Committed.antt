@@ -69,7 +69,7 @@ module _ (past : Past) (at limit : ℕ) (c : PlainCommand) where
       ≡ room_fault at limit (record_of (logged c))
   by_room met = first_later (new_command_fault past c)
       (room_fault at limit (record_of (logged c)) ∷ []) met
-          ∙ first_alone (room_fault at limit (record_of (logged c)))
+      ∙ first_alone (room_fault at limit (record_of (logged c)))
 
   pub refused : (r : Refusal) → new_command_fault past c ≡ Some r
       → commit_fault past at limit c ≡ Some r
