@@ -24,7 +24,7 @@ pub(crate) fn fill_outputs<F: Fill>(
 {
     let mut filled = Vec::with_capacity(alloc, outs.len())?;
     for out in outs {
-        filled.push(fill_output(by, alloc, out)?)?;
+        filled.push(fill_output(alloc, by, out)?)?;
     }
     Ok(filled)
 }

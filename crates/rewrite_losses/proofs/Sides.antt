@@ -19,7 +19,7 @@ use Rattle.smo_ops_versions_spec.specs.ColumnLosses.{Losses}
 use Rattle.smo_ops_versions_spec.specs.LostNames.{losses_stepped}
 use Rattle.smo_ops_versions_spec.proofs.VersionSteps.{Leads, leads}
 use Rattle.smo_ops_versions_spec.proofs.WayLeads.{valid_at, columns_at}
-use Rattle.rewrite_losses.proofs.Places.{version_at_place}
+use Rattle.smo_ops_operators.proofs.VersionPlaces.{version_at_place}
 
 module _ (vs : List Version) (are : AreVersions None no_tables (map version_of vs)) (k : ℕ)
     (v : Version) (l : k < length vs) (e : v ≡ get_or vs k v) where

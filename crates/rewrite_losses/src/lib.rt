@@ -13,4 +13,3 @@ mod table_loss;
 mod version_way;
 
 pub use lost_item::{first_lost, loss_of};
-pub use version_way::tables_at;

@@ -12,21 +12,9 @@ use crate::losses::Losses;
 use crate::operator_back::lose_back;
 use prima_base::NoMemory;
 use schema_catalog::Schema;
+use smo_ops_operators::tables_at;
 use smo_ops_types::Versions;
 use std::alloc::Global;
-
-/// The tables of version `k`; `nothing` has none.
-pub fn tables_at<'a>(nothing: &'a Schema, versions: &'a Versions, k: usize) -> &'a Schema
-    requires nothing { nothing.now ≡ no_tables }
-    requires there { k ≤ vec_len versions.now.list }
-    ensures { result.now ≡ tables_from no_tables (versions_of versions.now) k }
-{
-    if k == 0 {
-        nothing
-    } else {
-        &versions.list[k - 1].schema
-    }
-}
 
 // Back over the version with this number.
 fn lose_version(

@@ -6,3 +6,4 @@ pub mod PartTests
 pub mod MadeTables
 pub mod InverseNumbers
 pub mod OneOfNames
+pub mod VersionPlaces

@@ -3,8 +3,6 @@ use Rattle.std.proofs.Common.{◌≡◌, ◌+◌, ◌-◌, ◌<◌, ◌≤◌, �
 use Rattle.std.proofs.Common.{length}
 use Rattle.std.proofs.Common.{get_or, refl, sym, ap, subst, ◌∙◌, arith}
 use Rattle.std.specs.Prelude.{Some, None, slice_get}
-use Rattle.std.specs.Option.{option_map}
-use Rattle.std.proofs.lemmas.Option.{slice_get-get_or, slice_get-map}
 use Rattle.schema_catalog.specs.Tables.{Tables}
 use Rattle.smo_ops_types.specs.declared.version.Version.{Version}
 use Rattle.smo_ops_types.specs.Operators.{Operator, operator_of, operators_of}
@@ -16,6 +14,7 @@ use Rattle.smo_ops_spec.specs.ValidPast.{AreVersions}
 use Rattle.smo_ops_spec.proofs.CountedOperators.{counted_inverse}
 use Rattle.smo_ops_spec.proofs.PastMoments.{newest_tables_from, tables_added}
 use Rattle.smo_ops_spec.proofs.ValidInverses.{accepted_leads_back}
+use Rattle.smo_ops_operators.proofs.VersionPlaces.{version_at_place}
 use Rattle.smo_ops_versions_spec.specs.Steps.{Step, taken}
 use Rattle.smo_ops_versions_spec.specs.Ways.{back_over, over_version, back_over_version, to_next}
 use Rattle.smo_ops_widths.specs.Widths.{widths_over, widths_stepped, widths_of}
@@ -44,22 +43,6 @@ last_version : (vs : List PlainVersion) (v : PlainVersion)
 last_version [] v = refl
 last_version (w ∷ vs) v = last_version vs v
 
-at_place : (vs : List Version) (k : ℕ) (v : Version) → k < length vs → v ≡ get_or vs k v
-    → slice_get (map version_of vs) k ≡ Some (version_of v)
-at_place vs k v l e = slice_get-map version_of vs k
-    ∙ ap (option_map version_of) (slice_get-get_or vs k v l ∙ ap Some (sym e))
-
-pub first_tables : (before : Tables) (vs : List PlainVersion) → tables_from before vs 0 ≡ before
-first_tables before [] = refl
-first_tables before (v ∷ vs) = refl
-
-pub next_tables : (before : Tables) (vs : List Version) (i : ℕ) (v : Version) → i < length vs
-    → v ≡ get_or vs i v → tables_from before (map version_of vs) (suc i) ≡ v.schema
-next_tables before [] i v l e = absurd (omega arith)
-next_tables before (w ∷ vs) zero v l e = first_tables w.schema (map version_of vs)
-    ∙ ap (λ (x : Version). x.schema) (sym e)
-next_tables before (w ∷ vs) (suc i) v l e = next_tables w.schema vs i v (omega arith) e
-
 mapped : (vs : List Version) → length (map version_of vs) ≡ length vs
 mapped [] = refl
 mapped (v ∷ vs) = ap suc (mapped vs)
@@ -75,7 +58,7 @@ on_step vs k v before stored l e b low =
     ap (λ (t : Tables). widths_over t (operator_of v.op) (widths_of (map version_of vs) stored k)) b
     ∙ sym (ap (λ o. taken widths_stepped (over_version
     (tables_from no_tables (map version_of vs) k) o) (widths_of (map version_of vs) stored k))
-    (at_place vs k v l e))
+    (version_at_place vs k v l e))
     ∙ sym (taken_forward (map version_of vs) widths_stepped stored k
     (own_widths (tables_from no_tables (map version_of vs) stored)) low)
 
@@ -132,7 +115,7 @@ module _ (vs : List Version) (stamp : ℕ) (op : Operator) (inverse : List Opera
   pub version_here : (k : ℕ) (v : Version) → k < length vs → v ≡ get_or vs k v
       → slice_get (with_version (map version_of vs) stamp op inverse) k ≡ Some (version_of v)
   version_here k v l e = prefix_version plain (new ∷ []) k (omega (arith, l, count))
-      ∙ at_place vs k v l e
+      ∙ version_at_place vs k v l e
 
   -- forward
 
@@ -248,7 +231,7 @@ module _ (vs : List Version) (are : AreVersions None no_tables (map version_of v
   pub version_leads : Leads (tables_from no_tables (map version_of vs) k)
       (tables_from no_tables (map version_of vs) (k + 1)) (version_of v)
   version_leads = leads None no_tables (map version_of vs) k (version_of v) are
-      (at_place vs k v l e)
+      (version_at_place vs k v l e)
 
   pub version_few : HaveFewNodes (operators_of v.inverse.items)
   version_few = counted_inverse (operator_of v.op) (operators_of v.inverse.items)

@@ -22,7 +22,7 @@ use crate::width::TableWidth;
 use crate::widths::own_widths;
 use prima_base::{Name, NoMemory};
 use schema_catalog::Schema;
-use smo_ops_operators::schema_after;
+use smo_ops_operators::{schema_after, tables_at};
 use smo_ops_types::{Op, Versions};
 use std::alloc::Global;
 use std::collections::{BTreeMap, BTreeSet};
@@ -32,19 +32,6 @@ const MOST: u64 = 1 << 63;
 
 /// The greatest measure that what makes a version may have.
 pub const MAX_MEASURE: u64 = 1_000_000;
-
-// The tables of version `k`; `nothing` has none.
-fn tables_at<'a>(nothing: &'a Schema, versions: &'a Versions, k: usize) -> &'a Schema
-    requires nothing { nothing.now ≡ no_tables }
-    requires there { k ≤ length versions.now.list.items }
-    ensures { result.now ≡ tables_from no_tables (versions_of versions.now) k }
-{
-    if k == 0 {
-        nothing
-    } else {
-        &versions.list[k - 1].schema
-    }
-}
 
 // The widths of the tables of the newest version, read from version `stored`.
 fn widths_on(

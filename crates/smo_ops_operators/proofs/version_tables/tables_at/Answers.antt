@@ -1,8 +1,8 @@
 use Rattle.std.proofs.Common.{◌≡◌, ◌-◌, ◌<◌, suc, ap, sym, ◌∙◌, length, arith}
 use Rattle.smo_ops_types.specs.Commands.{versions_of}
 use Rattle.smo_ops_spec.specs.Past.{no_tables, tables_from}
-use Rattle.rewrite_losses.proofs.Places.{first_tables, next_tables}
-use Rattle.rewrite_losses.proofs.version_way.tables_at.Goals as goal
+use Rattle.smo_ops_operators.proofs.VersionPlaces.{first_tables, next_tables}
+use Rattle.smo_ops_operators.proofs.version_tables.tables_at.Goals as goal
 
 pub returns-then-k-eq0 : goal.returns-then-k-eq0
 returns-then-k-eq0 c = c.requires.nothing ∙ sym
