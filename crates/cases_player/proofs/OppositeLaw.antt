@@ -4,7 +4,7 @@ use Rattle.std.specs.Prelude.{reverse, ◌⊎◌}
 use Rattle.std.specs.List.{flat_map}
 use Rattle.std.proofs.lemmas.Grind.{reverse_onto}
 use Rattle.std.proofs.lemmas.List.{map-append, reverse-reverse}
-use Rattle.relations_spec.specs.Sets.{In, Same, set_of}
+use Rattle.relations_spec.specs.Sets.{In, Same}
 use Rattle.relations_spec.proofs.SetLaws.{in_append, in_flat_map, from_flat_map, set_same}
 use Rattle.prima_base.specs.Order.{row_cmp}
 use Rattle.prima_base.specs.OrderLaws.{row_exact}
