@@ -49,7 +49,7 @@ module _ (tables : Tables) (db : Database) (news : List PlainPiece) where
         in_flat_map (piece_answers tables db) h.0 z (reverse news) (to_reverse h.0 news h.1) h.2);
   }
 
-pub opposite_keeps : (tables : Tables) (op : Operator) (p : PlainPiece) (news : List PlainPiece)
+opposite_keeps : (tables : Tables) (op : Operator) (p : PlainPiece) (news : List PlainPiece)
     → KeepsMeaning tables op p news → KeepsMeaning tables op p (reverse news)
 opposite_keeps tables op p news k = record {
   law = λ db d. set_same row_cmp row_exact (flat_map (piece_answers tables db) (reverse news))
@@ -76,3 +76,11 @@ onto (x ∷ xs) ys = onto xs (x ∷ ys)
 pub shown_opposite : (news after : List Piece) (shown : List PlainPiece) → after ≡ reverse news
     → shown_pieces news ≡ shown → shown_pieces after ≡ reverse shown
 shown_opposite news after shown e is = ap shown_pieces e ∙ onto news [] ∙ ap reverse is
+
+-- and they keep the meaning too
+pub kept_opposite : (tables : Tables) (op : Operator) (p : PlainPiece) (news after : List Piece)
+    → after ≡ reverse news → KeepsMeaning tables op p (shown_pieces news)
+    → KeepsMeaning tables op p (shown_pieces after)
+kept_opposite tables op p news after e k =
+    subst (KeepsMeaning tables op p) (sym (shown_opposite news after (shown_pieces news) e refl))
+    (opposite_keeps tables op p (shown_pieces news) k)
