@@ -10,4 +10,4 @@ returns-in-Ok-clause-tested c = λ past represents. checks_tested past (query_of
 
 pub returns-in-Err-clause-tested : goal.returns-in-Err-clause-tested
 returns-in-Err-clause-tested c = λ past represents. unnamed_tested past (query_of c.args.query.now)
-    c.args.items.now c.args.group c.in-Err.fault (c.in-Err.ensures past represents)
+    c.args.items.now c.args.group _ c.in-Err.fault (c.in-Err.ensures past represents)
