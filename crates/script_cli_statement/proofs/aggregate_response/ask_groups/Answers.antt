@@ -1,4 +1,4 @@
-use Rattle.std.proofs.Common.{◌≤◌, sym, ap, subst}
+use Rattle.std.proofs.Common.{◌≤◌, sym, subst}
 use Rattle.temporal_lang_types.specs.Queries.{query_of, slice_of}
 use Rattle.relations_spec.specs.Spans.{forever}
 use Rattle.version_groups.specs.Groups.{Kept}
