@@ -228,6 +228,7 @@ inside r = first (led r)
 
 inside_is : {G : Grammar PlainQuery} (r : Read (IsInBrackets G))
     → value_read r ≡ value_read (inside r)
+unfolding inside
 inside_is r = given_value (led (rest (led r))).derived
 
 pub bracketed_valid : (r : Read (IsInBrackets IsAsk)) → ValidInQuery (value_read r)

@@ -11,10 +11,10 @@ invariant-lines g l = (sent : List ℕ)
     × Appends (g.K.Sink.written l.initial.sink) (g.K.Sink.written l.sink) sent
     × (l.count + length l.pairs ≡ length (related l.fn.relation l.left.items l.right.items))
     × (lines l.fn.relation l.left.items l.right.items
-        (related l.fn.relation l.left.items l.right.items)
+    (related l.fn.relation l.left.items l.right.items)
     ≡ sent ++ lines l.fn.relation l.left.items l.right.items l.pairs)
     × ((pair : ℕ × ℕ) → In pair l.pairs → In pair
-        (related l.fn.relation l.left.items l.right.items))
+    (related l.fn.relation l.left.items l.right.items))
 
 abbrev pub decreases-lines : goal.decreases-lines
 decreases-lines g l = length l.pairs
