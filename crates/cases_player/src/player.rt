@@ -3,8 +3,6 @@
 ghost use Rattle.std.specs.Prelude.{◌≤◌, length};
 
 use crate::block::{Block, block_of};
-use crate::odd_rule::odd_rule;
-use crate::oddity::{Oddity, oddity_of};
 use disk_model::MemDisk;
 use itoa::Buffer;
 use prima_base::NoMemory;
@@ -59,34 +57,14 @@ pub fn run_with_rules<S: Source, K: Sink>(
     run_by(alloc, rules, words, source, sink)
 }
 
-// The same, with one odd rule.
-fn run_oddly<S: Source, K: Sink>(
-    alloc: Global,
-    odd: Option<Oddity>,
-    words: &[Word],
-    source: &mut S,
-    sink: &mut K,
-) -> Result<Status, NoMemory> {
-    let mut rules: Vec<Box<dyn Rule>> = Vec::new(alloc);
-    push_every_rule!(alloc, rules);
-    match odd {
-        Some(odd) if odd.place < rules.len() => {
-            rules.remove(odd.place);
-            rules.push(odd_rule(alloc, odd)?)?;
-        }
-        _ => {}
-    }
-    run_by(alloc, rules, words, source, sink)
-}
-
 // Plays one script.
-fn play_script(alloc: Global, odd: Option<Oddity>, script: &[u8]) -> Result<Played, NoMemory> {
+fn play_script(alloc: Global, script: &[u8]) -> Result<Played, NoMemory> {
     let mut words: Vec<Word> = Vec::new(alloc);
     words.push(String::from_str(alloc, "run")?)?;
     let bytes = Vec::from_slice(alloc, script)?;
     let mut source = MemSource::new(bytes, CHUNK, Vec::new(alloc));
     let mut sink = MemSink::new(alloc, ROOM, Vec::new(alloc))?;
-    let status = run_oddly(alloc, odd, &words, &mut source, &mut sink)?;
+    let status = run_with_rules(alloc, &words, &mut source, &mut sink)?;
     Ok(Played {
         replies: Vec::from_slice(alloc, sink.written())?,
         code: status.code(),
@@ -98,7 +76,6 @@ fn play_script(alloc: Global, odd: Option<Oddity>, script: &[u8]) -> Result<Play
 struct Player {
     alloc: Global,
     block: Block,
-    odd: Option<Oddity>,
     setup: Vec<u8>,
     setup_replies: usize,
     script: Vec<u8>,
@@ -110,7 +87,6 @@ impl Player {
         Player {
             alloc,
             block: Block::Setup,
-            odd: None,
             setup: Vec::new(alloc),
             setup_replies: 0,
             script: Vec::new(alloc),
@@ -120,7 +96,7 @@ impl Player {
 
     // The script before this point stands before those of the cases to come.
     fn end_setup(&mut self) -> Result<(), NoMemory> {
-        let played = play_script(self.alloc, None, &self.script)?;
+        let played = play_script(self.alloc, &self.script)?;
         self.setup_replies = played.replies.len();
         self.setup = Vec::from_slice(self.alloc, &self.script)?;
         Ok(())
@@ -134,7 +110,7 @@ impl Player {
             whole.extend_from_slice(&self.setup)?;
         }
         whole.extend_from_slice(&self.script)?;
-        let played = play_script(self.alloc, self.odd, &whole)?;
+        let played = play_script(self.alloc, &whole)?;
         let from = if is_after { self.setup_replies } else { 0 };
         let own = played.replies.get(from..).unwrap_or_default();
         self.answers.extend_from_slice(own)?;
@@ -161,7 +137,6 @@ impl Player {
     fn begin_block(&mut self, block: Block, line: &[u8]) -> Result<(), NoMemory> {
         self.end_block()?;
         self.block = block;
-        self.odd = oddity_of(line);
         if block != Block::Setup {
             self.answers.extend_from_slice(b"== ")?;
             self.answers
