@@ -16,6 +16,7 @@ use Rattle.piece_ir_spec.specs.Pieces.{PlainPiece, piece_answers, all_mean}
 use Rattle.piece_ir.specs.Shown.{shown_pieces}
 use Rattle.piece_ir.specs.declared.piece.Piece.{Piece}
 use Rattle.piece_ir_spec.specs.Rules.{Book, IsValidRule, KeepsMeaning}
+use Rattle.rewrite_rules_book.specs.LivingPieces.{AllLiving}
 use Rattle.cases_player.specs.Opposite.{opposite}
 
 from_onto : {X : Type 0} (z : X) (xs ys : List X) → In z (reverse_aux xs ys)
@@ -76,3 +77,10 @@ onto (x ∷ xs) ys = onto xs (x ∷ ys)
 pub shown_opposite : (news after : List Piece) (shown : List PlainPiece) → after ≡ reverse news
     → shown_pieces news ≡ shown → shown_pieces after ≡ reverse shown
 shown_opposite news after shown e is = ap shown_pieces e ∙ onto news [] ∙ ap reverse is
+
+-- and they live as before
+pub opposite_live : (news after : List Piece) → after ≡ reverse news
+    → AllLiving (shown_pieces news) → AllLiving (shown_pieces after)
+opposite_live news after e live p m = live p (from_reverse p (shown_pieces news)
+    (subst (λ (ps : List PlainPiece). In p ps) (shown_opposite news after (shown_pieces news) e refl)
+    m))
