@@ -11,7 +11,7 @@ use Rattle.prima_base.specs.declared.value.ColType.{ColType}
 use Rattle.schema_catalog.specs.Tables.{Tables}
 use Rattle.cond_expr.specs.declared.expr.Whose.TheVariants.{Atom}
 use Rattle.cond_expr.specs.Trees.{Test}
-use Rattle.cond_expr.specs.Kinds.{Kinds, is_typed, value_kind}
+use Rattle.cond_expr.specs.Kinds.{Kinds, is_typed}
 use Rattle.cond_expr.specs.Parts.{parts, Bound, bound_of, is_on, compares_just, lets, HasEmpty}
 use Rattle.cond_expr.specs.Parts.{IsDead}
 use Rattle.cond_expr_dead.specs.Steps.{least}
