@@ -16,6 +16,7 @@ use Rattle.piece_ir_spec.specs.Pieces.{PlainPiece, piece_answers}
 use Rattle.piece_ir.specs.Shown.{piece_of, shown_pieces}
 use Rattle.piece_ir.specs.declared.piece.Piece.{Piece}
 use Rattle.piece_ir_spec.specs.Rules.{Book, IsValidRule, KeepsMeaning}
+use Rattle.rewrite_rules_book.specs.LivingPieces.{AllLiving}
 use Rattle.cases_player.specs.Opposite.{opposite}
 
 from_reverse : {X : Type 0} (z : X) (xs : List X) → In z (reverse xs) → In z xs
@@ -79,3 +80,9 @@ pub kept_opposite : (tables : Tables) (op : Operator) (p : PlainPiece) (news aft
 kept_opposite tables op p news after e k =
     subst (KeepsMeaning tables op p) (sym (shown_opposite news after (shown_pieces news) e refl))
     (opposite_keeps tables op p (shown_pieces news) k)
+
+-- and they live as before
+pub opposite_live : (news after : List Piece) → after ≡ reverse news
+    → AllLiving (shown_pieces news) → AllLiving (shown_pieces after)
+opposite_live news after e live p m = live p (from_reverse p (shown_pieces news)
+    (subst (In p) (shown_opposite news after (shown_pieces news) e refl) m))
