@@ -5,9 +5,12 @@
 mod measure;
 mod names;
 mod new_version;
+mod read_version;
 mod size;
 mod way;
 mod width;
 mod widths;
 
 pub use new_version::{MAX_MEASURE, widest};
+pub use read_version::widths_between;
+pub use width::TableWidth;
