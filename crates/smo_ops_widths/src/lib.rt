@@ -13,4 +13,5 @@ mod widths;
 
 pub use new_version::{MAX_MEASURE, widest};
 pub use read_version::widths_between;
+pub use size::size_of;
 pub use width::TableWidth;
