@@ -5,8 +5,8 @@
 //! with an empty archive. Then come, in any number:
 //!
 //! - `AT ..` is a command, which the archive accepts;
-//! - `each` tells for each version, each other one and the same, and each table of the first one
-//!   how many pieces read it from the second, the most tables and nodes of the condition of one of
+//! - `each` tells for each version and each of its tables, and each other version and the same, how
+//!   many pieces read the table from there, the most tables and nodes of the condition of one of
 //!   them, and the most nodes that stand for each column; each number beside that of the width,
 //!   `lost` where the table or a column of it cannot be read from there, and `too wide` where a
 //!   number is above that of the width;

@@ -7,12 +7,11 @@ use crate::width::{is_within, least_width, write_beside};
 use archive_core_state::{ArchiveState, AskFault};
 use cases_text::write_number;
 use piece_ir::Explained;
-use prima_base::{Name, NoMemory};
+use prima_base::NoMemory;
 use rewrite_rules::{Rule, RuleBook};
 use schema_catalog::Table;
 use smo_ops_widths::TableWidth;
 use std::alloc::Global;
-use std::collections::BTreeMap;
 use temporal_lang::When;
 
 /// What is found of the tables of an archive: a line of each where each is told, and how many.
@@ -24,17 +23,16 @@ pub(crate) struct Reading {
     pub tally: Tally,
 }
 
-// The pieces by which the table of version `asked` is read over version `stored`; none where it, or
-// a column of it, is lost there.
-fn pieces_over<R: Rule>(
+// The pieces by which the table of version `asked` is read at these moments; none where it, or a
+// column of it, is lost at one of them.
+fn pieces_at<R: Rule>(
     alloc: Global,
     book: &RuleBook<R>,
     archive: &ArchiveState,
-    stored: usize,
     asked: usize,
     table: &Table,
+    when: When,
 ) -> Result<Option<Vec<Explained>>, NoMemory> {
-    let when = When::During(begin_of(archive, stored), begin_of(archive, stored + 1));
     let Some(query) = question(alloc, asked as u32, table, when)? else {
         return Ok(None);
     };
@@ -99,43 +97,56 @@ impl Reading {
         Ok(())
     }
 
-    // The table of version `asked`, over version `stored`, of which these are the widths. One that
-    // is not lost by names and has no width is wider than it.
-    fn read_table<R: Rule>(
+    // The table of version `asked`, which these pieces read, over version `stored`. One that is not
+    // lost by names and has no width is wider than it.
+    fn read_over(
+        &mut self,
+        archive: &ArchiveState,
+        stored: usize,
+        asked: usize,
+        table: &Table,
+        pieces: &[Explained],
+    ) -> Result<(), NoMemory> {
+        let found = least_width(self.alloc, pieces, stored as u32)?;
+        let widths = widths_of(self.alloc, archive, stored, asked)?;
+        match widths.get(table.name()) {
+            Some(width) => self.add_read(table, stored, asked, &found, width),
+            None => {
+                let none = least_width(self.alloc, &[], 0)?;
+                self.add_read(table, stored, asked, &found, &none)
+            }
+        }
+    }
+
+    // The table, which is lost over some version, over version `stored` alone.
+    fn read_alone<R: Rule>(
         &mut self,
         book: &RuleBook<R>,
         archive: &ArchiveState,
         stored: usize,
         asked: usize,
         table: &Table,
-        widths: &BTreeMap<Name, TableWidth>,
     ) -> Result<(), NoMemory> {
-        let pieces = pieces_over(self.alloc, book, archive, stored, asked, table)?;
-        let Some(pieces) = pieces else {
-            return self.add_lost(table, stored, asked);
-        };
-        let found = least_width(self.alloc, &pieces)?;
-        match widths.get(table.name()) {
-            Some(width) => self.add_read(table, stored, asked, &found, width),
-            None => {
-                let none = least_width(self.alloc, &[])?;
-                self.add_read(table, stored, asked, &found, &none)
-            }
+        let when = When::During(begin_of(archive, stored), begin_of(archive, stored + 1));
+        match pieces_at(self.alloc, book, archive, asked, table, when)? {
+            None => self.add_lost(table, stored, asked),
+            Some(pieces) => self.read_over(archive, stored, asked, table, &pieces),
         }
     }
 
-    // Each table of version `asked`, over version `stored`.
-    fn read_tables<R: Rule>(
+    // The table of version `asked`, over each version.
+    fn read_table<R: Rule>(
         &mut self,
         book: &RuleBook<R>,
         archive: &ArchiveState,
-        stored: usize,
         asked: usize,
+        table: &Table,
     ) -> Result<(), NoMemory> {
-        let widths = widths_of(self.alloc, archive, stored, asked)?;
-        if let Some(schema) = archive.groups().schema(asked as u32) {
-            for place in 0..schema.len() {
-                self.read_table(book, archive, stored, asked, schema.at(place), &widths)?;
+        let pieces = pieces_at(self.alloc, book, archive, asked, table, When::Always)?;
+        for stored in 0..newest(archive) + 1 {
+            match &pieces {
+                None => self.read_alone(book, archive, stored, asked, table)?,
+                Some(pieces) => self.read_over(archive, stored, asked, table, pieces)?,
             }
         }
         Ok(())
@@ -148,8 +159,10 @@ impl Reading {
         archive: &ArchiveState,
     ) -> Result<(), NoMemory> {
         for asked in 0..newest(archive) + 1 {
-            for stored in 0..newest(archive) + 1 {
-                self.read_tables(book, archive, stored, asked)?;
+            if let Some(schema) = archive.groups().schema(asked as u32) {
+                for place in 0..schema.len() {
+                    self.read_table(book, archive, asked, schema.at(place))?;
+                }
             }
         }
         Ok(())

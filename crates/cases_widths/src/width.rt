@@ -30,8 +30,12 @@ fn take(width: &mut TableWidth, piece: &Piece) -> Result<(), NoMemory> {
     Ok(())
 }
 
-/// The least width within which the pieces are.
-pub(crate) fn least_width(alloc: Global, pieces: &[Explained]) -> Result<TableWidth, NoMemory> {
+/// The least width within which those of the pieces are that read version `stored`.
+pub(crate) fn least_width(
+    alloc: Global,
+    pieces: &[Explained],
+    stored: u32,
+) -> Result<TableWidth, NoMemory> {
     let mut width = TableWidth {
         pieces: 0,
         atoms: 0,
@@ -39,7 +43,9 @@ pub(crate) fn least_width(alloc: Global, pieces: &[Explained]) -> Result<TableWi
         sizes: Vec::new(alloc),
     };
     for told in pieces {
-        take(&mut width, &told.piece)?;
+        if told.version == stored {
+            take(&mut width, &told.piece)?;
+        }
     }
     Ok(width)
 }
