@@ -2,16 +2,17 @@
 
 use crate::question::question;
 use crate::tally::Tally;
-use crate::version::{begin_of, newest, widths_of};
+use crate::version::{begin_of, newest, widths_from_each};
 use crate::width::{is_within, least_width, write_beside};
 use archive_core_state::{ArchiveState, AskFault};
 use cases_text::write_number;
 use piece_ir::Explained;
-use prima_base::NoMemory;
+use prima_base::{Name, NoMemory};
 use rewrite_rules::{Rule, RuleBook};
 use schema_catalog::Table;
 use smo_ops_widths::TableWidth;
 use std::alloc::Global;
+use std::collections::BTreeMap;
 use temporal_lang::When;
 
 /// What is found of the tables of an archive: a line of each where each is told, and how many.
@@ -97,18 +98,17 @@ impl Reading {
         Ok(())
     }
 
-    // The table of version `asked`, which these pieces read, over version `stored`. One that is not
-    // lost by names and has no width is wider than it.
+    // The table of version `asked`, which these pieces read, over version `stored`, from where the
+    // tables have these widths. One that is not lost by names and has no width is wider than it.
     fn read_over(
         &mut self,
-        archive: &ArchiveState,
         stored: usize,
         asked: usize,
         table: &Table,
         pieces: &[Explained],
+        widths: &BTreeMap<Name, TableWidth>,
     ) -> Result<(), NoMemory> {
         let found = least_width(self.alloc, pieces, stored as u32)?;
-        let widths = widths_of(self.alloc, archive, stored, asked)?;
         match widths.get(table.name()) {
             Some(width) => self.add_read(table, stored, asked, &found, width),
             None => {
@@ -126,28 +126,32 @@ impl Reading {
         stored: usize,
         asked: usize,
         table: &Table,
+        widths: &BTreeMap<Name, TableWidth>,
     ) -> Result<(), NoMemory> {
         let when = When::During(begin_of(archive, stored), begin_of(archive, stored + 1));
         match pieces_at(self.alloc, book, archive, asked, table, when)? {
             None => self.add_lost(table, stored, asked),
-            Some(pieces) => self.read_over(archive, stored, asked, table, &pieces),
+            Some(pieces) => self.read_over(stored, asked, table, &pieces, widths),
         }
     }
 
-    // The table of version `asked`, over each version.
+    // The table of version `asked`, over each version, from where the tables have these widths.
     fn read_table<R: Rule>(
         &mut self,
         book: &RuleBook<R>,
         archive: &ArchiveState,
         asked: usize,
         table: &Table,
+        widths: &[BTreeMap<Name, TableWidth>],
     ) -> Result<(), NoMemory> {
         let pieces = pieces_at(self.alloc, book, archive, asked, table, When::Always)?;
-        for stored in 0..newest(archive) + 1 {
+        let mut stored = 0;
+        for widths in widths {
             match &pieces {
-                None => self.read_alone(book, archive, stored, asked, table)?,
-                Some(pieces) => self.read_over(archive, stored, asked, table, pieces)?,
+                None => self.read_alone(book, archive, stored, asked, table, widths)?,
+                Some(pieces) => self.read_over(stored, asked, table, pieces, widths)?,
             }
+            stored += 1;
         }
         Ok(())
     }
@@ -159,9 +163,10 @@ impl Reading {
         archive: &ArchiveState,
     ) -> Result<(), NoMemory> {
         for asked in 0..newest(archive) + 1 {
+            let widths = widths_from_each(self.alloc, archive, asked)?;
             if let Some(schema) = archive.groups().schema(asked as u32) {
                 for place in 0..schema.len() {
-                    self.read_table(book, archive, asked, schema.at(place))?;
+                    self.read_table(book, archive, asked, schema.at(place), &widths)?;
                 }
             }
         }

@@ -37,9 +37,9 @@ pub(crate) fn begin_of(archive: &ArchiveState, version: usize) -> u64 {
     }
 }
 
-/// The widths of the tables of version `asked`, read from version `stored`; none where there is no
-/// such version.
-pub(crate) fn widths_of(
+// The widths of the tables of version `asked`, read from version `stored`; none where there is no
+// such version.
+fn widths_of(
     alloc: Global,
     archive: &ArchiveState,
     stored: usize,
@@ -51,4 +51,17 @@ pub(crate) fn widths_of(
         return Ok(BTreeMap::new(alloc));
     }
     widths_between(alloc, versions, stored, asked)
+}
+
+/// The widths of the tables of version `asked`, read from version 0, from version 1, and so on.
+pub(crate) fn widths_from_each(
+    alloc: Global,
+    archive: &ArchiveState,
+    asked: usize,
+) -> Result<Vec<BTreeMap<Name, TableWidth>>, NoMemory> {
+    let mut all = Vec::new(alloc);
+    for stored in 0..newest(archive) + 1 {
+        all.push(widths_of(alloc, archive, stored, asked)?)?;
+    }
+    Ok(all)
 }

@@ -26,8 +26,8 @@ loop-k-init c =
           (own_widths (tables_from no_tables versions c.args.stored)))) c.in_ok-widths.ensures;
     }
 
-pub go_back-requires-in-loop-k-clause-after : goal.go_back-requires-in-loop-k-clause-after
-go_back-requires-in-loop-k-clause-after c =
+pub go_back-requires-clause-after : goal.go_back-requires-clause-after
+go_back-requires-clause-after c =
     let vs = c.args.versions.now.list.items in
     let test = c.loop-k-test.true in
     let high = c.loop-k.invariant.high in
@@ -40,8 +40,8 @@ go_back-requires-in-loop-k-clause-after c =
     ∙ ap (λ (t : Tables). schema_after t (operator_of c.index-version.result.now.op))
     (sym c.tables_at-in-loop-k.ensures)
 
-pub go_back-requires-in-loop-k-clause-accepted : goal.go_back-requires-in-loop-k-clause-accepted
-go_back-requires-in-loop-k-clause-accepted c =
+pub go_back-requires-clause-accepted : goal.go_back-requires-clause-accepted
+go_back-requires-clause-accepted c =
     let vs = c.args.versions.now.list.items in
     let test = c.loop-k-test.true in
     let high = c.loop-k.invariant.high in
@@ -53,8 +53,8 @@ go_back-requires-in-loop-k-clause-accepted c =
     (version_accepted vs c.requires.versions j c.index-version.result.now below
     c.index-version.ensures)
 
-pub go_back-requires-in-loop-k-clause-few : goal.go_back-requires-in-loop-k-clause-few
-go_back-requires-in-loop-k-clause-few c =
+pub go_back-requires-clause-few : goal.go_back-requires-clause-few
+go_back-requires-clause-few c =
     let vs = c.args.versions.now.list.items in
     let test = c.loop-k-test.true in
     let high = c.loop-k.invariant.high in
@@ -78,12 +78,12 @@ loop-k-preserved c =
     let behind : j < c.args.stored = omega (arith, test, high) in
     let here : c.loop-k.k ≡ j + 1 = omega (arith, test) in
     let back = subst (λ (ops : List Op). GoesBack c.loop-k.widths.entries
-    c.go_back-in-loop-k.new.widths.entries c.tables_at-in-loop-k.result.now (operator_of v.op)
+    c.go_back.new.widths.entries c.tables_at-in-loop-k.result.now (operator_of v.op)
     v.schema (operators_of ops)) c.deref.ensures.value c.in_ok-go_back.ensures in
     record {
       low = omega (arith, low, test);
       high = omega (arith, high);
-      shown = subst (λ (w : Widths). Show c.go_back-in-loop-k.new.widths.entries w)
+      shown = subst (λ (w : Widths). Show c.go_back.new.widths.entries w)
           (back_step vs j v c.tables_at-in-loop-k.result.now c.args.stored below
           c.index-version.ensures c.tables_at-in-loop-k.ensures behind)
           (back (j + 1) (widths (j + 1)) (subst (λ (n : ℕ). Show c.loop-k.widths.entries
