@@ -112,9 +112,10 @@ fn measure_at(
 
 /// The measure of what makes a version after these, by an operator with its inverse, none where the
 /// list is empty: the greatest over the tables of the new version read from an earlier one, and of
-/// an earlier version read from the new one, of the pieces times what the largest of them has: its
-/// atoms, the size of its condition and that of what stands for each column. It stops at 2^63. The
-/// operator is accepted on the newest schema, and the inverse leads back.
+/// an earlier version read from the new one, of how many pieces there are times the sum of the
+/// greatest number of atoms, the greatest size of a condition, and those of what stands for each
+/// column. It stops at 2^63. The operator is accepted on the newest schema, and the inverse leads
+/// back.
 pub fn widest(alloc: Global, versions: &Versions, op: &Op, inverse: &[Op]) -> Result<u64, NoMemory>
     requires versions { AreVersions None no_tables (versions_of versions.now) }
     requires accepted { op_fault (newest_from no_tables (versions_of versions.now))
