@@ -2,7 +2,7 @@
 
 use crate::question::question;
 use crate::tally::Tally;
-use crate::version::{begin_of, newest, widths_from_each};
+use crate::version::{begin_of, version_count, widths_from_each};
 use crate::width::{is_within, least_width, write_beside};
 use archive_core_state::{ArchiveState, AskFault};
 use cases_text::write_number;
@@ -128,7 +128,10 @@ impl Reading {
         table: &Table,
         widths: &BTreeMap<Name, TableWidth>,
     ) -> Result<(), NoMemory> {
-        let when = When::During(begin_of(archive, stored), begin_of(archive, stored + 1));
+        let when = When::During(
+            begin_of(archive, stored),
+            begin_of(archive, stored.saturating_add(1)),
+        );
         match pieces_at(self.alloc, book, archive, asked, table, when)? {
             None => self.add_lost(table, stored, asked),
             Some(pieces) => self.read_over(stored, asked, table, &pieces, widths),
@@ -145,13 +148,12 @@ impl Reading {
         widths: &[BTreeMap<Name, TableWidth>],
     ) -> Result<(), NoMemory> {
         let pieces = pieces_at(self.alloc, book, archive, asked, table, When::Always)?;
-        let mut stored = 0;
-        for widths in widths {
+        for stored in 0..widths.len() {
+            let widths = &widths[stored];
             match &pieces {
                 None => self.read_alone(book, archive, stored, asked, table, widths)?,
                 Some(pieces) => self.read_over(stored, asked, table, pieces, widths)?,
             }
-            stored += 1;
         }
         Ok(())
     }
@@ -162,7 +164,7 @@ impl Reading {
         book: &RuleBook<R>,
         archive: &ArchiveState,
     ) -> Result<(), NoMemory> {
-        for asked in 0..newest(archive) + 1 {
+        for asked in 0..version_count(archive) {
             let widths = widths_from_each(self.alloc, archive, asked)?;
             if let Some(schema) = archive.groups().schema(asked as u32) {
                 for place in 0..schema.len() {

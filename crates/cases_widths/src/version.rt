@@ -21,9 +21,9 @@ fn evolved(archive: &ArchiveState) -> &Versions
     archive.groups().versions()
 }
 
-/// How many versions there are after version 0.
-pub(crate) fn newest(archive: &ArchiveState) -> usize {
-    archive.groups().versions().list.len()
+/// How many versions there are, version 0 among them.
+pub(crate) fn version_count(archive: &ArchiveState) -> usize {
+    archive.groups().versions().list.len().saturating_add(1)
 }
 
 /// The moment from which on a version is in force, and the end of time where there is none.
@@ -60,7 +60,7 @@ pub(crate) fn widths_from_each(
     asked: usize,
 ) -> Result<Vec<BTreeMap<Name, TableWidth>>, NoMemory> {
     let mut all = Vec::new(alloc);
-    for stored in 0..newest(archive) + 1 {
+    for stored in 0..version_count(archive) {
         all.push(widths_of(alloc, archive, stored, asked)?)?;
     }
     Ok(all)
