@@ -120,12 +120,12 @@ module _ (past : Past) (query : PlainQuery) (items : List AggItem) (group : ℕ)
   checks_tested so tables h result t = tested_as so (aggregate_fault tables items group query)
       (first_refusal (aggregate_checks past items group query)) (schema_checks tables h) result t
 
-  pub unnamed_tested : {A : Type 0} (fault : CallFault Refusal) → IsUnnamed past query fault
+  pub unnamed_tested : (A : Type 0) (fault : CallFault Refusal) → IsUnnamed past query fault
       → IsTested {A = A} (first_refusal (aggregate_checks past items group query)) (Err fault)
-  unnamed_tested (Refused r) h = first_before
+  unnamed_tested A (Refused r) h = first_before
       (excess_fault (excess_of query) ∷ version_fault past query.version ∷ [])
       (rest_of_tests (tables_of past query.version)) r h
-  unnamed_tested NoMemory h = tt
+  unnamed_tested A NoMemory h = tt
 
   pub checks_wrong : (fault : CallFault Refusal)
       → IsTested {A = Listing} (first_refusal (aggregate_checks past items group query))

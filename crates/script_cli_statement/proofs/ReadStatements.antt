@@ -1,5 +1,5 @@
 -- The constants of operators, bodies and queries that are read are valid.
-use Rattle.std.proofs.Common.{◌+◌, ℕ, List, [], ◌∷◌, ◌++◌, refl, sym, subst, inl, inr}
+use Rattle.std.proofs.Common.{◌≡◌, ◌+◌, ℕ, List, [], ◌∷◌, ◌++◌, refl, sym, subst, inl, inr}
 use Rattle.std.specs.Prelude.{Bool, codes, false, true}
 use Rattle.relations_spec.specs.Sets.{In}
 use Rattle.prima_base.specs.declared.refusal.What.{What}
@@ -228,6 +228,7 @@ inside r = first (led r)
 
 inside_is : {G : Grammar PlainQuery} (r : Read (IsInBrackets G))
     → value_read r ≡ value_read (inside r)
+unfolding inside
 inside_is r = given_value (led (rest (led r))).derived
 
 pub bracketed_valid : (r : Read (IsInBrackets IsAsk)) → ValidInQuery (value_read r)
