@@ -6,7 +6,8 @@
 # take as long whatever the rows are, and the others grow as the rows do. Then ten operators behind
 # ten versions, and ten behind 502, over tables of no rows, in milliseconds for one: the measure of
 # what an operator makes is taken over all versions before it, in one pass back and one forward, and
-# the second is to be at most a few times the first.
+# the second is to be at most a few times the first. Then the same where every third version creates
+# a table that the next one alters: this is the shape that needs most passes, one for each of these.
 set -eu
 top=$(cd "$(dirname "$0")/.." && pwd)
 "$top/prima" </dev/null >/dev/null || [ $? -eq 2 ] # builds what is missing; no words, no archive
@@ -18,7 +19,7 @@ program, sizes = sys.argv[1:3], [int(word) for word in sys.argv[3:]]
 
 
 def play(statements):
-    """The seconds of the run, and the most memory that it had, in KiB."""
+    """The seconds of the run, the most memory that it had in KiB, and its processor seconds."""
     with tempfile.TemporaryFile() as script, tempfile.TemporaryFile() as replies:
         script.write("\n".join(statements).encode())
         script.seek(0)
@@ -29,7 +30,7 @@ def play(statements):
         replies.seek(0)
         assert status == 0 and replies.read().count(b"\n") >= len(statements), (
             "a statement was refused")
-    return taken, used.ru_maxrss
+    return taken, used.ru_maxrss, used.ru_utime + used.ru_stime
 
 
 print(f"{'rows':>8} {'inserts':>9} {'NOPs':>9} {'in parts':>9} {'joined':>9} "
@@ -44,7 +45,7 @@ for n in sizes:
         f"AT {at + 1} EVOLVE MERGE TABLE low, high INTO t;"]
     joined = [f"AT {at} EVOLVE DECOMPOSE TABLE t INTO x (a, b), y (a, c);",
         f"AT {at + 1} EVOLVE JOIN TABLE x, y INTO t;"]
-    alone, least = play(rows)
+    alone, least, _ = play(rows)
     more = [play(rows + after) for after in (nops, parts, joined)]
     print(f"{n:>8} {alone:>9.3f} {more[0][0] - alone:>9.3f} {more[1][0] - alone:>9.3f} "
           f"{more[2][0] - alone:>9.3f} {least:>8} {more[0][1]:>9}")
@@ -57,11 +58,19 @@ def versions(count):
         + [f"AT {2 + i} EVOLVE {ops[i % 4]};" for i in range(count - 1)])
 
 
-def one_more(count):
-    """The milliseconds of an operator behind so many versions: the least of five tries."""
-    return min(play(versions(count + 10))[0] - play(versions(count))[0] for _ in range(5)) * 100
+def anew(count):
+    ops = ["CREATE TABLE t (a INT)", "ADD COLUMN b AS a INTO t", "DROP TABLE t"]
+    return [f"AT {1 + i} EVOLVE {ops[i % 3]};" for i in range(count)]
 
 
-few, many = one_more(10), one_more(502)
+def one_more(made, count):
+    """The processor milliseconds of an operator behind so many versions."""
+    before, after = ([play(made(n))[2] for _ in range(5)] for n in (count, count + 10))
+    return (min(after) - min(before)) * 100
+
+
+few, many = one_more(versions, 10), one_more(versions, 502)
 print(f"an operator behind 10 versions {few:.2f} ms, behind 502 versions {many:.2f} ms")
+few, many = one_more(anew, 10), one_more(anew, 502)
+print(f"where every third creates a table that the next one alters {few:.2f} ms, {many:.2f} ms")
 PYTHON
