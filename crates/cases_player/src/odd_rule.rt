@@ -2,9 +2,14 @@
 
 ghost use Rattle.cases_player.specs.Opposite.{opposite};
 
+use crate::oddity::{How, Oddity};
 use piece_ir::Piece;
 use prima_base::{NoMemory, OpKind};
-use rewrite_rules::Rule;
+use rewrite_rules::{
+    AddColumnRule, CopyTableRule, CreateTableRule, DecomposeTableRule, DropColumnRule,
+    DropTableRule, JoinTableRule, MergeTableRule, NopRule, PartitionTableRule, RenameColumnRule,
+    RenameTableRule, Rule,
+};
 use schema_catalog::Schema;
 use smo_ops_types::Op;
 use std::alloc::Global;
@@ -62,5 +67,33 @@ impl<R: Rule> Rule for OppositeRule<R> {
         let mut news = self.rule.rewrite(alloc, op, before, piece)?;
         news.reverse();
         Ok(news)
+    }
+}
+
+// A rule of its own type, made odd: what is boxed holds no boxed rule.
+macro_rules! made_odd {
+    ($alloc:expr, $how:expr, $rule:expr) => {{
+        match $how {
+            How::NoMemory => Ok(Box::new($alloc, RuleWithoutMemory { rule: $rule })?),
+            How::Opposite => Ok(Box::new($alloc, OppositeRule { rule: $rule })?),
+        }
+    }};
+}
+
+/// The odd rule of a book; at a place of no kind that of RENAME COLUMN.
+pub(crate) fn odd_rule(alloc: Global, odd: Oddity) -> Result<Box<dyn Rule>, NoMemory> {
+    match odd.place {
+        0 => made_odd!(alloc, odd.how, NopRule),
+        1 => made_odd!(alloc, odd.how, CreateTableRule),
+        2 => made_odd!(alloc, odd.how, DropTableRule),
+        3 => made_odd!(alloc, odd.how, RenameTableRule),
+        4 => made_odd!(alloc, odd.how, CopyTableRule),
+        5 => made_odd!(alloc, odd.how, MergeTableRule),
+        6 => made_odd!(alloc, odd.how, PartitionTableRule),
+        7 => made_odd!(alloc, odd.how, DecomposeTableRule),
+        8 => made_odd!(alloc, odd.how, JoinTableRule),
+        9 => made_odd!(alloc, odd.how, AddColumnRule),
+        10 => made_odd!(alloc, odd.how, DropColumnRule),
+        _ => made_odd!(alloc, odd.how, RenameColumnRule),
     }
 }

@@ -1,12 +1,19 @@
 //! The lines that begin a case over a book with an odd rule.
 
-/// How a book is odd, with the place of the odd rule among those of the twelve kinds.
+/// How a rule is odd.
 #[derive(Clone, Copy)]
-pub(crate) enum Oddity {
-    /// The rule finds no memory.
-    NoMemory(usize),
-    /// The rule answers its pieces in the opposite order.
-    Opposite(usize),
+pub(crate) enum How {
+    /// It finds no memory.
+    NoMemory,
+    /// It answers its pieces in the opposite order.
+    Opposite,
+}
+
+/// How a book is odd: how one rule is, and its place among those of the twelve kinds.
+#[derive(Clone, Copy)]
+pub(crate) struct Oddity {
+    pub how: How,
+    pub place: usize,
 }
 
 // The kinds of operators, in the order of the table of operators.
@@ -25,16 +32,17 @@ const KINDS: [&[u8]; 12] = [
     b"RENAME COLUMN",
 ];
 
-// The place of the kind, if it is one.
-fn place_of(kind: &[u8]) -> Option<usize> {
-    KINDS.iter().position(|known| *known == kind)
+// The book whose rule of this kind is odd, if it is a kind.
+fn odd_of(how: How, kind: &[u8]) -> Option<Oddity> {
+    let place = KINDS.iter().position(|known| *known == kind)?;
+    Some(Oddity { how, place })
 }
 
 /// What is odd of the book of the case that a line begins, if anything is.
 pub(crate) fn oddity_of(line: &[u8]) -> Option<Oddity> {
     match line {
-        [b'=', b'-', b' ', kind @ ..] => place_of(kind).map(Oddity::NoMemory),
-        [b'=', b'~', b' ', kind @ ..] => place_of(kind).map(Oddity::Opposite),
+        [b'=', b'-', b' ', kind @ ..] => odd_of(How::NoMemory, kind),
+        [b'=', b'~', b' ', kind @ ..] => odd_of(How::Opposite, kind),
         _ => None,
     }
 }

@@ -3,7 +3,7 @@
 ghost use Rattle.std.specs.Prelude.{◌≤◌, length};
 
 use crate::block::{Block, block_of};
-use crate::odd_rule::{OppositeRule, RuleWithoutMemory};
+use crate::odd_rule::odd_rule;
 use crate::oddity::{Oddity, oddity_of};
 use disk_model::MemDisk;
 use itoa::Buffer;
@@ -70,13 +70,9 @@ fn run_oddly<S: Source, K: Sink>(
     let mut rules: Vec<Box<dyn Rule>> = Vec::new(alloc);
     push_every_rule!(alloc, rules);
     match odd {
-        Some(Oddity::NoMemory(place)) if place < rules.len() => {
-            let rule = rules.remove(place);
-            rules.push(Box::new(alloc, RuleWithoutMemory { rule })?)?;
-        }
-        Some(Oddity::Opposite(place)) if place < rules.len() => {
-            let rule = rules.remove(place);
-            rules.push(Box::new(alloc, OppositeRule { rule })?)?;
+        Some(odd) if odd.place < rules.len() => {
+            rules.remove(odd.place);
+            rules.push(odd_rule(alloc, odd)?)?;
         }
         _ => {}
     }
