@@ -34,7 +34,10 @@ fn pieces_at<R: Rule>(
     table: &Table,
     when: When,
 ) -> Result<Option<Vec<Explained>>, NoMemory> {
-    let Some(query) = question(alloc, asked as u32, table, when)? else {
+    let Ok(version) = u32::try_from(asked) else {
+        return Ok(None);
+    };
+    let Some(query) = question(alloc, version, table, when)? else {
         return Ok(None);
     };
     match archive.explain(book, &query) {
@@ -108,7 +111,8 @@ impl Reading {
         pieces: &[Explained],
         widths: &BTreeMap<Name, TableWidth>,
     ) -> Result<(), NoMemory> {
-        let found = least_width(self.alloc, pieces, stored as u32)?;
+        let version = u32::try_from(stored).unwrap_or(u32::MAX);
+        let found = least_width(self.alloc, pieces, version)?;
         match widths.get(table.name()) {
             Some(width) => self.add_read(table, stored, asked, &found, width),
             None => {
@@ -166,7 +170,8 @@ impl Reading {
     ) -> Result<(), NoMemory> {
         for asked in 0..version_count(archive) {
             let widths = widths_from_each(self.alloc, archive, asked)?;
-            if let Some(schema) = archive.groups().schema(asked as u32) {
+            let version = u32::try_from(asked).unwrap_or(u32::MAX);
+            if let Some(schema) = archive.groups().schema(version) {
                 for place in 0..schema.len() {
                     self.read_table(book, archive, asked, schema.at(place), &widths)?;
                 }
