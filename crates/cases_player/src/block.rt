@@ -14,7 +14,7 @@ pub(crate) enum Block {
 /// The block that a line begins, if it begins one.
 pub(crate) fn block_of(line: &[u8]) -> Option<Block> {
     match line {
-        [b'=', b'=', b' ', ..] => Some(Block::Alone),
+        [b'=', b'=' | b'-' | b'~', b' ', ..] => Some(Block::Alone),
         [b'=', b'.', b' ', ..] => Some(Block::Setup),
         [b'=', b'+', b' ', ..] => Some(Block::After),
         _ => None,

@@ -3,12 +3,12 @@
 ghost use Rattle.std.specs.Prelude.{◌≤◌, length};
 
 use crate::block::{Block, block_of};
-use disk_model::MemDisk;
+use crate::oddity::{Oddity, oddity_of};
+use crate::run::run_oddly;
 use itoa::Buffer;
 use prima_base::NoMemory;
-use prima_io::{MemSink, MemSource, Sink, Source};
-use rewrite_rules::{Rule, RuleBook, push_every_rule};
-use script_cli::{Status, Word, run};
+use prima_io::{MemSink, MemSource};
+use script_cli::Word;
 use std::alloc::{AllocError, Global};
 
 // How many bytes the replies to one script may have.
@@ -17,11 +17,6 @@ const ROOM: usize = 1 << 20;
 // How many bytes of a script are handed out at once.
 const CHUNK: usize = 7;
 
-// How many writes and syncs the disk of a script has room for, and how many bytes.
-const DISK_CALLS: u64 = 1 << 16;
-
-const DISK_ROOM: u64 = 1 << 22;
-
 // The replies to a script, and the number of the status with which its run ended.
 #[derive(Drop)]
 struct Played {
@@ -29,42 +24,14 @@ struct Played {
     code: u8,
 }
 
-// Runs a script over an empty disk in memory, with these rules.
-fn run_by<S: Source, K: Sink, R: Rule>(
-    alloc: Global,
-    rules: Vec<R>,
-    words: &[Word],
-    source: &mut S,
-    sink: &mut K,
-) -> Result<Status, NoMemory> {
-    let Ok(book) = RuleBook::new(alloc, rules) else {
-        return Err(NoMemory);
-    };
-    let mut disk = MemDisk::new(alloc, Vec::new(alloc), DISK_CALLS, DISK_ROOM)?;
-    Ok(run(alloc, words, &book, source, sink, &mut disk))
-}
-
-/// Runs a script over an empty disk in memory, with one rule for each kind of operator. The one
-/// error comes where there is no memory for the rules or the disk.
-pub fn run_with_rules<S: Source, K: Sink>(
-    alloc: Global,
-    words: &[Word],
-    source: &mut S,
-    sink: &mut K,
-) -> Result<Status, NoMemory> {
-    let mut rules: Vec<Box<dyn Rule>> = Vec::new(alloc);
-    push_every_rule!(alloc, rules);
-    run_by(alloc, rules, words, source, sink)
-}
-
 // Plays one script.
-fn play_script(alloc: Global, script: &[u8]) -> Result<Played, NoMemory> {
+fn play_script(alloc: Global, odd: Option<Oddity>, script: &[u8]) -> Result<Played, NoMemory> {
     let mut words: Vec<Word> = Vec::new(alloc);
     words.push(String::from_str(alloc, "run")?)?;
     let bytes = Vec::from_slice(alloc, script)?;
     let mut source = MemSource::new(bytes, CHUNK, Vec::new(alloc));
     let mut sink = MemSink::new(alloc, ROOM, Vec::new(alloc))?;
-    let status = run_with_rules(alloc, &words, &mut source, &mut sink)?;
+    let status = run_oddly(alloc, odd, &words, &mut source, &mut sink)?;
     Ok(Played {
         replies: Vec::from_slice(alloc, sink.written())?,
         code: status.code(),
@@ -76,6 +43,7 @@ fn play_script(alloc: Global, script: &[u8]) -> Result<Played, NoMemory> {
 struct Player {
     alloc: Global,
     block: Block,
+    odd: Option<Oddity>,
     setup: Vec<u8>,
     setup_replies: usize,
     script: Vec<u8>,
@@ -87,6 +55,7 @@ impl Player {
         Player {
             alloc,
             block: Block::Setup,
+            odd: None,
             setup: Vec::new(alloc),
             setup_replies: 0,
             script: Vec::new(alloc),
@@ -96,7 +65,7 @@ impl Player {
 
     // The script before this point stands before those of the cases to come.
     fn end_setup(&mut self) -> Result<(), NoMemory> {
-        let played = play_script(self.alloc, &self.script)?;
+        let played = play_script(self.alloc, None, &self.script)?;
         self.setup_replies = played.replies.len();
         self.setup = Vec::from_slice(self.alloc, &self.script)?;
         Ok(())
@@ -110,7 +79,7 @@ impl Player {
             whole.extend_from_slice(&self.setup)?;
         }
         whole.extend_from_slice(&self.script)?;
-        let played = play_script(self.alloc, &whole)?;
+        let played = play_script(self.alloc, self.odd, &whole)?;
         let from = if is_after { self.setup_replies } else { 0 };
         let own = played.replies.get(from..).unwrap_or_default();
         self.answers.extend_from_slice(own)?;
@@ -137,6 +106,7 @@ impl Player {
     fn begin_block(&mut self, block: Block, line: &[u8]) -> Result<(), NoMemory> {
         self.end_block()?;
         self.block = block;
+        self.odd = oddity_of(line);
         if block != Block::Setup {
             self.answers.extend_from_slice(b"== ")?;
             self.answers

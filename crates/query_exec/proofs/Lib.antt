@@ -15,3 +15,4 @@ pub mod RunLaws
 pub mod QueryParts
 pub mod FoundDead
 pub mod ToldMeaningLaws
+pub mod KnownToLive

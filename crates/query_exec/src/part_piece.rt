@@ -7,6 +7,7 @@ ghost use Rattle.version_groups.specs.Groups.{versions_in};
 ghost use Rattle.piece_ir_spec.specs.Typed.{AllTyped};
 ghost use Rattle.piece_ir.specs.Shown.{shown_pieces};
 ghost use Rattle.piece_prune.specs.DeadPieces.{AreLiving, lives};
+ghost use Rattle.rewrite_rules_book.specs.LivingPieces.{AreKnownToLive};
 
 use piece_ir::{Piece, copy_pieces};
 use piece_prune::living;
@@ -21,16 +22,19 @@ pub(crate) struct PartPieces {
     pub(crate) pieces: Vec<Piece>,
 }
 
-/// Of the pieces over the version of a part, those that are not dead.
+/// Of the pieces over the version of a part, those that are not dead. Where it is known that none of
+/// them is, none is looked at again.
 pub(crate) fn part_pieces(
     alloc: Global,
     groups: &Groups,
     part: (Period, u32),
     pieces: &[Piece],
+    pruned: bool,
 ) -> Result<PartPieces, NoMemory>
     requires there { part.1 ≤ length groups.now.versions }
     requires typed { AllTyped (tables_from no_tables (versions_in groups.now) part.1)
         (shown_pieces pieces.now) }
+    requires pruned { AreKnownToLive pruned (shown_pieces pieces.now) }
     ensures part { IfOk result (λ x. x.part ≡ part) }
     ensures living { IfOk result (λ x. AreLiving
         (tables_from no_tables (versions_in groups.now) part.1) (shown_pieces pieces.now)
@@ -38,7 +42,14 @@ pub(crate) fn part_pieces(
     ensures told { IfOk result (λ x. shown_pieces x.pieces.items
         ≡ filter lives (shown_pieces pieces.now)) }
 {
+    let copies = copy_pieces(alloc, pieces)?;
+    if pruned {
+        return Ok(PartPieces {
+            part,
+            pieces: copies,
+        });
+    }
     let schema = groups.schema_of(part.1);
-    let pieces = living(copy_pieces(alloc, pieces)?, schema);
+    let pieces = living(copies, schema);
     Ok(PartPieces { part, pieces })
 }

@@ -41,7 +41,7 @@ pub(crate) fn pieces_along<R: Rule>(
     let mut plan = Vec::new(alloc);
     for part in parts {
         walk = walk.to(alloc, book, versions, part.1)?;
-        plan.push(part_pieces(alloc, groups, *part, &walk.pieces)?)?;
+        plan.push(part_pieces(alloc, groups, *part, &walk.pieces, walk.pruned)?)?;
     }
     Ok(plan)
 }

@@ -1,11 +1,12 @@
 -- The steps of the code that takes pieces along the versions.
 use Rattle.std.proofs.Common.{◌≡◌, ◌+◌, ◌-◌, ◌≤◌, ◌<◌, ℕ, suc, List, [], ◌∷◌, ◌++◌, map, take, drop}
 use Rattle.std.proofs.Common.{length, get_or, drop-cons, add-one, append_assoc, refl, sym, ap}
-use Rattle.std.proofs.Common.{subst, ◌∙◌, arith}
-use Rattle.std.specs.Prelude.{◌==◌, true, false, Option, Some, None}
+use Rattle.std.proofs.Common.{subst, ◌∙◌, inl, inr, arith}
+use Rattle.std.specs.Prelude.{◌==◌, ◌⊎◌, true, false, Option, Some, None}
 use Rattle.std.specs.FinMap.{get}
 use Rattle.std.proofs.lemmas.List.{map-append, take_all, length-map}
-use Rattle.relations_spec.proofs.SetLaws.{in_map}
+use Rattle.relations_spec.specs.Sets.{In}
+use Rattle.relations_spec.proofs.SetLaws.{in_map, in_append}
 use Rattle.schema_catalog.specs.Tables.{Tables}
 use Rattle.smo_ops_types.specs.Operators.{Operator, operator_of, operators_of}
 use Rattle.smo_ops_types.specs.declared.op.Op.{Op}
@@ -37,6 +38,7 @@ use Rattle.piece_ir.specs.declared.piece.Piece.{Piece}
 use Rattle.piece_ir_spec.specs.Chains.{through, brought, through_each}
 use Rattle.piece_ir_spec.specs.Chains.{to_previous, to_next}
 use Rattle.piece_ir_spec.proofs.ChainSteps.{all_typed}
+use Rattle.rewrite_rules_book.specs.LivingPieces.{IsLiving, AllLiving}
 use Rattle.rewrite_losses.proofs.Places.{in_at}
 use Rattle.rewrite_losses.proofs.Sides.{here, sides}
 
@@ -69,11 +71,26 @@ module _ (book : Book) (op : Operator) (before : Tables) where
       ap (λ (xs : List Piece). shown_pieces xs ++ gone (drop (i + 1) pieces)) so
       ∙ more all news pieces i p goal l e is h
 
+-- what is put after pieces that live lives with them
+pub more_live : (all news after : List Piece) → after ≡ all ++ news
+    → AllLiving (shown_pieces all) → AllLiving (shown_pieces news) → AllLiving (shown_pieces after)
+more_live all news after so first second p m =
+    step (in_append p (shown_pieces all) (shown_pieces news)
+    (subst (λ (ps : List PlainPiece). In p ps) (ap shown_pieces so ∙ map-append piece_of all news)
+    m))
+  where
+    step : In p (shown_pieces all) ⊎ In p (shown_pieces news) → IsLiving p
+    step (inl k) = first p k
+    step (inr k) = second p k
+
 pub when_empty : (n : ℕ) → true ≡ (n == 0) → n ≡ 0
 when_empty n e = grind (arith, e)
 
 pub when_some : (n : ℕ) → false ≡ (n == 0) → n ≡ 0 → ⊥
 when_some n e z = grind (arith, e, z)
+
+pub has_one : (n : ℕ) → false ≡ (n == 0) → 0 < n
+has_one n e = grind (arith, e)
 
 pub typed_at : (tables : Tables) (pieces : List Piece) (i : ℕ) (p : Piece) → i < length pieces
     → p ≡ get_or pieces i p → AllTyped tables (shown_pieces pieces) → IsTyped tables (piece_of p)

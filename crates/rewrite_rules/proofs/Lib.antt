@@ -1,2 +1,3 @@
 pub mod RuleLaw
+pub mod LivingLaw
 pub mod PairSteps

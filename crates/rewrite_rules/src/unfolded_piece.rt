@@ -5,6 +5,7 @@ ghost use Rattle.piece_ir_spec.specs.Typed.{IsTyped};
 ghost use Rattle.piece_ir_spec.specs.Rules.{KeepsMeaning};
 ghost use Rattle.piece_ir.specs.Shown.{piece_of, shown_pieces};
 ghost use Rattle.piece_ir_spec.specs.OperatorViews.{operator_views};
+ghost use Rattle.rewrite_rules_book.specs.LivingPieces.{AllLiving};
 ghost use Rattle.rewrite_rules.specs.LivingUnfoldings.{living_by_views};
 
 use crate::made_table::made_tables;
@@ -31,6 +32,7 @@ pub(crate) fn unfolded(
         ≡ living_by_views operator_views (operator_of op.now) before.now (piece_of piece.now)) }
     ensures keeps { IfOk result (λ news. KeepsMeaning before.now (operator_of op.now)
         (piece_of piece.now) (shown_pieces news.items)) }
+    ensures living { IfOk result (λ news. AllLiving (shown_pieces news.items)) }
 {
     let made = made_tables(alloc, op, before)?;
     let news = unfold_by(alloc, &made, piece)?;

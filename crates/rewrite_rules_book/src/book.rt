@@ -7,6 +7,7 @@ ghost use Rattle.piece_ir_spec.specs.Books.{book_of, AreValidRules, HasEachKind}
 ghost use Rattle.piece_ir_spec.specs.Books.{first_twice as twice, first_missing as missing};
 ghost use Rattle.piece_ir.specs.Shown.{piece_of, shown_pieces};
 ghost use Rattle.rewrite_rules_book.specs.Faults.{IsBookChecked, IsFault};
+ghost use Rattle.rewrite_rules_book.specs.LivingPieces.{AllLiving};
 
 use crate::Rule;
 use crate::kind::{first_missing, first_twice, kind_of, same_kind};
@@ -96,9 +97,10 @@ fn rewrite_by<R: Rule>(
     requires valid { IsValid before.now }
     requires accepted { op_fault before.now (operator_of op.now) ≡ None }
     requires typed { IsTyped (schema_after before.now (operator_of op.now)) (piece_of piece.now) }
-    ensures { IfOk result (λ news. shown_pieces news.items
+    ensures is { IfOk result (λ news. shown_pieces news.items
         ≡ book_of R.handles R.answers rules.now (operator_of op.now) before.now
         (piece_of piece.now)) }
+    ensures living { IfOk result (λ news. AllLiving (shown_pieces news.items)) }
 {
     match rules {
         [] => Ok(Vec::new(alloc)),
@@ -151,9 +153,9 @@ impl<R: Rule> RuleBook<R> {
         known(&self.rules);
     }
 
-    /// What the rule of the operator's kind answers. The operator is accepted on the valid schema
-    /// before it, and the piece is well-typed over the schema after it. The one error is
-    /// `NoMemory`, where memory runs out.
+    /// What the rule of the operator's kind answers, none of which is dead. The operator is accepted
+    /// on the valid schema before it, and the piece is well-typed over the schema after it. The one
+    /// error is `NoMemory`, where memory runs out.
     pub fn rewrite(
         &self,
         alloc: Global,
@@ -165,9 +167,10 @@ impl<R: Rule> RuleBook<R> {
         requires accepted { op_fault before.now (operator_of op.now) ≡ None }
         requires typed { IsTyped (schema_after before.now (operator_of op.now))
             (piece_of piece.now) }
-        ensures { IfOk result (λ news. shown_pieces news.items
+        ensures is { IfOk result (λ news. shown_pieces news.items
             ≡ book_of R.handles R.answers self.now.rules.items (operator_of op.now) before.now
             (piece_of piece.now)) }
+        ensures living { IfOk result (λ news. AllLiving (shown_pieces news.items)) }
     {
         rewrite_by(alloc, &self.rules, op, before, piece)
     }

@@ -6,6 +6,7 @@ ghost use Rattle.smo_ops_spec.specs.After.{op_fault, schema_after, IsValid};
 ghost use Rattle.piece_ir_spec.specs.Typed.{IsTyped};
 ghost use Rattle.piece_ir_spec.specs.Rules.{Book, IsValidRule, KeepsMeaning};
 ghost use Rattle.piece_ir.specs.Shown.{piece_of, shown_pieces};
+ghost use Rattle.rewrite_rules_book.specs.LivingPieces.{AllLiving};
 
 use piece_ir::Piece;
 use prima_base::{NoMemory, OpKind};
@@ -29,9 +30,9 @@ pub trait Rule: Drop {
         ensures is { result ≡ handles self.now }
         ensures valid { IsValidRule (handles self.now) (answers self.now) };
 
-    /// Its answer. The operator is of its kind and is accepted on the valid schema before it, and
-    /// the piece is well-typed over the schema after it. The one error is `NoMemory`, where memory
-    /// runs out.
+    /// Its answer, none of which is dead: whoever has it need not ask again which pieces live. The
+    /// operator is of its kind and is accepted on the valid schema before it, and the piece is
+    /// well-typed over the schema after it. The one error is `NoMemory`, where memory runs out.
     fn rewrite(
         &self,
         alloc: Global,
@@ -47,7 +48,8 @@ pub trait Rule: Drop {
         ensures is { IfOk result (λ news. shown_pieces news.items
             ≡ answers self.now (operator_of op.now) before.now (piece_of piece.now)) }
         ensures keeps { IfOk result (λ news. KeepsMeaning before.now (operator_of op.now)
-            (piece_of piece.now) (shown_pieces news.items)) };
+            (piece_of piece.now) (shown_pieces news.items)) }
+        ensures living { IfOk result (λ news. AllLiving (shown_pieces news.items)) };
 }
 
 /// A boxed rule is the rule in its box.

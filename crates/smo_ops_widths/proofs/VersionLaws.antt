@@ -62,6 +62,23 @@ on_step vs k v before stored l e b low =
     ∙ sym (taken_forward (map version_of vs) widths_stepped stored k
     (own_widths (tables_from no_tables (map version_of vs) stored)) low)
 
+-- ---- back
+
+pub back_step : (vs : List Version) (k : ℕ) (v : Version) (before : Tables) (stored : ℕ)
+    → k < length vs → v ≡ get_or vs k v → before ≡ tables_from no_tables (map version_of vs) k
+    → k < stored
+    → taken widths_stepped (back_over (k + 1) before (operator_of v.op) v.schema
+    (operators_of v.inverse.items)) (widths_of (map version_of vs) stored (k + 1))
+    ≡ widths_of (map version_of vs) stored k
+back_step vs k v before stored l e b low =
+    ap (λ (t : Tables). taken widths_stepped (back_over (k + 1) t (operator_of v.op) v.schema
+    (operators_of v.inverse.items)) (widths_of (map version_of vs) stored (k + 1))) b
+    ∙ sym (ap (λ o. taken widths_stepped (back_over_version (k + 1)
+    (tables_from no_tables (map version_of vs) k) o)
+    (widths_of (map version_of vs) stored (k + 1))) (version_at_place vs k v l e))
+    ∙ sym (taken_backward (map version_of vs) widths_stepped stored k
+    (own_widths (tables_from no_tables (map version_of vs) stored)) low)
+
 -- ---- with one more
 
 module _ (vs : List Version) (stamp : ℕ) (op : Operator) (inverse : List Operator) where

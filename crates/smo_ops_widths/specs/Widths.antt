@@ -1,5 +1,6 @@
 -- How wide a table of one version is where it is read from another: how many pieces there are, the
--- atoms and the size of the condition of the largest, and the size of what stands for each column.
+-- greatest number of atoms of one of them, the greatest size of a condition, and for each column the
+-- greatest size of what stands for it, each number by itself.
 use Rattle.std.specs.Prelude.{ℕ, zero, suc, ◌+◌, ◌*◌, ◌^◌, List, [], ◌∷◌, ◌++◌, map, max, min}
 use Rattle.std.specs.Prelude.{length, Option, Some, None, if◌then◌else◌}
 use Rattle.std.specs.Option.{option_map}

@@ -5,9 +5,13 @@
 mod measure;
 mod names;
 mod new_version;
+mod read_version;
 mod size;
 mod way;
 mod width;
 mod widths;
 
 pub use new_version::{MAX_MEASURE, widest};
+pub use read_version::widths_between;
+pub use size::size_of;
+pub use width::TableWidth;

@@ -17,6 +17,7 @@ ghost use Rattle.smo_ops_widths.specs.Shown.{Show};
 
 use crate::measure::greatest;
 use crate::names::{creates_one, insert_named};
+use crate::read_version::widths_ahead;
 use crate::way::{carry, go_back};
 use crate::width::TableWidth;
 use crate::widths::own_widths;
@@ -32,27 +33,6 @@ const MOST: u64 = 1 << 63;
 
 /// The greatest measure that what makes a version may have.
 pub const MAX_MEASURE: u64 = 1_000_000;
-
-// The widths of the tables of the newest version, read from version `stored`.
-fn widths_on(
-    alloc: Global,
-    versions: &Versions,
-    stored: usize,
-) -> Result<BTreeMap<Name, TableWidth>, NoMemory>
-    requires there { stored ≤ length versions.now.list.items }
-    ensures { IfOk result (λ m. Show m.entries
-        (widths_of (versions_of versions.now) stored (length versions.now.list.items))) }
-{
-    let nothing = Schema::empty(alloc);
-    let mut widths = own_widths(alloc, tables_at(&nothing, versions, stored))?;
-    let mut k = stored;
-    while k < versions.list.len() {
-        let before = tables_at(&nothing, versions, k);
-        carry(alloc, before, &versions.list[k].op, &mut widths)?;
-        k += 1;
-    }
-    Ok(widths)
-}
 
 // The greatest measure of the tables of the version that the operator makes, read from version
 // `stored`.
@@ -70,9 +50,10 @@ fn measure_on(
         → most ≡ stopped (greatest_of (with_version (versions_of versions.now) stamp
         (operator_of op.now) inverse) stored (length versions.now.list.items + 1))) }
 {
-    let mut widths = widths_on(alloc, versions, stored)?;
+    let last = versions.list.len();
+    let mut widths = widths_ahead(alloc, versions, stored, last)?;
     let nothing = Schema::empty(alloc);
-    let newest = tables_at(&nothing, versions, versions.list.len());
+    let newest = tables_at(&nothing, versions, last);
     carry(alloc, newest, op, &mut widths)?;
     Ok(greatest(next, &widths))
 }
@@ -131,9 +112,10 @@ fn measure_at(
 
 /// The measure of what makes a version after these, by an operator with its inverse, none where the
 /// list is empty: the greatest over the tables of the new version read from an earlier one, and of
-/// an earlier version read from the new one, of the pieces times what the largest of them has: its
-/// atoms, the size of its condition and that of what stands for each column. It stops at 2^63. The
-/// operator is accepted on the newest schema, and the inverse leads back.
+/// an earlier version read from the new one, of how many pieces there are times the sum of the
+/// greatest number of atoms, the greatest size of a condition, and those of what stands for each
+/// column. It stops at 2^63. The operator is accepted on the newest schema, and the inverse leads
+/// back.
 pub fn widest(alloc: Global, versions: &Versions, op: &Op, inverse: &[Op]) -> Result<u64, NoMemory>
     requires versions { AreVersions None no_tables (versions_of versions.now) }
     requires accepted { op_fault (newest_from no_tables (versions_of versions.now))

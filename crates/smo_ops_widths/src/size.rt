@@ -13,7 +13,7 @@ use smo_ops_columns::has_name;
 use std::alloc::Global;
 
 /// The size that stands beside the name, and 1 where the name is not there.
-pub(crate) fn size_of(sizes: &[(Name, u64)], name: &Name) -> u64
+pub fn size_of(sizes: &[(Name, u64)], name: &Name) -> u64
     ensures { result ≡ size_in sizes.now name.now }
 {
     for (column, size) in sizes {

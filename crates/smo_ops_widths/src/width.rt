@@ -16,11 +16,12 @@ use prima_base::{ColType, Name, NoMemory};
 use smo_ops_columns::has_name;
 use std::alloc::Global;
 
-/// How many pieces a table is read by, the atoms and the size of the condition of the largest, and
-/// the sizes of what stands for its columns, by their names: 1 where a name is not there. Each
-/// number stops at the greatest that there is.
+/// How wide a table is: how many pieces it is read by, the greatest number of atoms of one of them,
+/// the greatest size of a condition, and for each column the greatest size of what stands for it, by
+/// its name: 1 where a name is not there. Each number stands for itself, and stops at the greatest
+/// that there is.
 #[derive(Drop)]
-pub(crate) struct TableWidth {
+pub struct TableWidth {
     pub pieces: u64,
     pub atoms: u64,
     pub cond: u64,

@@ -12,6 +12,7 @@ use Rattle.piece_ir.specs.declared.piece.Piece.{Piece}
 use Rattle.piece_ir_spec.specs.Beginnings.{asking, first_piece}
 use Rattle.piece_ir_spec.specs.UnfoldedPieces.{StandFor}
 use Rattle.piece_ir_spec.proofs.UnfoldedPieceLaws.{stand_first}
+use Rattle.rewrite_rules_book.specs.LivingPieces.{AreKnownToLive}
 use Rattle.period_split.specs.Splitting.{Part}
 use Rattle.query_exec.specs.Routes.{LeadAway}
 use Rattle.query_exec.specs.Asked.{read_asked}
@@ -116,6 +117,11 @@ part_pieces-requires-clause-typed g c =
     (versions_of c.versions-versions.result.now) same c.args.asked c.args.table.now
     (read_asked c.args.question.now) parts c.requires.along c.known.ensures p.1
     (shown_pieces c.in_ok-walk.walk.pieces.items) stand)
+
+pub part_pieces-requires-clause-pruned : goal.part_pieces-requires-clause-pruned
+part_pieces-requires-clause-pruned g c =
+    subst (λ (ps : List Piece). AreKnownToLive c.in_ok-walk.walk.pruned (shown_pieces ps))
+    (sym c.deref-in-loop-part.ensures.value) c.in_ok-walk.walk.living
 
 pub loop-part-preserved : goal.loop-part-preserved
 loop-part-preserved g c =

@@ -1,5 +1,4 @@
 use Rattle.std.proofs.Common.{◌∙◌, List, sym, ap, subst}
-use Rattle.std.proofs.lemmas.Result.{IfOk-weaker}
 use Rattle.std.specs.Option.{option_map}
 use Rattle.smo_ops_types.specs.Operators.{operator_of}
 use Rattle.piece_ir_spec.specs.Typed.{AllTyped}
@@ -30,15 +29,14 @@ through-requires-clause-typed g c =
     (subst (λ (xs : List Piece). AllTyped c.args.before.now (shown_pieces xs))
     (sym c.deref.ensures.value) c.requires.typed)
 
-pub returns-in-Some : goal.returns-in-Some
-returns-in-Some g c = λ loss.
-    IfOk-weaker c.through.result _ _ (λ news h.
+pub returns-in_ok-news-in-Some-clause-is : goal.returns-in_ok-news-in-Some-clause-is
+returns-in_ok-news-in-Some-clause-is g c = λ loss.
     derived_is (book_of g.R.Rule.handles g.R.Rule.answers c.args.book.now.rules.items)
     c.args.before.now c.args.next.now (operator_of c.args.op.now)
-    (operator_of c.in-Some.back) (shown_pieces c.args.pieces.items) (shown_pieces news.items) loss
+    (operator_of c.in-Some.back) (shown_pieces c.args.pieces.items)
+    (shown_pieces c.in_ok-news-in-Some.news.items) loss
     c.requires.next (sym c.in_ok-derived.ensures ∙ ap (option_map operator_of) c.in-Some.is)
-    (h ∙ ap (λ (xs : List Piece). through
+    (c.in_ok-news-in-Some.ensures.is ∙ ap (λ (xs : List Piece). through
     (book_of g.R.Rule.handles g.R.Rule.answers c.args.book.now.rules.items)
     (operator_of c.in-Some.back) c.args.next.now
-    (shown_pieces xs)) c.deref.ensures.value))
-    c.through.ensures
+    (shown_pieces xs)) c.deref.ensures.value)

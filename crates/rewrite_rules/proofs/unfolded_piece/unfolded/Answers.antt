@@ -10,6 +10,7 @@ use Rattle.piece_prune.specs.DeadPieces.{lives}
 use Rattle.piece_ir_spec.specs.OperatorViews.{operator_views}
 use Rattle.rewrite_rules.specs.LivingUnfoldings.{living_by_views}
 use Rattle.rewrite_rules.proofs.RuleLaw.{kept, all_typed}
+use Rattle.rewrite_rules.proofs.LivingLaw.{left_live}
 use Rattle.rewrite_rules.proofs.unfolded_piece.unfolded.Goals as goal
 
 pub living-requires : goal.living-requires
@@ -42,4 +43,10 @@ returns c =
       keeps = kept c.args.before.now (operator_of c.args.op.now) (piece_of c.args.piece.now)
           (shown_pieces c.living.result.items) c.requires.valid c.requires.accepted c.requires.typed
           is;
+      living = left_live c.args.before.now (shown_pieces c.in_ok-news.news.items)
+          (shown_pieces c.living.result.items)
+          (subst (AllTyped c.args.before.now) (sym all) (all_typed c.args.before.now
+          (operator_of c.args.op.now) (piece_of c.args.piece.now) c.requires.valid
+          c.requires.accepted c.requires.typed))
+          c.living.ensures.living c.living.ensures.told;
     }

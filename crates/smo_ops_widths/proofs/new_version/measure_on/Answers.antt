@@ -1,4 +1,4 @@
-use Rattle.std.proofs.Common.{◌≡◌, ◌+◌, ◌∙◌, sym, ap, subst, length, arith}
+use Rattle.std.proofs.Common.{◌≡◌, ◌+◌, ◌∙◌, ℕ, sym, ap, subst, length, arith}
 use Rattle.std.specs.FinMap.{entries}
 use Rattle.schema_catalog.specs.Tables.{Tables}
 use Rattle.smo_ops_types.specs.Operators.{operator_of}
@@ -13,8 +13,8 @@ use Rattle.smo_ops_widths.proofs.new_version.measure_on.Goals as goal
 pub returns : goal.returns
 returns c = λ stamp inverse.
     let vs = c.args.versions.now.list.items in
-    let count : c.len.result ≡ length c.args.versions.now.list.items =
-    (let n = c.len.ensures in omega (arith, n)) in
+    let count : c.len-last.result ≡ length c.args.versions.now.list.items =
+    (let n = c.len-last.ensures in omega (arith, n)) in
     let there = c.tables_at-newest.ensures
     ∙ ap (tables_from no_tables (versions_of c.args.versions.now)) count in
     let op = operator_of c.args.op.now in
@@ -24,7 +24,9 @@ returns c = λ stamp inverse.
     (last_step vs stamp op inverse c.tables_at-newest.result.now c.args.stored c.requires.there
     there)
     (c.in_ok-carry.ensures (widths_of (versions_of c.args.versions.now) c.args.stored (length vs))
-    c.in_ok-widths.ensures) in
+    (subst (λ (n : ℕ). Show c.in_ok-widths.widths.entries
+    (widths_of (versions_of c.args.versions.now) c.args.stored n)) count
+    c.in_ok-widths.ensures)) in
     c.greatest.ensures widths shown
     ∙ ap (λ (t : Tables). stopped (greatest (entries t) widths))
     (c.requires.next ∙ sym (tables_last vs stamp op inverse))
