@@ -4,10 +4,13 @@ use Rattle.std.specs.Prelude.{codes, decimal, Option, Some, None, if◌then◌el
 use Rattle.std.specs.List.{flat_map}
 use Rattle.std.specs.Option.{unwrap_or}
 use Rattle.std.specs.FinMap.{entries}
+use Rattle.std.specs.Fmt.{signed_decimal}
 use Rattle.relations_spec.specs.Timed.{Entry}
 use Rattle.prima_base.specs.declared.period.TheConstants.{FOREVER}
 use Rattle.prima_base.specs.declared.value.Value.{Value}
 use Rattle.prima_base.specs.Columns.{Column}
+use Rattle.prima_base.specs.Groups.{Amount, Group}
+use Rattle.prima_base.specs.Groups as groups
 use Rattle.schema_catalog.specs.Tables.{Tables}
 use Rattle.smo_ops_types.specs.Operators.{Operator}
 use Rattle.smo_ops_types.specs.Commands.{PlainVersion}
@@ -69,6 +72,46 @@ count_text count = codes "end " ++ decimal count ++ codes "\n"
 -- the rows, and then how many they are
 unfoldable pub listing_text : Bool → List (Entry (List Value)) → List ℕ
 listing_text told entries = flat_map (row_text told) entries ++ count_text (length entries)
+
+-- ---- pairs of entries, and groups of rows
+
+abbrev pub period_text : ℕ → ℕ → List ℕ
+period_text start end = codes " " ++ decimal start ++ codes " " ++ end_text end
+
+-- an entry after a word: its period and its values
+abbrev pub entry_text : List ℕ → Entry (List Value) → List ℕ
+entry_text w e = (w ++ period_text e.period.start e.period.end) ++ values_text e.item
+
+-- two entries, with the periods of both
+unfoldable pub pair_text : Entry (List Value) → Entry (List Value) → List ℕ
+pair_text left right = entry_text (codes "pair") left
+    ++ (entry_text (codes " with") right ++ codes "\n")
+
+-- pairs of entries, a line each, and then how many they are
+abbrev pub line_of_pair : Entry (List Value) × Entry (List Value) → List ℕ
+line_of_pair pair = pair_text pair.0 pair.1
+
+unfoldable pub pairs_text : List (Entry (List Value) × Entry (List Value)) → List ℕ
+pairs_text pairs = flat_map line_of_pair pairs ++ count_text (length pairs)
+
+-- what an aggregate has of a group
+abbrev pub amount_text : Amount → List ℕ
+amount_text (groups.count n) = decimal n
+amount_text (groups.one v) = value_text v
+amount_text (groups.sum n) = signed_decimal n
+
+abbrev pub amounts_text : List Amount → List ℕ
+amounts_text amounts = flat_map (λ a. codes " " ++ amount_text a) amounts
+
+-- a group and what the aggregates have of it, after its period where the periods are told
+unfoldable pub aggregate_text : Bool → Entry Group → List ℕ
+aggregate_text told e = head_text told e.period.start e.period.end
+    ++ (values_text e.item.key ++ (amounts_text e.item.amounts ++ codes "\n"))
+
+-- groups, a line each, and then how many they are
+unfoldable pub aggregates_text : Bool → List (Entry Group) → List ℕ
+aggregates_text told entries = flat_map (aggregate_text told) entries
+    ++ count_text (length entries)
 
 -- ---- the pieces of a query
 

@@ -5,11 +5,13 @@
 //! `specs/Texts.antt` and `specs/RefusalTexts.antt` say each line by its bytes.
 #![tactic(auto)]
 
+mod aggregate;
 mod explanation;
 mod lifeline;
 mod line;
 mod listing;
 mod made_reply;
+mod pair;
 mod printer;
 mod refusal;
 mod reply;
@@ -17,9 +19,11 @@ mod schema;
 mod stop;
 mod version;
 
+pub use aggregate::put_aggregate;
 pub use explanation::{explain_text, put_explained};
 pub use lifeline::{put_count, put_size};
 pub use listing::{Listing, put_listing};
+pub use pair::{put_pair, put_pair_count};
 pub use printer::piece_text;
 pub use refusal::put_refusal;
 pub use reply::{put_changed, put_checkpoint, put_evolved, put_not_a_journal, put_wrong_words};

@@ -106,8 +106,8 @@ fn push_row<K: Sink>(
     line.push(sink, b"\n")
 }
 
-// The head of a row's line.
-fn push_head<K: Sink>(
+/// The head of a row's line.
+pub(crate) fn push_head<K: Sink>(
     line: &mut ReplyLine,
     sink: &mut K,
     period: Period,
@@ -136,7 +136,8 @@ fn add_head(line: &mut ReplyLine, period: Period, told: bool)
     }
 }
 
-fn push_values<K: Sink>(
+/// The values, each after a space.
+pub(crate) fn push_values<K: Sink>(
     line: &mut ReplyLine,
     sink: &mut K,
     values: &[Val<'_>],
@@ -153,8 +154,12 @@ fn push_values<K: Sink>(
     Ok(())
 }
 
-// A space and the value.
-fn push_value<K: Sink>(line: &mut ReplyLine, sink: &mut K, value: &Val<'_>) -> Result<(), Failed>
+/// A space and the value.
+pub(crate) fn push_value<K: Sink>(
+    line: &mut ReplyLine,
+    sink: &mut K,
+    value: &Val<'_>,
+) -> Result<(), Failed>
     ensures all { OnOk result (Gathers (K.written sink.old) line.old (K.written sink.new) line.new
         (codes " " ++ value_text (shown value.now))) }
     ensures part { OnErr result (AppendsLess (K.written sink.old) (K.written sink.new)

@@ -1,5 +1,5 @@
 -- The laws of the output: what a script, its statements and their replies are.
-use Rattle.std.specs.Prelude.{◌≡◌, ◌<◌, ◌≤◌, ◌++◌, ℕ, List, Some, None}
+use Rattle.std.specs.Prelude.{◌≡◌, ◌<◌, ◌≤◌, ◌++◌, ℕ, List, [], Some, None}
 use Rattle.relations_spec.specs.Spans.{forever}
 use Rattle.relations_spec.specs.Listing.{IsListing}
 use Rattle.prima_base.specs.Order.{row_cmp}
@@ -13,6 +13,10 @@ use Rattle.smo_ops_types.specs.Commands.{PlainCommand}
 use Rattle.smo_ops_spec.specs.Accepts.{command_fault}
 use Rattle.smo_ops_spec.specs.Past.{beginning, database_at, next_database, past_with}
 use Rattle.temporal_lang_types.specs.Queries.{PlainQuery, slice_of}
+use Rattle.temporal_lang_types.specs.declared.agg_item.AggItem.{AggItem}
+use Rattle.temporal_lang_spec.specs.AggregateFaults.{fault_of_aggregate}
+use Rattle.time_aggregate.specs.Aggregates.{IsAggregated}
+use Rattle.time_aggregate.specs.Aggregated.{aggregated}
 use Rattle.temporal_lang_spec.specs.Accepted.{fault_of_query, HasNoWayBack}
 use Rattle.temporal_lang_spec.specs.Answers.{asked_at, listing, answer}
 use Rattle.temporal_lang_losses_spec.specs.Filled.{asked_with}
@@ -89,6 +93,17 @@ pub record OutputLaws (book : Book) : Type 0 where
       fault_of_query past query ≡ None → (slice_of query.when).end ≤ forever
       → IsListing row_cmp (asked_at past query) (slice_of query.when) (listing past query)
       × (answer past query ≡ kept query.keep (listing past query))
+  -- The reply to an AGGREGATE that is not refused, after some statements: the one list of what the
+  -- aggregates have of the groups of the rows that are asked of each moment of the query's slice,
+  -- each group with the longest periods in which that stays the same.
+  pub aggregates : (limit : Given) (opening : List LogRecord) (statements : List StatementPart)
+      (items : List AggItem) (group : ℕ) (query : PlainQuery) → AreEncoded opening
+      → AreAccepted beginning opening
+      → let past = (recorded_after limit (recorded opening) statements).past in
+      fault_of_aggregate past items group query ≡ None → query.keep ≡ []
+      → (slice_of query.when).end ≤ forever
+      → IsAggregated group items (asked_at past query) (slice_of query.when)
+      (aggregated group items (answer past query))
   -- The reply to an EXPLAIN of a query that is not refused, after some statements: the lines of the
   -- query's pieces. Of those into which the query unfolds they are just those that are not dead,
   -- which is said over all values of the columns' types.

@@ -17,7 +17,13 @@ use Rattle.piece_ir.specs.ExplainedPieces.{PlainExplained}
 use Rattle.temporal_lang_spec.specs.Accepted.{version_fault, fault_of_query}
 use Rattle.temporal_lang_spec.specs.Answers.{answer}
 use Rattle.script_parse.specs.Statements.{PlainStatement, write, ask, explain, show_versions}
-use Rattle.script_parse.specs.Statements.{show_schema, show_sizes, checkpoint}
+use Rattle.script_parse.specs.Statements.{show_schema, show_sizes, checkpoint, pairs, aggregate}
+use Rattle.prima_base.specs.Groups.{Group}
+use Rattle.temporal_lang_spec.specs.PairFaults.{fault_of_pairs}
+use Rattle.temporal_lang_spec.specs.AggregateFaults.{fault_of_aggregate}
+use Rattle.period_join.specs.RelatedEntries.{related_entries}
+use Rattle.time_aggregate.specs.Aggregated.{aggregated}
+use Rattle.answer_text.specs.Texts.{pair_text, pairs_text, aggregate_text, aggregates_text}
 use Rattle.script_parse.specs.Reading.{Reading, Blank, Refused, Whole, reading}
 use Rattle.archive_core_state.specs.Asking.{tells_periods, pieces_told}
 use Rattle.answer_text.specs.Texts.{changed_text, evolved_text, checkpoint_text, listing_text}
@@ -57,6 +63,19 @@ unfolding listing_text
 listing_told told [] now = refl
 listing_told false (e ∷ entries) now = refl
 listing_told true (e ∷ entries) now = refl
+
+pairs_told : (related : List (Entry (List Value) × Entry (List Value))) (now : Recorded)
+    → BothKnown (answered (pairs_text related) now)
+unfolding pairs_text pair_text
+pairs_told [] now = refl
+pairs_told (p ∷ related) now = refl
+
+groups_told : (told : Bool) (entries : List (Entry Group)) (now : Recorded)
+    → BothKnown (answered (aggregates_text told entries) now)
+unfolding aggregates_text aggregate_text
+groups_told told [] now = refl
+groups_told false (e ∷ entries) now = refl
+groups_told true (e ∷ entries) now = refl
 
 pieces_told_so : (pieces : List PlainExplained) (now : Recorded)
     → BothKnown (answered (explain_text pieces) now)
@@ -100,6 +119,14 @@ statement_told limit (ask query) now = refused_told (fault_of_query now.past que
 statement_told limit (explain query) now = refused_told (fault_of_query now.past query) now
     (answered (explain_text (pieces_told limit.book now.past query)) now)
     (pieces_told_so (pieces_told limit.book now.past query) now)
+statement_told limit (pairs left relation right) now = refused_told
+    (fault_of_pairs now.past left right) now (answered (pairs_text (related_entries relation
+    (answer now.past left) (answer now.past right))) now)
+    (pairs_told (related_entries relation (answer now.past left) (answer now.past right)) now)
+statement_told limit (aggregate items group query) now = refused_told
+    (fault_of_aggregate now.past items group query) now (answered (aggregates_text
+    (tells_periods query.when) (aggregated group items (answer now.past query))) now)
+    (groups_told (tells_periods query.when) (aggregated group items (answer now.past query)) now)
 statement_told limit show_versions now = versions_told now.past.versions now
 statement_told limit (show_schema version) now =
     refused_told (version_fault now.past version) now

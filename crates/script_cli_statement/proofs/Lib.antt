@@ -9,3 +9,7 @@ pub mod ReplyPasts
 pub mod ExplainedQueries
 pub mod Responding
 pub mod Lifelines
+pub mod Lines
+pub mod PairLines
+pub mod GroupLines
+pub mod PairedQueries

@@ -10,7 +10,7 @@ use Rattle.smo_ops_types.specs.Commands.{PlainBody}
 use Rattle.piece_ir_spec.specs.Constants.{ValidInTree, ValidInTest, ValidInOperator}
 use Rattle.piece_ir_spec.specs.Constants.{ValidInOperators, ValidInEvolution}
 use Rattle.lexer_spec.specs.Lexemes.{Lexeme, word, sign}
-use Rattle.lexer_combinators.specs.Grammar.{Size, AreMore, so_wide}
+use Rattle.lexer_combinators.specs.Grammar.{Grammar, Size, AreMore, so_wide}
 use Rattle.lexer_combinators.specs.Grammar as grammar
 use Rattle.lexer_combinators.specs.Derivations.{Derivation, derivation, after_lexeme, rest_of}
 use Rattle.lexer_combinators.specs.Derivations.{element_of, others_of}
@@ -22,7 +22,9 @@ use Rattle.smo_parse.specs.Productions.{IsCopyTable, IsMergeTable, IsPartitionTa
 use Rattle.smo_parse.specs.Productions.{IsDecomposeTable, IsJoinTable, IsAddColumn, IsDropColumn}
 use Rattle.smo_parse.specs.Productions.{IsRenameColumn, IsOperator}
 use Rattle.temporal_lang_grammar_spec.specs.QueryGrammar.{counted_grammar, IsOutput, IsBranch}
-use Rattle.temporal_lang_grammar_spec.specs.QueryGrammar.{IsAsk}
+use Rattle.temporal_lang_grammar_spec.specs.QueryGrammar.{IsAsk, IsFullAsk}
+use Rattle.temporal_lang_types.specs.Queries.{PlainQuery}
+use Rattle.script_parse.specs.Productions.{IsInBrackets}
 use Rattle.script_parse.specs.Productions.{IsOp, AreOps, IsInverse, IsEvolve, AreChanges, IsBody}
 use Rattle.query_exec.specs.Constants.{ValidInBranch, ValidInQuery}
 use Rattle.script_cli_statement.proofs.ReadConstants.{AllValid, expr_valid, cond_valid, after}
@@ -211,3 +213,25 @@ query_valid r =
     subst ValidInQuery (sym (made_value (rest from_branches).derived))
     (counted_each ValidInBranch (word (codes "UNION")) IsBranch branch_valid Branches
     (first from_branches))
+
+pub full_query_valid : (r : Read IsFullAsk) → ValidInQuery (value_read r)
+full_query_valid r =
+    let whole : Read IsFullAsk = r in
+    let from_branches = rest (led whole) in
+    subst ValidInQuery (sym (made_value (rest from_branches).derived))
+    (counted_each ValidInBranch (word (codes "UNION")) IsBranch branch_valid Branches
+    (first from_branches))
+
+-- what stands in brackets
+inside : {G : Grammar PlainQuery} → Read (IsInBrackets G) → Read G
+inside r = first (led r)
+
+inside_is : {G : Grammar PlainQuery} (r : Read (IsInBrackets G))
+    → value_read r ≡ value_read (inside r)
+inside_is r = given_value (led (rest (led r))).derived
+
+pub bracketed_valid : (r : Read (IsInBrackets IsAsk)) → ValidInQuery (value_read r)
+bracketed_valid r = subst ValidInQuery (sym (inside_is r)) (query_valid (inside r))
+
+pub bracketed_full_valid : (r : Read (IsInBrackets IsFullAsk)) → ValidInQuery (value_read r)
+bracketed_full_valid r = subst ValidInQuery (sym (inside_is r)) (full_query_valid (inside r))

@@ -15,7 +15,12 @@ use Rattle.piece_ir_spec.proofs.HeldValues.{valid_next}
 use Rattle.temporal_lang_spec.specs.Accepted.{version_fault, fault_of_query}
 use Rattle.temporal_lang_spec.specs.Answers.{answer}
 use Rattle.script_parse.specs.Statements.{PlainStatement, write, ask, explain, show_versions}
-use Rattle.script_parse.specs.Statements.{show_schema, show_sizes, checkpoint}
+use Rattle.script_parse.specs.Statements.{show_schema, show_sizes, checkpoint, pairs, aggregate}
+use Rattle.temporal_lang_spec.specs.PairFaults.{fault_of_pairs}
+use Rattle.temporal_lang_spec.specs.AggregateFaults.{fault_of_aggregate}
+use Rattle.period_join.specs.RelatedEntries.{related_entries}
+use Rattle.time_aggregate.specs.Aggregated.{aggregated}
+use Rattle.answer_text.specs.Texts.{pairs_text, aggregates_text}
 use Rattle.script_parse.specs.Reading.{Reading, Blank, Refused, Whole, reading}
 use Rattle.archive_core_state.specs.Asking.{tells_periods, pieces_told}
 use Rattle.smo_ops_spec.proofs.Firsts.{none_of_first}
@@ -81,6 +86,12 @@ module _ (limit : Given) where
   statement_keeps now (explain query) written h =
       same_past now (fault_of_query now.past query)
       (explain_text (pieces_told limit.book now.past query)) h
+  statement_keeps now (pairs left relation right) written h =
+      same_past now (fault_of_pairs now.past left right) (pairs_text (related_entries relation
+      (answer now.past left) (answer now.past right))) h
+  statement_keeps now (aggregate items group query) written h =
+      same_past now (fault_of_aggregate now.past items group query) (aggregates_text
+      (tells_periods query.when) (aggregated group items (answer now.past query))) h
   statement_keeps now show_versions written h = h
   statement_keeps now (show_schema version) written h =
       same_past now (version_fault now.past version) (schema_text (tables_of now.past version)) h

@@ -21,7 +21,9 @@ use Rattle.archive_core_file_spec.proofs.Records.{after_append}
 use Rattle.archive_core.specs.Committing.{room_fault, commit_fault}
 use Rattle.archive_core.specs.Checkpointing.{checkpoint_fault}
 use Rattle.script_parse.specs.Statements.{PlainStatement, write, ask, explain, show_versions}
-use Rattle.script_parse.specs.Statements.{show_schema, show_sizes, checkpoint}
+use Rattle.script_parse.specs.Statements.{show_schema, show_sizes, checkpoint, pairs, aggregate}
+use Rattle.temporal_lang_spec.specs.PairFaults.{fault_of_pairs}
+use Rattle.temporal_lang_spec.specs.AggregateFaults.{fault_of_aggregate}
 use Rattle.script_parse.specs.Reading.{Reading, Blank, Refused, Whole, reading}
 use Rattle.script_cli_statement.specs.Given.{Given}
 use Rattle.script_cli_statement.specs.Due.{Due, command_due, image_due, due_length, past_after_due}
@@ -187,6 +189,10 @@ statement_step limit now (write command) =
     (room_fault now.at limit.limit (record_of (logged command)) ∷ []) e).0)
 statement_step limit now (ask query) = refused_step now (fault_of_query now.past query) _
 statement_step limit now (explain query) = refused_step now (fault_of_query now.past query) _
+statement_step limit now (pairs left relation right) =
+    refused_step now (fault_of_pairs now.past left right) _
+statement_step limit now (aggregate items group query) =
+    refused_step now (fault_of_aggregate now.past items group query) _
 statement_step limit now show_versions = unchanged now (statement_reply limit show_versions now)
     refl refl
 statement_step limit now (show_schema version) = refused_step now (version_fault now.past version) _

@@ -12,13 +12,15 @@ use Rattle.lexer_combinators.proofs.DerivationLaws.{given_value, made_value}
 use Rattle.lexer_trees_spec.specs.Constants.{as_natural, moment_grammar}
 use Rattle.script_parse.specs.Statements.{PlainStatement}
 use Rattle.script_parse.specs.Productions.{IsWrite, IsQuery, IsExplain, IsShowVersions}
-use Rattle.script_parse.specs.Productions.{IsShowSchema, IsShowSizes, IsCheckpoint, IsStatement}
+use Rattle.script_parse.specs.Productions.{IsShowSchema, IsShowSizes, IsPairs, IsAggregate}
+use Rattle.script_parse.specs.Productions.{IsCheckpoint, IsStatement}
 use Rattle.script_parse.specs.Reading.{Reading, Blank, Refused, Whole, IsReading, reading}
 use Rattle.script_parse.proofs.ReadingLaws.{of_the_grammar}
 use Rattle.script_cli_statement.specs.Written.{IsWritten, HasWritten}
 use Rattle.script_cli_statement.proofs.ReadConstants.{AllValid, TokensValid, lexed_valid}
 use Rattle.script_cli_statement.proofs.ReadParts.{Read, value_read, read, led, first, rest, source}
 use Rattle.script_cli_statement.proofs.ReadStatements.{body_valid, query_valid}
+use Rattle.script_cli_statement.proofs.ReadStatements.{bracketed_valid, bracketed_full_valid}
 
 natural_most : (most : ℕ) (x : Lexeme) (n : ℕ) → as_natural most x ≡ Some n → n ≤ most
 natural_most most (lexeme.number (pos k)) n e = step (nat_le k most) refl e
@@ -64,7 +66,20 @@ statement_written s size ts l (inr (inr (inr (inl (inr (inl h)))))) =
 statement_written s size ts l (inr (inr (inr (inl (inr (inr h)))))) =
     let whole : Derivation IsShowSizes = derivation s size ts h in
     subst IsWritten (sym (given_value (after_lexeme (after_lexeme whole)))) tt
-statement_written s size ts l (inr (inr (inr (inr h)))) =
+statement_written s size ts l (inr (inr (inr (inr (inl h))))) =
+    let whole : Read IsPairs = read s size ts l h in
+    let from_left = led whole in
+    let after_relation = rest (rest from_left) in
+    subst IsWritten (sym (made_value after_relation.derived)) (
+      bracketed_valid (first from_left),
+      bracketed_valid (source after_relation),
+    )
+statement_written s size ts l (inr (inr (inr (inr (inr (inl h)))))) =
+    let whole : Read IsAggregate = read s size ts l h in
+    let after_group = rest (led (rest (led whole))) in
+    subst IsWritten (sym (made_value after_group.derived))
+    (bracketed_full_valid (source after_group))
+statement_written s size ts l (inr (inr (inr (inr (inr (inr h)))))) =
     let whole : Derivation IsCheckpoint = derivation s size ts h in
     subst IsWritten (sym (given_value (after_lexeme whole))) tt
 

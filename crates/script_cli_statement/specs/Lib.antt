@@ -7,3 +7,5 @@ pub mod Putting
 pub mod Responses
 pub mod Written
 pub mod Explaining
+pub mod Paired
+pub mod Grouped

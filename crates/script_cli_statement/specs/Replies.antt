@@ -11,17 +11,23 @@ use Rattle.archive_core_file_spec.specs.LogRecords.{LogRecord, gate_after, past_
 use Rattle.archive_core.specs.Committing.{commit_fault}
 use Rattle.archive_core.specs.Checkpointing.{checkpoint_fault}
 use Rattle.temporal_lang_types.specs.Queries.{PlainQuery}
+use Rattle.temporal_lang_types.specs.declared.relation.Relation.{Relation}
+use Rattle.temporal_lang_types.specs.declared.agg_item.AggItem.{AggItem}
 use Rattle.temporal_lang_spec.specs.Accepted.{version_fault, fault_of_query}
+use Rattle.temporal_lang_spec.specs.PairFaults.{fault_of_pairs}
+use Rattle.temporal_lang_spec.specs.AggregateFaults.{fault_of_aggregate}
 use Rattle.temporal_lang_spec.specs.Answers.{answer}
 use Rattle.script_parse.specs.Statements.{PlainStatement, write, ask, explain, show_versions}
-use Rattle.script_parse.specs.Statements.{show_schema, show_sizes, checkpoint}
+use Rattle.script_parse.specs.Statements.{show_schema, show_sizes, checkpoint, pairs, aggregate}
+use Rattle.period_join.specs.RelatedEntries.{related_entries}
+use Rattle.time_aggregate.specs.Aggregated.{aggregated}
 use Rattle.script_parse.specs.Reading.{Reading, Blank, Refused, Whole, reading}
 use Rattle.archive_core_state.specs.declared.archive.Done.{Done}
 use Rattle.archive_core_state.specs.Asking.{tells_periods, pieces_told}
 use Rattle.answer_text.specs.RefusalTexts.{refusal_text}
 use Rattle.answer_text.specs.Texts.{made_text, changed_text, evolved_text, checkpoint_text}
 use Rattle.answer_text.specs.Texts.{listing_text, explain_text, versions_text, schema_text}
-use Rattle.answer_text.specs.Texts.{sizes_text}
+use Rattle.answer_text.specs.Texts.{sizes_text, pairs_text, aggregates_text}
 use Rattle.script_cli_statement.specs.Due.{Due, command_due, image_due, due_length, past_after_due}
 use Rattle.script_cli_statement.specs.Given.{Given}
 
@@ -112,6 +118,18 @@ abbrev pub explain_reply : Book → PlainQuery → Recorded → Reply
 explain_reply book query now = refused_or (fault_of_query now.past query) now
     (answered (explain_text (pieces_told book now.past query)) now)
 
+-- the related pairs of the entries of two answers, by the left entry, then the right one
+abbrev pub pairs_reply : PlainQuery → Relation → PlainQuery → Recorded → Reply
+pairs_reply left relation right now = refused_or (fault_of_pairs now.past left right) now
+    (answered (pairs_text (related_entries relation (answer now.past left)
+    (answer now.past right))) now)
+
+-- what the aggregates have, over time, of the groups of the rows that the query lists
+abbrev pub aggregate_reply : List AggItem → ℕ → PlainQuery → Recorded → Reply
+aggregate_reply items group query now = refused_or (fault_of_aggregate now.past items group query)
+    now (answered (aggregates_text (tells_periods query.when) (aggregated group items
+    (answer now.past query))) now)
+
 abbrev pub versions_reply : Recorded → Reply
 versions_reply now = answered (versions_text now.past.versions) now
 
@@ -127,6 +145,8 @@ abbrev pub statement_reply : Given → PlainStatement → Recorded → Reply
 statement_reply limit (write command) now = command_reply limit command now
 statement_reply limit (ask query) now = query_reply query now
 statement_reply limit (explain query) now = explain_reply limit.book query now
+statement_reply limit (pairs left relation right) now = pairs_reply left relation right now
+statement_reply limit (aggregate items group query) now = aggregate_reply items group query now
 statement_reply limit show_versions now = versions_reply now
 statement_reply limit (show_schema version) now = schema_reply version now
 statement_reply limit show_sizes now = sizes_reply now

@@ -5,7 +5,9 @@
 //! then stands for, also where the sink or the disk fails.
 #![tactic(auto)]
 
+mod aggregate_response;
 mod checkpoint;
+mod pair_response;
 mod reply_kind;
 mod response;
 mod stop_reason;

@@ -17,8 +17,8 @@ ghost use Rattle.script_parse.specs.Statements.{statement_of};
 ghost use Rattle.rewrite.specs.Books.{book_meaning};
 ghost use Rattle.piece_ir.specs.ExplainedPieces.{all_explained};
 ghost use Rattle.version_groups.specs.Representation.{Represents};
-ghost use Rattle.archive_core_state.specs.Asking.{IsAsked};
-ghost use Rattle.archive_core_state.specs.ArchiveContents.{RepresentsPast};
+ghost use Rattle.archive_core_state.specs.Asking.{IsAsked, IsKeptOfList};
+ghost use Rattle.archive_core_state.specs.ArchiveContents.{RepresentsPast, RepresentsSome};
 ghost use Rattle.archive_core.specs.Fields.{standing_of, below, limit_of};
 ghost use Rattle.answer_text.specs.RefusalTexts.{refusal_text};
 ghost use Rattle.answer_text.specs.Texts.{listing_text, explain_text, sizes_text};
@@ -31,7 +31,9 @@ ghost use Rattle.script_cli_statement.specs.StopReasons.{StopCounted, SaidCounte
 ghost use Rattle.script_cli_statement.specs.declared.reply_kind.ReplyKind.TheVariants as ReplyKind;
 ghost use Rattle.script_cli_statement.specs.Responses.{Says, Responds, RepresentsAt, TakesRecords};
 
+use crate::aggregate_response::respond_aggregate;
 use crate::checkpoint::respond_checkpoint;
+use crate::pair_response::respond_pairs;
 use crate::reply_kind::ReplyKind;
 use crate::stop_reason::{StopReason, or_write_fault};
 use answer_text::{
@@ -145,8 +147,8 @@ fn put_pieces<K: Sink>(
     }
 }
 
-// What the archive answers to a query, with a counter of the ledger.
-fn ask_counted<'a, D: Disk, L: Ledger, R: Rule>(
+/// What the archive answers to a query, with a counter of the ledger.
+pub(crate) fn ask_counted<'a, D: Disk, L: Ledger, R: Rule>(
     archive: &'a Archive<D>,
     book: &RuleBook<R>,
     query: &Query,
@@ -155,8 +157,11 @@ fn ask_counted<'a, D: Disk, L: Ledger, R: Rule>(
     requires name { blank.name ≡ L.name }
     requires parts { blank.parts ≡ L.parts }
     requires some { 0 < blank.parts }
-    ensures { (past : Past) → RepresentsPast (standing_of archive.now) past
+    ensures asked { (past : Past) → RepresentsPast (standing_of archive.now) past
         → IsAsked past (query_of query.now) result }
+    ensures listed { (past : Past) → RepresentsPast (standing_of archive.now) past
+        → IfOk result (λ listing. IsKeptOfList past (query_of query.now) listing) }
+    ensures represents { RepresentsSome (standing_of archive.now) }
 {
     let mut steps: Steps<L> = Steps::new(blank);
     archive.query(book, query, &mut steps)
@@ -311,6 +316,12 @@ fn respond_statement<K: Sink, D: Disk, R: Rule>(
         Statement::Write(command) => respond_write(archive, sink, command),
         Statement::Ask(query) => respond_ask(archive, book, sink, &query),
         Statement::Explain(query) => respond_explain(alloc, archive, book, sink, &query),
+        Statement::Pairs(left, relation, right) => {
+            respond_pairs(archive, book, sink, &left, relation, &right)
+        }
+        Statement::Aggregate(items, group, query) => {
+            respond_aggregate(alloc, archive, book, sink, &items, group, &query)
+        }
         Statement::ShowVersions => respond_versions(alloc, archive, sink),
         Statement::ShowSchema(version) => respond_schema(alloc, archive, sink, version),
         Statement::ShowSizes => respond_sizes(archive, sink),

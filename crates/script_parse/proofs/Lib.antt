@@ -6,6 +6,7 @@ mod Worked
 pub mod TextLexing
 pub mod BlankTexts
 pub mod ChangeCorrectness
+pub mod AnswerStatements
 pub mod StatementCorrectness
 pub mod StatementAlong
 pub mod FirstFaults

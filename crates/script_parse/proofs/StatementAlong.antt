@@ -61,6 +61,10 @@ use Rattle.script_parse.specs.StatementOverflows.{setting_overflows, change_over
 use Rattle.script_parse.specs.StatementOverflows.{changes_overflows, op_overflows, ops_overflows}
 use Rattle.script_parse.specs.StatementOverflows.{inverse_overflows, body_overflows}
 use Rattle.script_parse.specs.StatementOverflows.{statement_overflows}
+use Rattle.script_parse.specs.StatementReader.{pairs_rest, aggregate_rest}
+use Rattle.script_parse.proofs.AnswerStatements.{PairsRest, AggregateRest, pairs_along}
+use Rattle.script_parse.proofs.AnswerStatements.{aggregate_along, pairs_rest_overflows}
+use Rattle.script_parse.proofs.AnswerStatements.{aggregate_rest_overflows}
 use Rattle.script_parse.proofs.BodySteps.{body_evolves, body_changes}
 use Rattle.script_parse.proofs.ChangeCorrectness.{ends, setting_correct, change_correct}
 use Rattle.script_parse.proofs.ChangeCorrectness.{change_not_none, change_not_first, where_change}
@@ -332,9 +336,15 @@ statement_along a s f (inr (inr (inr (inl (inr (inl h)))))) us stops =
 statement_along a s f (inr (inr (inr (inl (inr (inr h)))))) us stops =
     light_along statement IsStatement follow_statement statement_correct a s f
     (inr (inr (inr (inl (inr (inr h)))))) (sizes_light a s f h) us stops
-statement_along a s f (inr (inr (inr (inr h)))) us stops =
+statement_along a s f (inr (inr (inr (inr (inl h))))) us stops =
+    after_follow statement pairs_rest (word (codes "PAIRS")) (λ ts. refl) PairsRest
+    follow_statement pairs_rest_overflows (pairs_along follow_statement) a s f h us stops
+statement_along a s f (inr (inr (inr (inr (inr (inl h)))))) us stops =
+    after_follow statement aggregate_rest (word (codes "AGGREGATE")) (λ ts. refl) AggregateRest
+    follow_statement aggregate_rest_overflows (aggregate_along follow_statement) a s f h us stops
+statement_along a s f (inr (inr (inr (inr (inr (inr h)))))) us stops =
     light_along statement IsStatement follow_statement statement_correct a s f
-    (inr (inr (inr (inr h)))) (checkpoint_light a s f h) us stops
+    (inr (inr (inr (inr (inr (inr h)))))) (checkpoint_light a s f h) us stops
 
 -- a whole text
 pub statement_reads : (a : PlainStatement) (s : Size) (f : List Lexeme) (h : IsStatement a s f)

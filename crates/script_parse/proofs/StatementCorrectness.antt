@@ -6,7 +6,9 @@ use Rattle.smo_ops_types.specs.Operators.{Operator}
 use Rattle.smo_ops_types.specs.Commands.{PlainBody, changing, evolving}
 use Rattle.lexer_spec.specs.Lexemes.{Lexeme, word, is_word}
 use Rattle.lexer_combinators.specs.Grammar.{Grammar}
-use Rattle.lexer_combinators.specs.Parsing.{IsCorrectParser, Stops, Arm, No, Takes, Whole, pure}
+use Rattle.lexer_combinators.specs.Parsing.{IsCorrectParser, Stops, Arm, No, Takes}
+use Rattle.lexer_combinators.specs.Parsing.{Whole}
+use Rattle.lexer_combinators.specs.Parsing.{pure}
 use Rattle.lexer_combinators.specs.Parsing.{map_to, more}
 use Rattle.lexer_combinators.specs.Grammar.{Size, AreMore, so_wide}
 use Rattle.lexer_combinators.specs.Grammar as grammar
@@ -14,11 +16,11 @@ use Rattle.lexer_trees_spec.specs.Constants.{moment, moment_grammar, small, smal
 use Rattle.lexer_combinators.proofs.Parsing.{correct_iff, correct_follow, bind_correct}
 use Rattle.lexer_combinators.proofs.Parsing.{map_correct, lead_correct, pure_correct}
 use Rattle.lexer_combinators.proofs.Parsing.{choose_correct, option_takes_correct, whole_correct}
-use Rattle.lexer_combinators.proofs.Parsing.{more_correct, bind_more}
+use Rattle.lexer_combinators.proofs.Parsing.{more_correct, bind_more, ArmCorrect}
 use Rattle.lexer_spec.proofs.LexemeTests.{word_is, word_exact}
 use Rattle.lexer_trees_spec.proofs.Singles.{moment_correct, small_correct}
 use Rattle.lexer_combinators.proofs.Fresh.{fresh_correct}
-use Rattle.lexer_combinators.proofs.Alternatives.{or_left, or_right, stops_fewer, NotNone}
+use Rattle.lexer_combinators.proofs.Alternatives.{or_left, or_right, stops_fewer, NotNone, NotFirst}
 use Rattle.lexer_combinators.proofs.Alternatives.{lead_not_none, lead_not_first, either_not_none}
 use Rattle.lexer_combinators.proofs.Alternatives.{either_not_first, list_not_none, list_not_first}
 use Rattle.lexer_combinators.proofs.Alternatives.{last_arm, first_arm}
@@ -33,6 +35,9 @@ use Rattle.script_parse.specs.Statements.{show_schema, show_sizes, checkpoint}
 use Rattle.script_parse.specs.Productions.{IsChange, IsOp, AreOps, IsInverse, IsEvolve, AreChanges}
 use Rattle.script_parse.specs.Productions.{IsBody, IsWrite, IsQuery, IsExplain, IsCheckpoint}
 use Rattle.script_parse.specs.Productions.{IsStatement}
+use Rattle.script_parse.specs.StatementReader.{pairs_rest, aggregate_rest}
+use Rattle.script_parse.proofs.AnswerStatements.{PairsRest, AggregateRest, pairs_correct}
+use Rattle.script_parse.proofs.AnswerStatements.{aggregate_correct}
 use Rattle.script_parse.specs.StatementReader.{changes, op, ops, inverse, evolve_rest, body_arm}
 use Rattle.script_parse.specs.StatementReader.{body, write_rest, ask_rest, explain_rest}
 use Rattle.script_parse.specs.StatementReader.{schema_rest, show_arm, show_rest, statement_arm}
@@ -230,11 +235,23 @@ show_correct follow = choose_correct 0 32 show_arm ShowRest follow
     live l = (l.0, l.1, word (codes "VERSIONS") ∷ l.2, inl (l.2, refl, l.3))
 
 -- the grammar by first words
+abbrev Paired : Grammar PlainStatement
+Paired = grammar.lead (word (codes "PAIRS")) PairsRest
+
+abbrev Aggregated : Grammar PlainStatement
+Aggregated = grammar.lead (word (codes "AGGREGATE")) AggregateRest
+
+abbrev FromAggregate : Grammar PlainStatement
+FromAggregate = grammar.alt Aggregated IsCheckpoint
+
+abbrev FromPairs : Grammar PlainStatement
+FromPairs = grammar.alt Paired FromAggregate
+
 abbrev Shown : Grammar PlainStatement
 Shown = grammar.lead (word (codes "SHOW")) ShowRest
 
 abbrev FromShow : Grammar PlainStatement
-FromShow = grammar.alt Shown IsCheckpoint
+FromShow = grammar.alt Shown FromPairs
 
 abbrev FromExplain : Grammar PlainStatement
 FromExplain = grammar.alt IsExplain FromShow
@@ -245,44 +262,61 @@ FromQuery = grammar.alt IsQuery FromExplain
 abbrev FromAt : Grammar PlainStatement
 FromAt = grammar.alt IsWrite FromQuery
 
-module _ (v : List ℕ) where
-  checkpoint_first : is_word (codes "CHECKPOINT") (word v) ≡ false
-      → (a : PlainStatement) (s : Size) (l : List Lexeme) → IsCheckpoint a s (word v ∷ l) → ⊥
-  checkpoint_first e = lead_not_first (is_word (codes "CHECKPOINT")) (word v)
-      (word (codes "CHECKPOINT")) (grammar.pure checkpoint) e (word_is (codes "CHECKPOINT"))
+-- what begins with one word does not begin with another
+apart : (v u : List ℕ) (G : Grammar PlainStatement) → is_word u (word v) ≡ false
+    → NotFirst (grammar.lead (word u) G) (word v)
+apart v u G e = lead_not_first (is_word u) (word v) (word u) G e (word_is u)
 
-  show_first : is_word (codes "SHOW") (word v) ≡ false
-      → is_word (codes "CHECKPOINT") (word v) ≡ false
-      → (a : PlainStatement) (s : Size) (l : List Lexeme) → FromShow a s (word v ∷ l) → ⊥
-  show_first e f = either_not_first (word v) Shown IsCheckpoint
-      (lead_not_first (is_word (codes "SHOW")) (word v) (word (codes "SHOW")) ShowRest e
-      (word_is (codes "SHOW"))) (checkpoint_first f)
+module _ (v : List ℕ) (no_checkpoint : is_word (codes "CHECKPOINT") (word v) ≡ false) where
+  checkpoint_first : NotFirst IsCheckpoint (word v)
+  checkpoint_first = apart v (codes "CHECKPOINT") (grammar.pure checkpoint) no_checkpoint
 
-  explain_first : is_word (codes "EXPLAIN") (word v) ≡ false
-      → is_word (codes "SHOW") (word v) ≡ false → is_word (codes "CHECKPOINT") (word v) ≡ false
-      → (a : PlainStatement) (s : Size) (l : List Lexeme) → FromExplain a s (word v ∷ l) → ⊥
-  explain_first e f g = either_not_first (word v) IsExplain FromShow
-      (lead_not_first (is_word (codes "EXPLAIN")) (word v) (word (codes "EXPLAIN")) ExplainRest e
-      (word_is (codes "EXPLAIN"))) (show_first f g)
+  module _ (no_aggregate : is_word (codes "AGGREGATE") (word v) ≡ false) where
+    aggregate_first : NotFirst FromAggregate (word v)
+    aggregate_first = either_not_first (word v) Aggregated IsCheckpoint
+        (apart v (codes "AGGREGATE") AggregateRest no_aggregate) checkpoint_first
 
-  at_first : is_word (codes "QUERY") (word v) ≡ false → is_word (codes "EXPLAIN") (word v) ≡ false
-      → is_word (codes "SHOW") (word v) ≡ false → is_word (codes "CHECKPOINT") (word v) ≡ false
-      → (a : PlainStatement) (s : Size) (l : List Lexeme) → FromQuery a s (word v ∷ l) → ⊥
-  at_first e f g h = either_not_first (word v) IsQuery FromExplain
-      (lead_not_first (is_word (codes "QUERY")) (word v) (word (codes "QUERY")) AskRest e
-      (word_is (codes "QUERY"))) (explain_first f g h)
+    module _ (no_pairs : is_word (codes "PAIRS") (word v) ≡ false) where
+      pairs_first : NotFirst FromPairs (word v)
+      pairs_first = either_not_first (word v) Paired FromAggregate
+          (apart v (codes "PAIRS") PairsRest no_pairs) aggregate_first
+
+      module _ (no_show : is_word (codes "SHOW") (word v) ≡ false) where
+        show_first : NotFirst FromShow (word v)
+        show_first = either_not_first (word v) Shown FromPairs
+            (apart v (codes "SHOW") ShowRest no_show) pairs_first
+
+        explain_first : is_word (codes "EXPLAIN") (word v) ≡ false → NotFirst FromExplain (word v)
+        explain_first e = either_not_first (word v) IsExplain FromShow
+            (apart v (codes "EXPLAIN") ExplainRest e) show_first
+
+        at_first : is_word (codes "QUERY") (word v) ≡ false
+            → is_word (codes "EXPLAIN") (word v) ≡ false → NotFirst FromQuery (word v)
+        at_first e f = either_not_first (word v) IsQuery FromExplain
+            (apart v (codes "QUERY") AskRest e) (explain_first f)
 
 by_words_not_none : NotNone FromAt
 by_words_not_none = either_not_none IsWrite FromQuery (lead_not_none (word (codes "AT")) WriteRest)
     (either_not_none IsQuery FromExplain (lead_not_none (word (codes "QUERY")) AskRest)
     (either_not_none IsExplain FromShow (lead_not_none (word (codes "EXPLAIN")) ExplainRest)
-    (either_not_none Shown IsCheckpoint (lead_not_none (word (codes "SHOW")) ShowRest)
-    (lead_not_none (word (codes "CHECKPOINT")) (grammar.pure checkpoint)))))
+    (either_not_none Shown FromPairs (lead_not_none (word (codes "SHOW")) ShowRest)
+    (either_not_none Paired FromAggregate (lead_not_none (word (codes "PAIRS")) PairsRest)
+    (either_not_none Aggregated IsCheckpoint
+    (lead_not_none (word (codes "AGGREGATE")) AggregateRest)
+    (lead_not_none (word (codes "CHECKPOINT")) (grammar.pure checkpoint)))))))
 
 -- the arms after that of AT, and so on
+abbrev checkpoint_arms : Lexeme → Arm PlainStatement
+checkpoint_arms y = cond (is_word (codes "CHECKPOINT") y) (Takes (pure checkpoint)) No
+
+abbrev aggregate_arms : Lexeme → Arm PlainStatement
+aggregate_arms y = cond (is_word (codes "AGGREGATE") y) (Takes aggregate_rest) (checkpoint_arms y)
+
+abbrev pairs_arms : Lexeme → Arm PlainStatement
+pairs_arms y = cond (is_word (codes "PAIRS") y) (Takes pairs_rest) (aggregate_arms y)
+
 abbrev show_arms : Lexeme → Arm PlainStatement
-show_arms y = cond (is_word (codes "SHOW") y) (Takes show_rest)
-    (cond (is_word (codes "CHECKPOINT") y) (Takes (pure checkpoint)) No)
+show_arms y = cond (is_word (codes "SHOW") y) (Takes show_rest) (pairs_arms y)
 
 abbrev explain_arms : Lexeme → Arm PlainStatement
 explain_arms y = cond (is_word (codes "EXPLAIN") y) (Takes explain_rest) (show_arms y)
@@ -290,28 +324,37 @@ explain_arms y = cond (is_word (codes "EXPLAIN") y) (Takes explain_rest) (show_a
 abbrev query_arms : Lexeme → Arm PlainStatement
 query_arms y = cond (is_word (codes "QUERY") y) (Takes ask_rest) (explain_arms y)
 
+late_arms_correct : (x : Lexeme) → ArmCorrect 0 32 (pairs_arms x) x FromPairs follow_statement
+late_arms_correct x = first_arm (is_word (codes "PAIRS")) (word (codes "PAIRS"))
+    (word_is (codes "PAIRS")) (word_exact (codes "PAIRS")) 32 pairs_rest PairsRest follow_statement
+    (pairs_correct follow_statement) aggregate_arms FromAggregate
+    (aggregate_first (codes "PAIRS") refl refl) x
+    (first_arm (is_word (codes "AGGREGATE")) (word (codes "AGGREGATE"))
+    (word_is (codes "AGGREGATE")) (word_exact (codes "AGGREGATE")) 32 aggregate_rest AggregateRest
+    follow_statement (aggregate_correct follow_statement) checkpoint_arms IsCheckpoint
+    (checkpoint_first (codes "AGGREGATE") refl) x
+    (last_arm (is_word (codes "CHECKPOINT")) (word (codes "CHECKPOINT"))
+    (word_is (codes "CHECKPOINT")) (word_exact (codes "CHECKPOINT")) 32 (pure checkpoint)
+    (grammar.pure checkpoint) follow_statement
+    (pure_correct 0 32 checkpoint follow_statement) x))
+
 by_words_correct : IsCorrectParser 0 32 statement FromAt follow_statement
 unfolding statement
 by_words_correct = choose_correct 0 32 statement_arm FromAt follow_statement
     (live write_correct.live) by_words_not_none
     (λ x. first_arm (is_word (codes "AT")) (word (codes "AT")) (word_is (codes "AT"))
     (word_exact (codes "AT")) 32 write_rest WriteRest follow_statement write_correct
-    query_arms FromQuery (at_first (codes "AT") refl refl refl refl) x
+    query_arms FromQuery (at_first (codes "AT") refl refl refl refl refl refl) x
     (first_arm (is_word (codes "QUERY")) (word (codes "QUERY")) (word_is (codes "QUERY"))
     (word_exact (codes "QUERY")) 32 ask_rest AskRest follow_statement ask_rest_correct
-    explain_arms FromExplain (explain_first (codes "QUERY") refl refl refl) x
+    explain_arms FromExplain (explain_first (codes "QUERY") refl refl refl refl refl) x
     (first_arm (is_word (codes "EXPLAIN")) (word (codes "EXPLAIN")) (word_is (codes "EXPLAIN"))
     (word_exact (codes "EXPLAIN")) 32 explain_rest ExplainRest follow_statement explain_correct
-    show_arms FromShow (show_first (codes "EXPLAIN") refl refl) x
+    show_arms FromShow (show_first (codes "EXPLAIN") refl refl refl refl) x
     (first_arm (is_word (codes "SHOW")) (word (codes "SHOW")) (word_is (codes "SHOW"))
     (word_exact (codes "SHOW")) 32 show_rest ShowRest follow_statement
-    (show_correct follow_statement)
-    (λ y. cond (is_word (codes "CHECKPOINT") y) (Takes (pure checkpoint)) No) IsCheckpoint
-    (checkpoint_first (codes "SHOW") refl) x
-    (last_arm (is_word (codes "CHECKPOINT")) (word (codes "CHECKPOINT"))
-    (word_is (codes "CHECKPOINT")) (word_exact (codes "CHECKPOINT")) 32 (pure checkpoint)
-    (grammar.pure checkpoint) follow_statement
-    (pure_correct 0 32 checkpoint follow_statement) x)))))
+    (show_correct follow_statement) pairs_arms FromPairs
+    (pairs_first (codes "SHOW") refl refl refl) x (late_arms_correct x)))))
   where
     live : (a : PlainStatement) × (s : Size) × (ts : List Lexeme) × WriteRest a s ts
         → (a : PlainStatement) × (s : Size) × (ts : List Lexeme) × FromAt a s ts

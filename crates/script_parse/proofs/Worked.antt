@@ -28,13 +28,18 @@ use Rattle.plain_answers_spec.specs.Branches.{a_branch}
 use Rattle.temporal_lang_types.specs.Queries.{PlainQuery, a_query}
 use Rattle.temporal_lang_grammar_spec.specs.QueryReader as query
 use Rattle.script_parse.specs.Statements.{ask, explain, write, show_versions, show_schema}
-use Rattle.script_parse.specs.Statements.{show_sizes, checkpoint}
+use Rattle.temporal_lang_types.specs.declared.relation.Relation.TheVariants.{Before, Meets}
+use Rattle.temporal_lang_types.specs.declared.agg_item.AggItem.TheVariants.{Count, Min, Max, Sum}
+use Rattle.temporal_lang_grammar_spec.specs.AggregateReader.{relation, agg, aggs, more_aggs}
+use Rattle.temporal_lang_grammar_spec.specs.AggregateReader.{of_output}
+use Rattle.script_parse.specs.Statements.{show_sizes, checkpoint, pairs, aggregate}
 use Rattle.script_parse.specs.Lexing.{lexed_from}
 use Rattle.script_parse.specs.StatementReader.{more_constants, constants, row, insert_rest}
 use Rattle.script_parse.specs.StatementReader.{delete_rest, setting, settings, update_rest, change}
 use Rattle.script_parse.specs.StatementReader.{changes, op, ops, inverse, evolve_rest, body}
 use Rattle.script_parse.specs.StatementReader.{write_rest, ask_rest, explain_rest, schema_rest}
-use Rattle.script_parse.specs.StatementReader.{show_rest, statement}
+use Rattle.script_parse.specs.StatementReader.{show_rest, statement, in_brackets, pairs_rest}
+use Rattle.script_parse.specs.StatementReader.{aggregate_rest}
 use Rattle.script_parse.specs.Reading.{Reading, Blank, Refused, Whole, reading}
 
 -- text = reading
@@ -127,6 +132,41 @@ unfolding reading lexed_from gap_len gap_dash scanned_from is_name name small mo
     query.item query.alias fresh_where expr ref_rest outermost query.when_part query.as_of
     query.range query.during query.keeping
 explained = (refl, refl, refl, refl, refl)
+
+-- a relation's word is a name elsewhere
+paired :
+    Reads (codes "PAIRS (VERSION 1 SELECT a FROM t) BEFORE (VERSION 2 SELECT b FROM t)")
+    (Whole (pairs (from_t 1 (column Free a ∷ []) t) Before (from_t 2 (column Free b ∷ []) t)))
+    × Reads (codes "PAIRS (VERSION 1 SELECT a FROM t BEFORE) MEETS (VERSION 1 SELECT a FROM t)")
+    (Whole (pairs (from_t 1 (column Free a ∷ []) (codes "BEFORE")) Meets
+    (from_t 1 (column Free a ∷ []) t)))
+    × Reads (codes "PAIRS (VERSION 1 SELECT a FROM t) AFTER (VERSION 1 SELECT a FROM t)")
+    (Refused (Syntax 34))
+unfolding reading lexed_from gap_len gap_dash scanned_from is_name name small more statement
+    pairs_rest in_brackets relation query.ask query.branches query.branch query.outputs query.output
+    query.items query.item query.alias fresh_where expr ref_rest outermost query.when_part
+    query.as_of query.range query.during query.keeping
+paired = (refl, refl, refl)
+
+-- a KEEP is refused at its word, and a ninth aggregate at its comma
+aggregated :
+    Reads (codes "AGGREGATE COUNT, MIN 1 BY 0 (VERSION 1 SELECT a FROM t DURING 1 TO now)")
+    (Whole (aggregate (Count ∷ Min 1 ∷ []) 0 (a_query 1
+    (a_branch (column Free a ∷ []) ((t, t) ∷ []) always ∷ []) (During 1 forever) [])))
+    × Reads (codes "AGGREGATE MAX 2, SUM 1 BY 3 (VERSION 1 SELECT a FROM t)")
+    (Whole (aggregate (Max 2 ∷ Sum 1 ∷ []) 3 (from_t 1 (column Free a ∷ []) t)))
+    × Reads (codes "AGGREGATE COUNT BY 0 (VERSION 1 SELECT a FROM t KEEP COVERING 1)")
+    (Refused (Syntax 48))
+    × Reads (codes "AGGREGATE MIN BY 0 (VERSION 1 SELECT a FROM t)") (Refused (Syntax 14))
+    × Reads (codes "AGGREGATE SUM 1 BY 2 (VERSION 1 SELECT a FROM t") (Refused (Syntax 47))
+    × Reads (codes
+    "AGGREGATE COUNT,COUNT,COUNT,COUNT,COUNT,COUNT,COUNT,COUNT,COUNT BY 0 (VERSION 1 SELECT a FROM t)")
+    (Refused (Syntax 57))
+unfolding reading lexed_from gap_len gap_dash scanned_from is_name name small moment more statement
+    aggregate_rest in_brackets aggs more_aggs agg of_output query.full_ask query.branches
+    query.branch query.outputs query.output query.items query.item query.alias fresh_where expr
+    ref_rest outermost query.moments query.as_of query.during query.bounds query.moment_or
+aggregated = (refl, refl, refl, refl, refl, refl)
 
 shown :
     Reads (codes "SHOW VERSIONS") (Whole show_versions)

@@ -16,9 +16,12 @@ use Rattle.lexer_trees_spec.specs.Constants.{small_grammar}
 use Rattle.lexer_trees_spec.specs.Constants.{constant_grammar}
 use Rattle.lexer_trees_spec.specs.Where.{IsFreshWhere}
 use Rattle.smo_parse.specs.Productions.{IsOperator}
-use Rattle.temporal_lang_grammar_spec.specs.QueryGrammar.{IsAsk}
+use Rattle.temporal_lang_types.specs.Queries.{PlainQuery}
+use Rattle.temporal_lang_grammar_spec.specs.QueryGrammar.{IsAsk, IsFullAsk}
+use Rattle.temporal_lang_grammar_spec.specs.AggregateGrammar.{IsRelation, AreAggs}
 use Rattle.script_parse.specs.Statements.{PlainStatement, write, ask, explain, show_versions}
 use Rattle.script_parse.specs.Statements.{show_schema, show_sizes, checkpoint}
+use Rattle.script_parse.specs.Statements.{pairs, aggregate}
 
 -- ---- changes
 
@@ -130,10 +133,28 @@ IsShowSizes = grammar.lead (word (codes "SHOW"))
 abbrev pub IsShow : Grammar PlainStatement
 IsShow = grammar.alt IsShowVersions (grammar.alt IsShowSchema IsShowSizes)
 
+-- ( ask )
+abbrev pub IsInBrackets : Grammar PlainQuery → Grammar PlainQuery
+IsInBrackets G = grammar.lead (sign (codes "("))
+    (grammar.seq G (λ q. grammar.lead (sign (codes ")")) (grammar.pure q)))
+
+-- PAIRS ( ask ) relation ( ask )
+abbrev pub IsPairs : Grammar PlainStatement
+IsPairs = grammar.lead (word (codes "PAIRS")) (grammar.seq (IsInBrackets IsAsk)
+    (λ left. grammar.seq IsRelation (λ relation. grammar.map (λ right. pairs left relation right)
+    (IsInBrackets IsAsk))))
+
+-- AGGREGATE agg { , agg } BY small ( full_ask )
+abbrev pub IsAggregate : Grammar PlainStatement
+IsAggregate = grammar.lead (word (codes "AGGREGATE")) (grammar.seq AreAggs
+    (λ items. grammar.lead (word (codes "BY")) (grammar.seq small_grammar
+    (λ group. grammar.map (λ q. aggregate items group q) (IsInBrackets IsFullAsk)))))
+
 -- CHECKPOINT
 abbrev pub IsCheckpoint : Grammar PlainStatement
 IsCheckpoint = grammar.lead (word (codes "CHECKPOINT")) (grammar.pure checkpoint)
 
 abbrev pub IsStatement : Grammar PlainStatement
 IsStatement = grammar.alt IsWrite (grammar.alt IsQuery
-    (grammar.alt IsExplain (grammar.alt IsShow IsCheckpoint)))
+    (grammar.alt IsExplain (grammar.alt IsShow
+    (grammar.alt IsPairs (grammar.alt IsAggregate IsCheckpoint)))))

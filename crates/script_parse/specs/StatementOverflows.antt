@@ -7,10 +7,10 @@ use Rattle.cond_expr.specs.Trees.{always}
 use Rattle.smo_ops_types.specs.Changes.{deletion, update}
 use Rattle.smo_ops_types.specs.Commands.{changing, evolving}
 use Rattle.lexer_spec.specs.Lexemes.{word, sign}
-use Rattle.lexer_combinators.specs.Grammar.{AreMore, so_wide}
+use Rattle.lexer_combinators.specs.Grammar.{Grammar, AreMore, so_wide}
 use Rattle.lexer_combinators.specs.Grammar as grammar
 use Rattle.lexer_trees_spec.specs.Grammar.{IsExpr, IsCond}
-use Rattle.lexer_trees_spec.specs.Constants.{name_grammar, moment_grammar}
+use Rattle.lexer_trees_spec.specs.Constants.{name_grammar, moment_grammar, small_grammar}
 use Rattle.lexer_trees_spec.specs.TreeCounts.{expr_counts, cond_counts}
 use Rattle.lexer_trees_spec.specs.Where.{IsFreshWhere, where_overflows}
 use Rattle.lexer_combinators.specs.ListOverflows.{Overflow, none_overflow, fresh_overflow}
@@ -19,13 +19,16 @@ use Rattle.lexer_combinators.specs.ListOverflows.{option_overflow, either_overfl
 use Rattle.lexer_combinators.specs.ListOverflows.{counted_overflow}
 use Rattle.smo_parse.specs.Productions.{IsOperator}
 use Rattle.smo_parse.specs.OperatorCounts.{operator_counts}
-use Rattle.temporal_lang_grammar_spec.specs.QueryGrammar.{IsAsk}
-use Rattle.temporal_lang_grammar_spec.specs.QueryOverflows.{ask_overflows}
-use Rattle.script_parse.specs.Statements.{write, ask, explain}
+use Rattle.temporal_lang_grammar_spec.specs.QueryGrammar.{IsAsk, IsFullAsk}
+use Rattle.temporal_lang_grammar_spec.specs.AggregateGrammar.{IsRelation, AreAggs}
+use Rattle.temporal_lang_grammar_spec.specs.QueryOverflows.{ask_overflows, full_ask_overflows}
+use Rattle.temporal_lang_types.specs.Queries.{PlainQuery}
+use Rattle.script_parse.specs.Statements.{write, ask, explain, pairs, aggregate}
 use Rattle.script_parse.specs.Productions.{IsInsert, IsDelete, IsSetting, IsUpdate, IsChange, IsOp}
 use Rattle.script_parse.specs.Productions.{AreOps, IsInverse, IsEvolve, AreChanges, IsBody, IsWrite}
 use Rattle.script_parse.specs.Productions.{IsQuery, IsExplain, IsShowVersions, IsShowSchema}
-use Rattle.script_parse.specs.Productions.{IsShowSizes, IsShow, IsCheckpoint, IsStatement}
+use Rattle.script_parse.specs.Productions.{IsShowSizes, IsShow, IsInBrackets, IsPairs, IsAggregate}
+use Rattle.script_parse.specs.Productions.{IsCheckpoint, IsStatement}
 
 -- ---- changes
 
@@ -110,10 +113,47 @@ show_overflows = either_overflow IsShowVersions (grammar.alt IsShowSchema IsShow
     (none_overflow IsShowVersions) (either_overflow IsShowSchema IsShowSizes
     (none_overflow IsShowSchema) (none_overflow IsShowSizes))
 
+abbrev pub bracket_overflows : (G : Grammar PlainQuery) → Overflow G → Overflow (IsInBrackets G)
+bracket_overflows G ps = lead_overflow (sign (codes "(")) _
+    (bind_overflow G (λ q. grammar.lead (sign (codes ")")) (grammar.pure q)) ps
+    (λ q. none_overflow (grammar.lead (sign (codes ")")) (grammar.pure q))))
+
+abbrev pub pairs_overflows : Overflow IsPairs
+pairs_overflows = lead_overflow (word (codes "PAIRS")) _
+    (bind_overflow (IsInBrackets IsAsk) (λ left. grammar.seq IsRelation
+    (λ relation. grammar.map (λ right. pairs left relation right) (IsInBrackets IsAsk)))
+    (bracket_overflows IsAsk ask_overflows)
+    (λ left. bind_overflow IsRelation
+    (λ relation. grammar.map (λ right. pairs left relation right) (IsInBrackets IsAsk))
+    (none_overflow IsRelation)
+    (λ relation. map_overflow (λ right. pairs left relation right) (IsInBrackets IsAsk)
+    (bracket_overflows IsAsk ask_overflows))))
+
+abbrev pub aggregate_overflows : Overflow IsAggregate
+aggregate_overflows = lead_overflow (word (codes "AGGREGATE")) _
+    (bind_overflow AreAggs (λ items. grammar.lead (word (codes "BY")) (grammar.seq small_grammar
+    (λ group. grammar.map (λ q. aggregate items group q) (IsInBrackets IsFullAsk))))
+    (none_overflow AreAggs)
+    (λ items. lead_overflow (word (codes "BY")) _
+    (bind_overflow small_grammar
+    (λ group. grammar.map (λ q. aggregate items group q) (IsInBrackets IsFullAsk))
+    (none_overflow small_grammar)
+    (λ group. map_overflow (λ q. aggregate items group q) (IsInBrackets IsFullAsk)
+    (bracket_overflows IsFullAsk full_ask_overflows)))))
+
+-- the statements from PAIRS on
+abbrev pub late_overflows : Overflow (grammar.alt IsPairs (grammar.alt IsAggregate IsCheckpoint))
+late_overflows = either_overflow IsPairs (grammar.alt IsAggregate IsCheckpoint) pairs_overflows
+    (either_overflow IsAggregate IsCheckpoint aggregate_overflows (none_overflow IsCheckpoint))
+
 abbrev pub statement_overflows : Overflow IsStatement
 statement_overflows = either_overflow IsWrite
-    (grammar.alt IsQuery (grammar.alt IsExplain (grammar.alt IsShow IsCheckpoint))) write_overflows
-    (either_overflow IsQuery (grammar.alt IsExplain (grammar.alt IsShow IsCheckpoint))
+    (grammar.alt IsQuery (grammar.alt IsExplain (grammar.alt IsShow
+    (grammar.alt IsPairs (grammar.alt IsAggregate IsCheckpoint))))) write_overflows
+    (either_overflow IsQuery (grammar.alt IsExplain (grammar.alt IsShow
+    (grammar.alt IsPairs (grammar.alt IsAggregate IsCheckpoint))))
     query_overflows
-    (either_overflow IsExplain (grammar.alt IsShow IsCheckpoint) explain_overflows
-    (either_overflow IsShow IsCheckpoint show_overflows (none_overflow IsCheckpoint))))
+    (either_overflow IsExplain (grammar.alt IsShow
+    (grammar.alt IsPairs (grammar.alt IsAggregate IsCheckpoint))) explain_overflows
+    (either_overflow IsShow (grammar.alt IsPairs (grammar.alt IsAggregate IsCheckpoint))
+    show_overflows late_overflows)))

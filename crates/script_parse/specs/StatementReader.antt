@@ -14,9 +14,12 @@ use Rattle.lexer_trees_spec.specs.Reader.{outermost, follow_expr, follow_cond}
 use Rattle.lexer_trees_spec.specs.Constants.{name, names, moment, small, constant}
 use Rattle.lexer_trees_spec.specs.Where.{fresh_where, follow_where}
 use Rattle.smo_parse.specs.OperatorReader.{operator, follow_operator}
+use Rattle.temporal_lang_types.specs.Queries.{PlainQuery}
 use Rattle.temporal_lang_grammar_spec.specs.QueryReader as query
+use Rattle.temporal_lang_grammar_spec.specs.AggregateReader.{relation, aggs}
 use Rattle.script_parse.specs.Statements.{PlainStatement, write, ask, explain, show_versions}
 use Rattle.script_parse.specs.Statements.{show_schema, show_sizes, checkpoint}
+use Rattle.script_parse.specs.Statements.{pairs, aggregate}
 
 -- ---- changes
 
@@ -122,13 +125,28 @@ show_arm x =
 unfoldable pub show_rest : Parser PlainStatement
 show_rest = choose show_arm
 
+unfoldable pub in_brackets : Parser PlainQuery → Parser PlainQuery
+in_brackets p = lead (is_sign (codes "(")) (bind p (λ q. lead (is_sign (codes ")")) (pure q)))
+
+-- after PAIRS
+unfoldable pub pairs_rest : Parser PlainStatement
+pairs_rest = bind (in_brackets query.ask) (λ left. bind relation
+    (λ r. map_to (λ right. pairs left r right) (in_brackets query.ask)))
+
+-- after AGGREGATE
+unfoldable pub aggregate_rest : Parser PlainStatement
+aggregate_rest = bind aggs (λ items. lead (is_word (codes "BY")) (bind small
+    (λ group. map_to (λ q. aggregate items group q) (in_brackets query.full_ask))))
+
 abbrev pub statement_arm : Lexeme → Arm PlainStatement
 statement_arm x =
     if is_word (codes "AT") x then Takes write_rest
     else (if is_word (codes "QUERY") x then Takes ask_rest else
     (if is_word (codes "EXPLAIN") x then Takes explain_rest
     else (if is_word (codes "SHOW") x then Takes show_rest else
-    (if is_word (codes "CHECKPOINT") x then Takes (pure checkpoint) else No))))
+    (if is_word (codes "PAIRS") x then Takes pairs_rest
+    else (if is_word (codes "AGGREGATE") x then Takes aggregate_rest else
+    (if is_word (codes "CHECKPOINT") x then Takes (pure checkpoint) else No))))))
 
 unfoldable pub statement : Parser PlainStatement
 statement = choose statement_arm

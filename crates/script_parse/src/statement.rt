@@ -2,7 +2,7 @@
 
 use prima_base::What;
 use smo_ops::Command;
-use temporal_lang::Query;
+use temporal_lang::{AggItem, Query, Relation};
 
 /// A statement.
 #[derive(Drop)]
@@ -13,6 +13,11 @@ pub enum Statement {
     Ask(Query),
     /// A query whose pieces are told in place of its answer.
     Explain(Query),
+    /// The pairs of entries of two answers whose periods stand in the relation.
+    Pairs(Query, Relation, Query),
+    /// What the aggregates have over time of the groups of a query's rows, which are as many of
+    /// their first outputs as this number says.
+    Aggregate(Vec<AggItem>, u32, Query),
     /// The list of all versions.
     ShowVersions,
     /// The tables of the version with this number.

@@ -2,6 +2,8 @@
 
 ghost use Rattle.std.specs.Prelude.{◌≡◌, ◌≤◌, ◌<◌, ◌++◌, ◌∷◌, List, length, map};
 ghost use Rattle.smo_ops_types.specs.Commands.{body_of};
+ghost use Rattle.temporal_lang_types.specs.Queries.{query_of};
+ghost use Rattle.temporal_lang_grammar_spec.specs.QueryReader as asking;
 ghost use Rattle.prima_base.specs.declared.refusal.What.{What as Counted};
 ghost use Rattle.lexer_spec.specs.Lexemes.{Lexeme};
 ghost use Rattle.lexer_combinators.specs.Grammar.{Size};
@@ -22,7 +24,7 @@ use crate::{ReadFault, Statement};
 use lexer::{Cursor, LexFault, Stop, Token, limit_of, moment, small, tokens};
 use smo_ops::{Body, Command};
 use std::alloc::Global;
-use temporal_lang::ask;
+use temporal_lang::{Query, aggregates, ask, full_ask, relation};
 
 // What a command does.
 #[tactic(auto, using(crate::proofs::BodySteps::body_evolves, crate::proofs::BodySteps::body_changes))]
@@ -95,6 +97,52 @@ fn show_rest(c: &mut Cursor<'_, '_>) -> Result<Statement, Stop>
     Err(Stop::Unexpected)
 }
 
+// A query in brackets.
+#[tactic(auto, unfolding(crate::specs::StatementReader::in_brackets), using(lexer_combinators::proofs::ReadSteps::lead_seen, lexer_combinators::proofs::ReadSteps::lead_not))]
+fn ask_in_brackets(alloc: Global, c: &mut Cursor<'_, '_>) -> Result<Query, Stop>
+    ensures { Reads query_of (spec.in_brackets asking.ask c.old.nodes (ahead c.old)) result c.new }
+{
+    c.expect_sign(b"(")?;
+    let query = ask(alloc, c)?;
+    c.expect_sign(b")")?;
+    Ok(query)
+}
+
+// A query in brackets that keeps each entry.
+#[tactic(auto, unfolding(crate::specs::StatementReader::in_brackets), using(lexer_combinators::proofs::ReadSteps::lead_seen, lexer_combinators::proofs::ReadSteps::lead_not))]
+fn full_ask_in_brackets(alloc: Global, c: &mut Cursor<'_, '_>) -> Result<Query, Stop>
+    ensures { Reads query_of (spec.in_brackets asking.full_ask c.old.nodes (ahead c.old)) result
+        c.new }
+{
+    c.expect_sign(b"(")?;
+    let query = full_ask(alloc, c)?;
+    c.expect_sign(b")")?;
+    Ok(query)
+}
+
+// What stands after PAIRS.
+#[tactic(auto, unfolding(crate::specs::StatementReader::pairs_rest))]
+fn pairs_rest(alloc: Global, c: &mut Cursor<'_, '_>) -> Result<Statement, Stop>
+    ensures { Reads statement_of (spec.pairs_rest c.old.nodes (ahead c.old)) result c.new }
+{
+    let left = ask_in_brackets(alloc, c)?;
+    let related = relation(c)?;
+    let right = ask_in_brackets(alloc, c)?;
+    Ok(Statement::Pairs(left, related, right))
+}
+
+// What stands after AGGREGATE.
+#[tactic(auto, unfolding(crate::specs::StatementReader::aggregate_rest), using(lexer_combinators::proofs::ReadSteps::lead_seen, lexer_combinators::proofs::ReadSteps::lead_not))]
+fn aggregate_rest(alloc: Global, c: &mut Cursor<'_, '_>) -> Result<Statement, Stop>
+    ensures { Reads statement_of (spec.aggregate_rest c.old.nodes (ahead c.old)) result c.new }
+{
+    let items = aggregates(alloc, c)?;
+    c.expect_word(b"BY")?;
+    let group = small(c)?;
+    let query = full_ask_in_brackets(alloc, c)?;
+    Ok(Statement::Aggregate(items, group, query))
+}
+
 // A statement.
 #[tactic(auto, unfolding(crate::specs::StatementReader::statement), using(lexer_combinators::proofs::ReadSteps::choose_takes, lexer_combinators::proofs::ReadSteps::choose_no))]
 fn statement(alloc: Global, c: &mut Cursor<'_, '_>) -> Result<Statement, Stop>
@@ -115,6 +163,14 @@ fn statement(alloc: Global, c: &mut Cursor<'_, '_>) -> Result<Statement, Stop>
     if c.sees_word(b"SHOW") {
         c.skip();
         return show_rest(c);
+    }
+    if c.sees_word(b"PAIRS") {
+        c.skip();
+        return pairs_rest(alloc, c);
+    }
+    if c.sees_word(b"AGGREGATE") {
+        c.skip();
+        return aggregate_rest(alloc, c);
     }
     if c.sees_word(b"CHECKPOINT") {
         c.skip();

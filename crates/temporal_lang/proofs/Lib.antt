@@ -6,3 +6,4 @@ pub mod FewLaws
 pub mod TypingLaws
 pub mod BranchTypeLaws
 pub mod CheckLaws
+pub mod AggregateLaws

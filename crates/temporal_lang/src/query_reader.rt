@@ -11,7 +11,7 @@ ghost use Rattle.temporal_lang_types.specs.Branches.{branch_of, branches_of};
 ghost use Rattle.temporal_lang_types.specs.Queries.{query_of};
 ghost use Rattle.temporal_lang_grammar_spec.specs.QueryReader as spec;
 
-use crate::when_reader::when_part;
+use crate::when_reader::{moments, when_part};
 use cond_expr::Expr;
 use lexer::{Cursor, Stop, TokenKind, fresh_expr, fresh_where, is_name, name, small};
 use prima_base::{Name, What};
@@ -177,5 +177,23 @@ pub fn ask(alloc: Global, c: &mut Cursor<'_, '_>) -> Result<Query, Stop>
         branches,
         when,
         keep,
+    })
+}
+
+/// A query that keeps each entry of its answer, with counts of its own in each outermost expression
+/// and condition: a KEEP is nothing of it.
+#[tactic(auto, unfolding(temporal_lang_grammar_spec::specs::QueryReader::full_ask), using(lexer_combinators::proofs::ReadSteps::lead_seen, lexer_combinators::proofs::ReadSteps::lead_not))]
+pub fn full_ask(alloc: Global, c: &mut Cursor<'_, '_>) -> Result<Query, Stop>
+    ensures { Reads query_of (spec.full_ask c.old.nodes (ahead c.old)) result c.new }
+{
+    c.expect_word(b"VERSION")?;
+    let version = small(c)?;
+    let branches = branches(alloc, c)?;
+    let when = moments(c)?;
+    Ok(Query {
+        version,
+        branches,
+        when,
+        keep: Vec::new(alloc),
     })
 }

@@ -213,3 +213,14 @@ pub fn when_part(alloc: Global, c: &mut Cursor<'_, '_>) -> Result<(When, Vec<Kee
         None => range(alloc, c),
     }
 }
+
+/// Which moments a query asks of that keeps each entry: a KEEP is nothing of it.
+#[tactic(auto, unfolding(temporal_lang_grammar_spec::specs::QueryReader::moments))]
+pub fn moments(c: &mut Cursor<'_, '_>) -> Result<When, Stop>
+    ensures { Reads (λ w. w) (spec.moments c.old.nodes (ahead c.old)) result c.new }
+{
+    match as_of(c)? {
+        Some(moment) => Ok(When::AsOf(moment)),
+        None => during(c),
+    }
+}

@@ -4,6 +4,8 @@ pub mod BoundSteps
 pub mod BranchCorrectness
 pub mod WhenCorrectness
 pub mod QueryCorrectness
+pub mod AggregateCorrectness
+pub mod AggregateSteps
 pub mod ValidQueries
 pub mod QueryAlong
 pub mod QueryLongest

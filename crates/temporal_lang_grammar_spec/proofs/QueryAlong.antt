@@ -39,7 +39,7 @@ use Rattle.temporal_lang_grammar_spec.specs.QueryGrammar.{AreItems}
 use Rattle.temporal_lang_grammar_spec.specs.QueryGrammar.{IsBranch, AreBranches, IsAsOf, IsDuring}
 use Rattle.temporal_lang_grammar_spec.specs.QueryGrammar.{IsKeep}
 use Rattle.temporal_lang_grammar_spec.specs.QueryGrammar.{AreKeeps, IsKeeping, IsRange, IsWhen}
-use Rattle.temporal_lang_grammar_spec.specs.QueryGrammar.{IsAsk}
+use Rattle.temporal_lang_grammar_spec.specs.QueryGrammar.{IsAsk, IsOneMoment, IsMoments, IsFullAsk}
 use Rattle.temporal_lang_grammar_spec.specs.QueryReader.{output, outputs, item, items, branch}
 use Rattle.temporal_lang_grammar_spec.specs.QueryReader.{branches, as_of}
 use Rattle.temporal_lang_grammar_spec.specs.QueryReader.{as_of_rest, after_as_of, during, keep}
@@ -49,13 +49,15 @@ use Rattle.temporal_lang_grammar_spec.specs.QueryReader.{follow_items}
 use Rattle.temporal_lang_grammar_spec.specs.QueryReader.{follow_branch, follow_branches}
 use Rattle.temporal_lang_grammar_spec.specs.QueryReader.{follow_keeps}
 use Rattle.temporal_lang_grammar_spec.specs.QueryReader.{follow_keeping, follow_range, follow_when}
-use Rattle.temporal_lang_grammar_spec.specs.QueryReader.{follow_ask}
+use Rattle.temporal_lang_grammar_spec.specs.QueryReader.{follow_ask, moments, full_ask}
+use Rattle.temporal_lang_grammar_spec.specs.QueryReader.{follow_moments, follow_full_ask}
 use Rattle.temporal_lang_grammar_spec.specs.QueryOverflows.{output_overflows, outputs_overflows}
 use Rattle.temporal_lang_grammar_spec.specs.QueryOverflows.{items_overflows}
 use Rattle.temporal_lang_grammar_spec.specs.QueryOverflows.{branch_overflows, branches_overflows}
 use Rattle.temporal_lang_grammar_spec.specs.QueryOverflows.{keeps_overflows, keeping_overflows}
 use Rattle.temporal_lang_grammar_spec.specs.QueryOverflows.{range_overflows}
 use Rattle.temporal_lang_grammar_spec.specs.QueryOverflows.{when_overflows, ask_overflows}
+use Rattle.temporal_lang_grammar_spec.specs.QueryOverflows.{full_ask_overflows}
 use Rattle.temporal_lang_grammar_spec.proofs.CountedLists.{counted_along}
 use Rattle.temporal_lang_grammar_spec.proofs.BranchCorrectness.{ends, output_correct}
 use Rattle.temporal_lang_grammar_spec.proofs.BranchCorrectness.{follow_outputs}
@@ -67,7 +69,10 @@ use Rattle.temporal_lang_grammar_spec.proofs.WhenCorrectness.{during_correct}
 use Rattle.temporal_lang_grammar_spec.proofs.WhenCorrectness.{fewer_keeping, after_during}
 use Rattle.temporal_lang_grammar_spec.proofs.WhenCorrectness.{fewer_range}
 use Rattle.temporal_lang_grammar_spec.proofs.WhenCorrectness.{range_prefix, when_correct, fewer_as}
+use Rattle.temporal_lang_grammar_spec.proofs.WhenCorrectness.{moments_correct}
 use Rattle.temporal_lang_grammar_spec.proofs.QueryCorrectness.{fewer_when, after_branches}
+use Rattle.temporal_lang_grammar_spec.proofs.QueryCorrectness.{fewer_full_moments}
+use Rattle.temporal_lang_grammar_spec.proofs.QueryCorrectness.{after_full_branches}
 
 -- ---- branches
 
@@ -229,3 +234,34 @@ ask_whole q s f h = let r = ask_along q s f h [] tt in ap (ask 0) (sym (append-n
 pub ask_sized : (q : PlainQuery) (s : Size) (f : List Lexeme) (h : IsAsk q s f)
     → length (ask_overflows q s f h) ≡ length f
 ask_sized q s f h = (ask_along q s f h [] tt).sized
+
+-- ---- queries that keep each entry
+
+one_moment_light : Light IsOneMoment
+one_moment_light a s f h =
+    let whole : Derivation IsOneMoment = derivation a s f h in
+    let moment = source_of (after_lexeme (after_lexeme whole)) in
+    single_light (as_moment_or last_moment) moment.value s moment.lexemes moment.derives
+
+moments_light : Light IsMoments
+moments_light a s f (inl h) = one_moment_light a s f h
+moments_light a s f (inr h) = during_light a s f h
+
+moments_along : GoesAlong moments IsMoments follow_full_ask (none_overflow IsMoments)
+moments_along = stops_along moments IsMoments follow_moments follow_full_ask
+    (none_overflow IsMoments) fewer_full_moments
+    (light_follow moments IsMoments follow_moments moments_correct moments_light)
+
+pub full_ask_along : GoesAlong full_ask IsFullAsk follow_full_ask full_ask_overflows
+unfolding full_ask
+full_ask_along = lead_follow (is_word (codes "VERSION")) (word (codes "VERSION"))
+    (word_is (codes "VERSION")) _ _ follow_full_ask _
+    (bind_follow small _ small_grammar _ ends follow_full_ask (none_overflow small_grammar) _
+    (light_follow small small_grammar ends (small_correct 0 32 ends) (single_light as_small))
+    (λ version. bind_follow branches (λ l. map_to (λ w. a_query version l w []) moments)
+    AreBranches (λ l. grammar.map (λ w. a_query version l w []) IsMoments) follow_branches
+    follow_full_ask branches_overflows _ branches_along
+    (λ l. map_follow (λ w. a_query version l w []) moments IsMoments follow_full_ask
+    (none_overflow IsMoments) moments_along)
+    (after_full_branches version))
+    (λ a b s ts rest h stops. stops_never (ts ++ rest)))

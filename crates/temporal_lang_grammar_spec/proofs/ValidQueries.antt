@@ -26,10 +26,11 @@ use Rattle.temporal_lang_grammar_spec.specs.QueryGrammar.{counted_grammar, AreBo
 use Rattle.temporal_lang_grammar_spec.specs.QueryGrammar.{IsOutput, IsItem, IsBranch, AreBranches}
 use Rattle.temporal_lang_grammar_spec.specs.QueryGrammar.{IsDuring}
 use Rattle.temporal_lang_grammar_spec.specs.QueryGrammar.{IsCovering, IsKeep, IsKeeping, IsWhen}
+use Rattle.temporal_lang_grammar_spec.specs.QueryGrammar.{IsMoments}
 use Rattle.temporal_lang_grammar_spec.specs.QueryReader.{branches, when_part, follow_branches}
-use Rattle.temporal_lang_grammar_spec.specs.QueryReader.{follow_when}
+use Rattle.temporal_lang_grammar_spec.specs.QueryReader.{follow_when, moments, follow_moments}
 use Rattle.temporal_lang_grammar_spec.proofs.BranchCorrectness.{branches_correct}
-use Rattle.temporal_lang_grammar_spec.proofs.WhenCorrectness.{when_correct}
+use Rattle.temporal_lang_grammar_spec.proofs.WhenCorrectness.{when_correct, moments_correct}
 
 -- ---- moments
 
@@ -156,3 +157,12 @@ pub when_is_before : (n : ℕ) (ts : List Lexeme) (w : When × List Keep) (m : �
     → when_part n ts ≡ Parsed w m rest → (is_when w.0 ≡ true) × (are_keeps w.1 ≡ true)
 when_is_before n ts w m rest e = let x = read when_part IsWhen follow_when when_correct n ts w m
     rest e in when_before w x.0 x.1 x.2
+
+moments_before : (w : When) (s : Size) (f : List Lexeme) → IsMoments w s f → is_when w ≡ true
+moments_before w s f (inl h) = let m = h.2.2 in ap is_when m.1 ∙ as_of_before m.2.0 m.0 m.2.1
+moments_before w s f (inr h) = during_before w s f h
+
+pub moments_are_before : (n : ℕ) (ts : List Lexeme) (w : When) (m : ℕ) (rest : List Lexeme)
+    → moments n ts ≡ Parsed w m rest → is_when w ≡ true
+moments_are_before n ts w m rest e = let x = read moments IsMoments follow_moments moments_correct n
+    ts w m rest e in moments_before w x.0 x.1 x.2

@@ -30,14 +30,16 @@ use Rattle.temporal_lang_grammar_spec.specs.QueryGrammar.{as_moment_or, last_mom
 use Rattle.temporal_lang_grammar_spec.specs.QueryGrammar.{AreBounds}
 use Rattle.temporal_lang_grammar_spec.specs.QueryGrammar.{IsDuring, IsBetween, IsCovering, IsKeep}
 use Rattle.temporal_lang_grammar_spec.specs.QueryGrammar.{AreKeeps}
-use Rattle.temporal_lang_grammar_spec.specs.QueryGrammar.{IsKeeping, IsRange, IsWhen}
+use Rattle.temporal_lang_grammar_spec.specs.QueryGrammar.{IsKeeping, IsRange, IsWhen, IsOneMoment}
+use Rattle.temporal_lang_grammar_spec.specs.QueryGrammar.{IsMoments}
 use Rattle.temporal_lang_grammar_spec.specs.QueryReader.{moment_or, bounds, as_of_rest, as_of}
 use Rattle.temporal_lang_grammar_spec.specs.QueryReader.{during, between}
 use Rattle.temporal_lang_grammar_spec.specs.QueryReader.{covering, keep_arm, keep, keeps, keeping}
 use Rattle.temporal_lang_grammar_spec.specs.QueryReader.{range}
-use Rattle.temporal_lang_grammar_spec.specs.QueryReader.{after_as_of, when_part, follow_keeps}
+use Rattle.temporal_lang_grammar_spec.specs.QueryReader.{after_as_of, when_part, after_moment}
+use Rattle.temporal_lang_grammar_spec.specs.QueryReader.{moments, follow_keeps}
 use Rattle.temporal_lang_grammar_spec.specs.QueryReader.{follow_keeping}
-use Rattle.temporal_lang_grammar_spec.specs.QueryReader.{follow_range, follow_when}
+use Rattle.temporal_lang_grammar_spec.specs.QueryReader.{follow_range, follow_when, follow_moments}
 use Rattle.temporal_lang_grammar_spec.proofs.CountedLists.{option_prefix, counted_correct}
 use Rattle.temporal_lang_grammar_spec.proofs.BranchCorrectness.{ends}
 
@@ -344,3 +346,99 @@ pub when_prefix : (follow : Lexeme → Bool) → follow (word (codes "AS")) ≡ 
 when_prefix follow d e f b s ts rest (inl h) stops = let P : List Lexeme
     → Type 0 = λ l. Stops follow (l ++ rest) in subst P (sym h.1) d
 when_prefix follow d e f b s ts rest (inr h) stops = range_prefix follow e f b s ts rest h stops
+
+-- ---- AS OF or DURING, without KEEP
+
+abbrev AfterMoment : Option ℕ → When → Size → List Lexeme → Type 0
+AfterMoment (Some m) = grammar.pure (AsOf m)
+AfterMoment None = IsDuring
+
+fewer_one : (x : Lexeme) → follow_moments x ≡ false → is_word (codes "AS") x ≡ false
+fewer_one x h = or_left (is_word (codes "AS") x) (is_word (codes "DURING") x) h
+
+pub fewer_moments : (x : Lexeme) → follow_moments x ≡ false → is_word (codes "DURING") x ≡ false
+fewer_moments x h = or_right (is_word (codes "AS") x) (is_word (codes "DURING") x) h
+
+after_moment_correct : (o : Option ℕ) → IsCorrectParser 0 32 (after_moment o) (AfterMoment o)
+    follow_moments
+after_moment_correct (Some m) = pure_correct 0 32 (AsOf m) follow_moments
+after_moment_correct None = correct_follow 0 32 during IsDuring (is_word (codes "DURING"))
+    follow_moments fewer_moments during_correct
+
+-- what may begin a DURING stops what does not go on with it
+pub during_prefix : (follow : Lexeme → Bool) → follow (word (codes "DURING")) ≡ false → (b : When)
+    (s : Size) (ts rest : List Lexeme) → IsDuring b s ts → Stops follow rest
+    → Stops follow (ts ++ rest)
+during_prefix follow e b s ts rest h stops =
+    option_prefix follow Always (word (codes "DURING")) DuringRest e b s ts rest h stops
+
+after_one : (o : Option ℕ) (b : When) (s : Size) (ts rest : List Lexeme)
+    → AfterMoment o b s ts → Stops follow_moments rest → Stops (is_word (codes "AS")) (ts ++ rest)
+after_one (Some m) b s ts rest h stops = let P : List Lexeme
+    → Type 0 = λ l. Stops (is_word (codes "AS")) (l ++ rest) in
+    subst P (sym h.2) (stops_fewer (is_word (codes "AS")) follow_moments fewer_one rest stops)
+after_one None b s ts rest h stops = during_prefix (is_word (codes "AS")) refl b s ts rest h
+    (stops_fewer (is_word (codes "AS")) follow_moments fewer_one rest stops)
+
+abbrev ByMoment : When → Size → List Lexeme → Type 0
+ByMoment = grammar.seq IsMaybeAsOf AfterMoment
+
+by_moment : (b : When) (s : Size) (l : List Lexeme) → ByMoment b s l → IsMoments b s l
+by_moment b s l h = by_first h.7 h.8
+  where
+    by_first : IsMaybeAsOf h.0 h.1 h.3 → AfterMoment h.0 b h.2 h.4 → IsMoments b s l
+    by_first (inl g) k =
+        let P : Option ℕ → Type 0 = λ o. AfterMoment o b h.2 h.4 in
+        let size : s ≡ h.2 = h.5 ∙ ap (λ z. both z h.2) g.1 ∙ none_both h.2 in
+        let text : l ≡ h.4 = h.6 ∙ ap (λ t. t ++ h.4) g.2 in
+        let Q : Size → Type 0 = λ z. IsDuring b z l in
+        let R : List Lexeme → Type 0 = λ t. IsDuring b h.2 t in
+        inr (subst Q (sym size) (subst R (sym text) (subst P g.0 k)))
+    by_first (inr g) k =
+        let m = g.2.2 in
+        let P : Option ℕ → Type 0 = λ o. AfterMoment o b h.2 h.4 in
+        let none = subst P m.1 k in
+        let size : s ≡ h.1 = h.5 ∙ both_last h.1 h.2 none.1 in
+        let text : l ≡ word (codes "AS") ∷ g.0 = h.6 ∙ ap (λ t. h.3 ++ t) none.2 ∙ append-nil h.3
+        ∙ g.1 in
+        let Q : Size → Type 0 = λ z. grammar.single (as_moment_or last_moment) m.0 z g.2.0 in
+        inl (g.0, text, (g.2.0, g.2.1, (m.0, none.0, subst Q (sym size) m.2)))
+
+as_by_moment : (b : When) (s : Size) (l : List Lexeme) → IsMoments b s l → ByMoment b s l
+as_by_moment b s l (inl h) = let m = h.2.2 in (
+  Some m.0,
+  s,
+  nothing_counted,
+  l,
+  [],
+  sym (both_none s),
+  sym (append-nil l),
+  inr (h.0, h.1, (h.2.0, h.2.1, (m.0, refl, m.2))),
+  (m.1, refl, refl),
+)
+as_by_moment b s l (inr h) = (
+  None,
+  nothing_counted,
+  s,
+  [],
+  l,
+  sym (none_both s),
+  refl,
+  inl (refl, refl, refl),
+  h,
+)
+
+pub moments_correct : IsCorrectParser 0 32 moments IsMoments follow_moments
+unfolding moments
+moments_correct = correct_iff 0 32 (bind as_of after_moment) ByMoment IsMoments follow_moments
+    by_moment as_by_moment
+    (bind_correct 0 32 as_of after_moment IsMaybeAsOf AfterMoment (is_word (codes "AS"))
+    follow_moments as_of_correct after_moment_correct after_one)
+
+-- what may begin it stops what goes on with none of its first words
+pub moments_prefix : (follow : Lexeme → Bool) → follow (word (codes "AS")) ≡ false
+    → follow (word (codes "DURING")) ≡ false → (b : When) (s : Size) (ts rest : List Lexeme)
+    → IsMoments b s ts → Stops follow rest → Stops follow (ts ++ rest)
+moments_prefix follow d e b s ts rest (inl h) stops = let P : List Lexeme
+    → Type 0 = λ l. Stops follow (l ++ rest) in subst P (sym h.1) d
+moments_prefix follow d e b s ts rest (inr h) stops = during_prefix follow e b s ts rest h stops

@@ -1,3 +1,5 @@
 pub mod QueryGrammar
 pub mod QueryReader
 pub mod QueryOverflows
+pub mod AggregateGrammar
+pub mod AggregateReader

@@ -119,6 +119,15 @@ IsRange = grammar.seq IsDuring (λ when. grammar.map (λ keep. (when, keep)) IsK
 abbrev pub IsWhen : Grammar (When × List Keep)
 IsWhen = grammar.alt IsAsOf IsRange
 
+-- AS OF bound, alone
+abbrev pub IsOneMoment : Grammar When
+IsOneMoment = grammar.lead (word (codes "AS")) (grammar.lead (word (codes "OF"))
+    (grammar.map (λ m. AsOf m) (grammar.single (as_moment_or last_moment))))
+
+-- moments = AS OF bound | [ DURING moment TO bound ]
+abbrev pub IsMoments : Grammar When
+IsMoments = grammar.alt IsOneMoment IsDuring
+
 -- ---- queries
 
 -- ask = VERSION small branch { UNION branch } [ when ]
@@ -126,3 +135,9 @@ abbrev pub IsAsk : Grammar PlainQuery
 IsAsk = grammar.lead (word (codes "VERSION"))
     (grammar.seq small_grammar (λ version. grammar.seq AreBranches
     (λ branches. grammar.map (λ when. a_query version branches when.0 when.1) IsWhen)))
+
+-- full_ask = VERSION small branch { UNION branch } [ moments ]: each entry is kept
+abbrev pub IsFullAsk : Grammar PlainQuery
+IsFullAsk = grammar.lead (word (codes "VERSION"))
+    (grammar.seq small_grammar (λ version. grammar.seq AreBranches
+    (λ branches. grammar.map (λ when. a_query version branches when []) IsMoments)))

@@ -22,7 +22,7 @@ use Rattle.temporal_lang_grammar_spec.specs.QueryGrammar.{IsItem}
 use Rattle.temporal_lang_grammar_spec.specs.QueryGrammar.{AreItems, IsBranch, AreBranches, IsAsOf}
 use Rattle.temporal_lang_grammar_spec.specs.QueryGrammar.{IsDuring}
 use Rattle.temporal_lang_grammar_spec.specs.QueryGrammar.{IsKeep, AreKeeps, IsKeeping, IsRange}
-use Rattle.temporal_lang_grammar_spec.specs.QueryGrammar.{IsWhen, IsAsk}
+use Rattle.temporal_lang_grammar_spec.specs.QueryGrammar.{IsWhen, IsAsk, IsMoments, IsFullAsk}
 
 -- the first is before the first separator
 abbrev pub list_overflows : {A : Type 0} (separator : Lexeme) (w : What) (G : Grammar A)
@@ -83,3 +83,13 @@ ask_overflows = lead_overflow (word (codes "VERSION")) _
     grammar.map (λ when. a_query version branches when.0 when.1) IsWhen) branches_overflows
     (λ branches. map_overflow (λ when. a_query version branches when.0 when.1) IsWhen
     when_overflows)))
+
+abbrev pub full_ask_overflows : Overflow IsFullAsk
+full_ask_overflows = lead_overflow (word (codes "VERSION")) _
+    (bind_overflow small_grammar (λ version. grammar.seq AreBranches
+    (λ branches. grammar.map (λ when. a_query version branches when []) IsMoments))
+    (none_overflow small_grammar)
+    (λ version. bind_overflow AreBranches (λ branches.
+    grammar.map (λ when. a_query version branches when []) IsMoments) branches_overflows
+    (λ branches. map_overflow (λ when. a_query version branches when []) IsMoments
+    (none_overflow IsMoments))))

@@ -113,11 +113,24 @@ after_as_of None = range
 unfoldable pub when_part : Parser (When × List Keep)
 when_part = bind as_of after_as_of
 
+-- after an AS OF, or where there is none
+abbrev pub after_moment : Option ℕ → Parser When
+after_moment (Some m) = pure (AsOf m)
+after_moment None = during
+
+unfoldable pub moments : Parser When
+moments = bind as_of after_moment
+
 -- ---- queries
 
 unfoldable pub ask : Parser PlainQuery
 ask = lead (is_word (codes "VERSION")) (bind small
     (λ version. bind branches (λ l. map_to (λ w. a_query version l w.0 w.1) when_part)))
+
+-- each entry is kept
+unfoldable pub full_ask : Parser PlainQuery
+full_ask = lead (is_word (codes "VERSION")) (bind small
+    (λ version. bind branches (λ l. map_to (λ w. a_query version l w []) moments)))
 
 -- ---- what each goes on with
 
@@ -147,3 +160,9 @@ follow_when x = is_word (codes "AS") x || follow_range x
 
 abbrev pub follow_ask : Lexeme → Bool
 follow_ask x = follow_branches x || follow_when x
+
+abbrev pub follow_moments : Lexeme → Bool
+follow_moments x = is_word (codes "AS") x || is_word (codes "DURING") x
+
+abbrev pub follow_full_ask : Lexeme → Bool
+follow_full_ask x = follow_branches x || follow_moments x

@@ -1,13 +1,15 @@
 //! Laws of reading queries. Each is proved and does nothing.
 
-ghost use Rattle.std.specs.Prelude.{◌≡◌, ◌≤◌, ℕ, List, length, get_or, None};
+ghost use Rattle.std.specs.Prelude.{◌≡◌, ◌≤◌, ℕ, Bool, List, length, get_or, None, codes};
 ghost use Rattle.prima_base.specs.declared.refusal.What.{What};
-ghost use Rattle.lexer_spec.specs.Lexemes.{Lexeme};
+ghost use Rattle.lexer_spec.specs.Lexemes.{Lexeme, is_sign};
 ghost use Rattle.lexer_combinators.specs.Parsing.{IsCorrectParser, Exceeds, Valid};
 ghost use Rattle.lexer_combinators.specs.Grammar.{Size};
 ghost use Rattle.lexer_combinators.specs.Overflows.{IsFirstOverflow};
 ghost use Rattle.temporal_lang_types.specs.Queries.{PlainQuery};
-ghost use Rattle.temporal_lang_grammar_spec.specs.QueryGrammar.{IsBranch, IsAsk};
+ghost use Rattle.temporal_lang_grammar_spec.specs.QueryGrammar.{IsBranch, IsAsk, IsFullAsk};
+ghost use Rattle.temporal_lang_grammar_spec.specs.AggregateGrammar.{IsRelation, AreAggs};
+ghost use Rattle.temporal_lang_grammar_spec.specs.AggregateReader as aggregate;
 ghost use Rattle.temporal_lang_grammar_spec.specs.QueryOverflows.{ask_overflows};
 ghost use Rattle.temporal_lang_grammar_spec.specs.QueryReader as spec;
 
@@ -16,6 +18,15 @@ ghost use Rattle.temporal_lang_grammar_spec.specs.QueryReader as spec;
 pub fn queries_are_correct()
     ensures branch { IsCorrectParser 0 32 spec.branch IsBranch spec.follow_branch }
     ensures ask { IsCorrectParser 0 32 spec.ask IsAsk spec.follow_ask }
+    ensures full_ask { IsCorrectParser 0 32 spec.full_ask IsFullAsk spec.follow_full_ask }
+{}
+
+/// The readers of relations and of aggregates are good for their grammars, whatever comes after a
+/// relation, and up to a comma after aggregates.
+pub fn aggregates_are_correct()
+    ensures relation { (follow : Lexeme → Bool)
+        → IsCorrectParser 0 32 aggregate.relation IsRelation follow }
+    ensures aggregates { IsCorrectParser 0 32 aggregate.aggs AreAggs (is_sign (codes ",")) }
 {}
 
 /// Tokens that spell a query within the limits spell no other one.

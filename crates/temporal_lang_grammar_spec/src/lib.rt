@@ -11,4 +11,6 @@
 
 mod laws;
 
-pub use laws::{overflows_tell_what_is_too_much, queries_are_correct, queries_are_one};
+pub use laws::{
+    aggregates_are_correct, overflows_tell_what_is_too_much, queries_are_correct, queries_are_one,
+};

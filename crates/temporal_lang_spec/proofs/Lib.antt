@@ -12,3 +12,5 @@ mod WorkedPast
 mod WorkedWays
 mod WorkedMerge
 mod WorkedDecompose
+pub mod AggregateFaultLaws
+pub mod PairFaultLaws

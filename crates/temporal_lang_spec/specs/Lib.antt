@@ -4,3 +4,5 @@ pub mod Losing
 pub mod Checking
 pub mod Accepted
 pub mod Resolved
+pub mod PairFaults
+pub mod AggregateFaults

@@ -4,3 +4,5 @@ pub mod Turns
 pub mod Tallies
 pub mod Listed
 pub mod Parts
+pub mod Lasting
+pub mod Aggregated

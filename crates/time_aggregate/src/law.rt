@@ -4,10 +4,13 @@ ghost use Rattle.relations_spec.specs.Spans.{Span, always, forever};
 ghost use Rattle.relations_spec.specs.Timed.{Entry, at};
 ghost use Rattle.relations_spec.specs.Listing.{IsListing};
 ghost use Rattle.prima_base.specs.Order.{row_cmp};
+ghost use Rattle.prima_base.specs.Keeping.{kept};
+ghost use Rattle.prima_base.specs.declared.keep.Keep.{Keep};
 ghost use Rattle.temporal_lang_types.specs.declared.agg_item.AggItem.{AggItem};
 ghost use Rattle.prima_base.specs.declared.value.Value.{Value};
 ghost use Rattle.prima_base.specs.Groups.{Group};
 ghost use Rattle.time_aggregate.specs.Aggregates.{Row, IsAggregated, groups, amounts_of};
+ghost use Rattle.time_aggregate.specs.Aggregated.{aggregated};
 ghost use Rattle.time_aggregate.specs.Parts.{AreOf, AreBefore};
 
 /// What aggregates have of a listing is what they have of the relation that it lists, at each
@@ -21,6 +24,17 @@ pub fn aggregates_of_a_listing()
         → ((m : ℕ) → Ascends row_cmp (relation m)) → IsListing row_cmp relation slice entries
         → IsAggregated g items (at row_cmp entries) always told
         → IsAggregated g items relation slice told }
+    ensures kept { (relation : ℕ → List Row) → (slice : Span) → (entries : List (Entry Row))
+        → (conditions : List Keep) → slice.end ≤ forever
+        → IsListing row_cmp relation slice entries
+        → IsListing row_cmp (at row_cmp (kept conditions entries)) always
+        (kept conditions entries) }
+{}
+
+/// The list that `aggregated` makes is the one of the groups of the rows that entries hold.
+pub fn aggregated_is_the_one_list()
+    ensures { (g : ℕ) → (items : List AggItem) → (entries : List (Entry Row))
+        → IsAggregated g items (at row_cmp entries) always (aggregated g items entries) }
 {}
 
 /// There is at most one list of the groups of a relation that changes over time.

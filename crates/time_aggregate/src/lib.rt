@@ -14,4 +14,6 @@ mod tally;
 mod turn;
 
 pub use group::aggregate;
-pub use law::{aggregates_are_one, aggregates_of_a_listing, groups_side_by_side};
+pub use law::{
+    aggregated_is_the_one_list, aggregates_are_one, aggregates_of_a_listing, groups_side_by_side,
+};

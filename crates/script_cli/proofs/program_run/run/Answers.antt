@@ -25,6 +25,7 @@ use Rattle.script_cli.proofs.Telling.{untouched_leaves, not_whole_untouched, ref
 use Rattle.script_cli.proofs.Telling.{not_damaged_untouched}
 use Rattle.script_cli.proofs.SampleRuns.{sample_damaged, sample_refuses, sample_whole, sample_held}
 use Rattle.script_cli.proofs.SampleRuns.{sample_crash, sample_sound}
+use Rattle.script_cli_statement.proofs.PairedQueries.{aggregated_is, query_fine}
 use Rattle.script_cli.proofs.program_run.run.Goals as goal
 
 -- nothing is asked for, or a run, or a sample
@@ -239,6 +240,14 @@ returns-clause-laws g c = record {
       let made = still_made c.an_image_shows_a_past.ensures.past limit opening statements are
       history in
       (one past query made.states made.begun (lasting past query accepted) to, refl);
+  aggregates = let one = c.listing_is_the_one_list.ensures.is in
+      let lasting = c.an_accepted_query_asks_questions.ensures.lasting in
+      λ limit opening statements items group query are history accepted full to.
+      let past : Past = (recorded_after limit (recorded opening) statements).past in
+      let made = still_made c.an_image_shows_a_past.ensures.past limit opening statements are
+      history in
+      aggregated_is past items group query full to (one past query made.states made.begun
+      (lasting past query (query_fine past items group query accepted)) to);
   explains = λ limit opening statements text query are history read accepted.
       let given = given_by limit (book_of g.R.Rule.handles g.R.Rule.answers
       c.args.book.now.rules.items) in

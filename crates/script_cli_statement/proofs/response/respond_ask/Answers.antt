@@ -15,7 +15,7 @@ pub returns-in-Ok-clause-says : goal.returns-in-Ok-clause-says
 returns-in-Ok-clause-says g c = λ now represents.
     let past = now.past in
     let query = query_of c.args.query.now in
-    let h = c.in-Ok.ensures past represents in
+    let h = c.in-Ok.ensures.asked past represents in
     subst (λ r. Says (query_reply query now) r (g.K.Sink.written c.args.sink.now)
     (g.K.Sink.written c.put_query_answer.new.sink)) (sym c.or_write_fault.ensures)
     (answered_says _ _ (fault_of_query past query) now
@@ -32,7 +32,7 @@ returns-in-Err-Refused-clause-says g c = λ now represents.
     subst (λ r. Says (query_reply query now) r (g.K.Sink.written c.args.sink.now)
     (g.K.Sink.written c.refuse.new.sink)) (sym c.or_write_fault-in-Err-Refused.ensures)
     (refused_says _ _ _ c.in-Err-Refused.refusal now _ c.refuse.result
-    (rw c.in-Err-Refused.field-0-is at (c.in-Err-Refused.ensures now.past represents))
+    (rw c.in-Err-Refused.field-0-is at (c.in-Err-Refused.ensures.asked now.past represents))
     c.refuse.ensures.ok c.refuse.ensures.all c.refuse.ensures.part)
 
 pub returns-in-Err-NoMemory-clause-says : goal.returns-in-Err-NoMemory-clause-says

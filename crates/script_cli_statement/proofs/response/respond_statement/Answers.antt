@@ -7,6 +7,9 @@ use Rattle.temporal_lang_spec.specs.Accepted.{version_fault, fault_of_query}
 use Rattle.script_parse.specs.Statements.{statement_of}
 use Rattle.script_cli_statement.specs.Replies.{Recorded, query_reply, explain_reply, versions_reply}
 use Rattle.script_cli_statement.specs.Replies.{schema_reply, sizes_reply, statement_reply}
+use Rattle.script_cli_statement.specs.Replies.{pairs_reply, aggregate_reply}
+use Rattle.temporal_lang_spec.specs.PairFaults.{fault_of_pairs}
+use Rattle.temporal_lang_spec.specs.AggregateFaults.{fault_of_aggregate}
 use Rattle.script_cli_statement.specs.Replies.{refused_or}
 use Rattle.script_cli_statement.specs.Replies.{answered}
 use Rattle.script_cli_statement.specs.Responses.{Says, Responds}
@@ -50,6 +53,35 @@ returns-in-Explain-clause-replies g c = λ limit same now represents.
     (subst (λ (b : Book). Says (explain_reply b query now) c.respond_explain.result
     (g.K.Sink.written c.args.sink.now) (g.K.Sink.written c.respond_explain.new.sink)) (sym same)
     (c.respond_explain.ensures.says now represents.past)))
+
+pub returns-in-Pairs-clause-replies : goal.returns-in-Pairs-clause-replies
+returns-in-Pairs-clause-replies g c = λ limit same now represents.
+    let a = c.args.archive.now in
+    let left = query_of c.in-Pairs.left in
+    let right = query_of c.in-Pairs.right in
+    subst (λ s. Responds limit (statement_reply limit (statement_of s) now) c.respond_pairs.result
+    a a (g.K.Sink.written c.args.sink.now) (g.K.Sink.written c.respond_pairs.new.sink))
+    (sym c.in-Pairs.is)
+    (says_responds _ _ limit now a a (pairs_reply left c.in-Pairs.relation right now)
+    c.respond_pairs.result (g.met.D.Disk.valid a.journal.disk) represents
+    (no_puts (fault_of_pairs now.past left right) now _)
+    (same_after (fault_of_pairs now.past left right) now _)
+    (c.respond_pairs.ensures.says now represents.past))
+
+pub returns-in-Aggregate-clause-replies : goal.returns-in-Aggregate-clause-replies
+returns-in-Aggregate-clause-replies g c = λ limit same now represents.
+    let a = c.args.archive.now in
+    let query = query_of c.in-Aggregate.query in
+    let items = c.in-Aggregate.items.items in
+    let group = c.in-Aggregate.group in
+    subst (λ s. Responds limit (statement_reply limit (statement_of s) now)
+    c.respond_aggregate.result a a (g.K.Sink.written c.args.sink.now)
+    (g.K.Sink.written c.respond_aggregate.new.sink)) (sym c.in-Aggregate.is)
+    (says_responds _ _ limit now a a (aggregate_reply items group query now)
+    c.respond_aggregate.result (g.met.D.Disk.valid a.journal.disk) represents
+    (no_puts (fault_of_aggregate now.past items group query) now _)
+    (same_after (fault_of_aggregate now.past items group query) now _)
+    (c.respond_aggregate.ensures.says now represents.past))
 
 pub returns-in-ShowVersions-clause-replies : goal.returns-in-ShowVersions-clause-replies
 returns-in-ShowVersions-clause-replies g c = λ limit same now represents.
@@ -118,3 +150,17 @@ returns-in-ShowSchema-clause-takes g c = on_ok _ _ c.requires.takes
 
 pub returns-in-ShowSizes-clause-takes : goal.returns-in-ShowSizes-clause-takes
 returns-in-ShowSizes-clause-takes g c = on_ok _ _ c.requires.takes
+
+pub returns-in-Pairs-clause-counts : goal.returns-in-Pairs-clause-counts
+returns-in-Pairs-clause-counts g c = reason_said c.respond_pairs.result _ _ _
+    c.respond_pairs.ensures.counts
+
+pub returns-in-Pairs-clause-takes : goal.returns-in-Pairs-clause-takes
+returns-in-Pairs-clause-takes g c = on_ok _ _ c.requires.takes
+
+pub returns-in-Aggregate-clause-counts : goal.returns-in-Aggregate-clause-counts
+returns-in-Aggregate-clause-counts g c = reason_said c.respond_aggregate.result _ _ _
+    c.respond_aggregate.ensures.counts
+
+pub returns-in-Aggregate-clause-takes : goal.returns-in-Aggregate-clause-takes
+returns-in-Aggregate-clause-takes g c = on_ok _ _ c.requires.takes
