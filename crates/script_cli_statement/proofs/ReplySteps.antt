@@ -20,7 +20,7 @@ use Rattle.archive_core_file_spec.proofs.Records.{after_append}
 use Rattle.archive_core.specs.Committing.{room_fault, commit_fault}
 use Rattle.archive_core.specs.Checkpointing.{checkpoint_fault}
 use Rattle.smo_ops_types.specs.Changes.{PlainChange}
-use Rattle.sessions.specs.Shared.{Shared, newest}
+use Rattle.sessions.specs.Shared.{newest}
 use Rattle.sessions.specs.SessionStates.{PlainTransaction}
 use Rattle.sessions.specs.Requests.{Request, beginning, buffering, committing, aborting, opening}
 use Rattle.sessions.specs.Requests.{fetching, closing}
@@ -262,21 +262,20 @@ commit_step limit now s stamp (Some r) e = unchanged now
 commit_step limit now s stamp None e =
     by (changes_so_far (now.sessions.transaction s)) refl
   where
-    leaves : List PlainChange → Shared
-    leaves l = steps.shared_after need_of stamp l (shared_by limit now)
-
     by : (changes : List PlainChange) → changes_so_far (now.sessions.transaction s) ≡ changes
         → IsStep now (request_reply limit s (committing stamp) now)
     by [] are = puts_nothing now (request_reply limit s (committing stamp) now)
-        (ap (changes_due stamp) are) (ap (λ l. (leaves l).past) are)
-        (ap (λ l. (leaves l).place) are)
+        (ap (changes_due stamp) are)
+        (ap (λ l. (steps.shared_after need_of stamp l (shared_by limit now)).past) are)
+        (ap (λ l. (steps.shared_after need_of stamp l (shared_by limit now)).place) are)
     by (c ∷ changes) are =
         let command = steps.command_at stamp (c ∷ changes) in
         let here = commit_due limit now s stamp (now.sessions.transaction s) c changes are e in
         one_step now (request_reply limit s (committing stamp) now) (command_due command)
-        (ap (changes_due stamp) are) (ap (λ l. (leaves l).past) are)
-        (ap (λ l. (leaves l).place) are ∙ omega (arith, record_length (record_of (logged command))))
-        refl here
+        (ap (changes_due stamp) are)
+        (ap (λ l. (steps.shared_after need_of stamp l (shared_by limit now)).past) are)
+        (ap (λ l. (steps.shared_after need_of stamp l (shared_by limit now)).place) are
+        ∙ omega (arith, record_length (record_of (logged command)))) refl here
 
 session_step : (limit : Given) (now : Recorded) (s : ℕ) (request : Request)
     → IsStep now (session_reply limit s request now)

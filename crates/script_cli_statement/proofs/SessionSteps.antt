@@ -120,19 +120,26 @@ module _ (given : Given) (now : Recorded) where
       (shared_by given (statement_reply given s now).after))
   statement_is (session s request) =
       asked_is s request (fault_of need_of (world_of given now) s request)
-  statement_is (write command) = elsewhere_is _ (others_same given now (write command) tt)
-  statement_is (ask query) = elsewhere_is _ (others_same given now (ask query) tt)
-  statement_is (explain query) = elsewhere_is _ (others_same given now (explain query) tt)
-  statement_is (pairs left relation right) = elsewhere_is _
+  statement_is (write command) = elsewhere_is
+      (statement_reply given (write command) now).after (others_same given now (write command) tt)
+  statement_is (ask query) = elsewhere_is
+      (statement_reply given (ask query) now).after (others_same given now (ask query) tt)
+  statement_is (explain query) = elsewhere_is
+      (statement_reply given (explain query) now).after (others_same given now (explain query) tt)
+  statement_is (pairs left relation right) = elsewhere_is
+      (statement_reply given (pairs left relation right) now).after
       (others_same given now (pairs left relation right) tt)
-  statement_is (aggregate items group query) = elsewhere_is _
+  statement_is (aggregate items group query) = elsewhere_is
+      (statement_reply given (aggregate items group query) now).after
       (others_same given now (aggregate items group query) tt)
   statement_is show_versions = refl
-  statement_is (show_schema version) = elsewhere_is _
+  statement_is (show_schema version) = elsewhere_is
+      (statement_reply given (show_schema version) now).after
       (others_same given now (show_schema version) tt)
   statement_is show_sizes = refl
   statement_is show_cursors = refl
-  statement_is checkpoint = elsewhere_is _ (others_same given now checkpoint tt)
+  statement_is checkpoint = elsewhere_is (statement_reply given checkpoint now).after
+      (others_same given now checkpoint tt)
 
   reading_is : (r : Reading) → world_of given (reading_reply given r now).after
       ≡ after need_of (world_of given now) (step_of r
