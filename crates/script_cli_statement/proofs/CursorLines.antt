@@ -1,6 +1,6 @@
 -- How the lines of open cursors, put one after the other, add up.
 use Rattle.std.proofs.Common.{◌≡◌, ◌<◌, ◌≤◌, ◌+◌, ℕ, List, [], ◌∷◌, ◌++◌, length, drop}
-use Rattle.std.proofs.Common.{get_or, sym, ap, ◌∙◌, append-nil, append_assoc, slice_get}
+use Rattle.std.proofs.Common.{get_or, sym, ap, ◌∙◌, append-nil, append_assoc, slice_get, arith}
 use Rattle.std.specs.Prelude.{zero, suc, Option, Some, None, map}
 use Rattle.std.specs.Option.{option_map}
 use Rattle.std.specs.List.{flat_map}
