@@ -1,15 +1,17 @@
 -- What an archive answers to a command of changes is what a vault answers to it.
 use Rattle.std.proofs.Common.{◌≡◌, ◌+◌, ◌∷◌, [], refl, sym, subst, ◌∙◌}
 use Rattle.std.proofs.Common.{arith, Result, Ok, Err}
-use Rattle.std.specs.Prelude.{IfErr, OnOk}
+use Rattle.std.specs.Prelude.{Some, None, IfErr, OnOk}
 use Rattle.disk_model.specs.declared.disk.Disk.{Ghosts}
 use Rattle.smo_ops_types.specs.Commands.{PlainBody, changing, evolving, PlainCommand}
 use Rattle.smo_ops_spec.specs.First.{first_refusal}
+use Rattle.smo_ops_spec.specs.Checks.{Fault}
 use Rattle.smo_ops_spec.specs.Accepts.{command_fault}
 use Rattle.smo_ops_spec.specs.Effects.{gained, lost}
 use Rattle.smo_ops_spec.specs.Past.{Past, newest_database, next_database}
 use Rattle.version_groups.specs.Steps.{rows_gained, rows_lost}
 use Rattle.archive_core_state.specs.declared.archive.Done.{Done}
+use Rattle.archive_core_state.specs.NewCommands.{new_command_fault}
 use Rattle.archive_core_state.specs.ArchiveContents.{ArchiveContent, RepresentsPast, RepresentsSome}
 use Rattle.archive_core.specs.declared.archive.Archive.{Archive}
 use Rattle.archive_core.specs.declared.fault.CommitFault.{CommitFault}
@@ -33,6 +35,18 @@ all_lost : (past : Past) (body : PlainBody) → vault.IsOfChanges body
 all_lost past (changing changes) h = refl
 all_lost past (evolving op inverse) h = absurd h
 
+-- changes make no version, so that none is too wide
+by_past : (past : Past) (stamp : ℕ) (body : PlainBody) → vault.IsOfChanges body
+    → new_command_fault past (record { stamp = stamp; body = body })
+    ≡ command_fault past (record { stamp = stamp; body = body })
+by_past past stamp (changing changes) h = first_of_two
+    (command_fault past (record { stamp = stamp; body = changing changes }))
+  where
+    first_of_two : (f : Fault) → first_refusal (f ∷ None ∷ []) ≡ f
+    first_of_two None = refl
+    first_of_two (Some r) = refl
+by_past past stamp (evolving op inverse) h = absurd h
+
 module _ {D : Type 0} {g : Ghosts D} where
   -- an archive shows something
   pub something : (archive : Archive D g) → RepresentsSome (standing_of archive)
@@ -47,7 +61,7 @@ module _ {D : Type 0} {g : Ghosts D} where
       (limits : limit_of new ≡ limit_of old) where
     faults : commit_fault shared.past (place_of old) (limit_of old) command
         ≡ fault_of_command need_of shared command
-    faults i = first_refusal (command_fault shared.past command
+    faults i = first_refusal (by_past shared.past command.stamp command.body changes i
         ∷ need_fault (h.place i) (h.limit i) (need_of command) ∷ [])
 
     still : RepresentsPast (standing_of new) shared.past → place_of new ≡ place_of old

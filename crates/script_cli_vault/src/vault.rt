@@ -13,6 +13,7 @@ use crate::kept_row::kept_rows;
 use archive_core::{Archive, AskFault, Listing};
 use disk_model::Disk;
 use prima_base::Steps;
+use prima_base_counter::fresh_steps;
 use rewrite_rules_book::{Rule, RuleBook};
 use sessions::{KeptRow, Vault, VaultDone, VaultFault};
 use smo_ops_types::Command;
@@ -43,7 +44,7 @@ fn list_counted<'a, D: Disk, L: Ledger, R: Rule>(
     ensures { (past : Past) → RepresentsPast (standing_of archive.now) past
         → IsAsked past (query_of query.now) result }
 {
-    let mut steps: Steps<L> = Steps::new(blank);
+    let mut steps: Steps<L> = fresh_steps(blank);
     archive.query(book, query, &mut steps)
 }
 
