@@ -4,7 +4,7 @@
 //! a refused statement leaves the archive and the sessions as they were. The disk is called for
 //! these alone, before anything of the reply is put.
 
-ghost use Rattle.std.specs.Prelude.{◌≡◌, ◌<◌, ◌≤◌, ◌^◌, ℕ, length, map, true, false, OnOk, OnErr};
+ghost use Rattle.std.specs.Prelude.{◌≡◌, ◌≤◌, ◌^◌, ℕ, length, map, true, false, OnOk, OnErr};
 ghost use Rattle.std.specs.Prelude.{IfOk};
 ghost use Rattle.std.specs.Io.KnownBytes.{Appends};
 ghost use Rattle.prima_base.specs.Timed.{entries_of};
@@ -18,8 +18,7 @@ ghost use Rattle.script_parse.specs.Statements.{statement_of};
 ghost use Rattle.rewrite.specs.Books.{book_meaning};
 ghost use Rattle.piece_ir.specs.ExplainedPieces.{all_explained};
 ghost use Rattle.version_groups.specs.Representation.{Represents};
-ghost use Rattle.archive_core_state.specs.Asking.{IsAsked, IsKeptOfList};
-ghost use Rattle.archive_core_state.specs.ArchiveContents.{RepresentsPast, RepresentsSome};
+ghost use Rattle.archive_core_state.specs.ArchiveContents.{RepresentsPast};
 ghost use Rattle.archive_core.specs.Fields.{standing_of, below, limit_of};
 ghost use Rattle.answer_text.specs.RefusalTexts.{refusal_text};
 ghost use Rattle.answer_text.specs.Texts.{listing_text, explain_text, sizes_text};
@@ -46,17 +45,17 @@ use answer_text::{
 use archive_core::{Archive, AskFault, CommitFault, Done};
 use disk_model::Disk;
 use piece_ir::Explained;
+use prima_base::Refusal;
 use prima_base::limits::MAX_VERSIONS;
-use prima_base::{Refusal, Steps};
-use prima_base_counter::fresh_steps;
 use prima_io::{Failed, Sink};
 use rewrite_rules_book::{Rule, RuleBook};
+use script_cli_vault::ask_counted;
 use script_parse::{ReadFault, Statement, next_statement};
 use sessions::Sessions;
 use smo_ops::Command;
 use std::alloc::Global;
 use std::marker::Brand;
-use std::sync::ledger::{Blank, Ledger};
+use std::sync::ledger::Blank;
 use temporal_lang::Query;
 use version_groups::{Groups, lifelines_are_few};
 
@@ -150,26 +149,6 @@ fn put_pieces<K: Sink>(
         Err(PutStop::WriteFault) => Err(StopReason::WriteFault),
         Err(PutStop::NoMemory) => Err(StopReason::NoMemory),
     }
-}
-
-/// What the archive answers to a query, with a counter of the ledger.
-pub(crate) fn ask_counted<'a, D: Disk, L: Ledger, R: Rule>(
-    archive: &'a Archive<D>,
-    book: &RuleBook<R>,
-    query: &Query,
-    blank: Blank,
-) -> Result<Listing<'a>, AskFault>
-    requires name { blank.name ≡ L.name }
-    requires parts { blank.parts ≡ L.parts }
-    requires some { 0 < blank.parts }
-    ensures asked { (past : Past) → RepresentsPast (standing_of archive.now) past
-        → IsAsked past (query_of query.now) result }
-    ensures listed { (past : Past) → RepresentsPast (standing_of archive.now) past
-        → IfOk result (λ listing. IsKeptOfList past (query_of query.now) listing) }
-    ensures represents { RepresentsSome (standing_of archive.now) }
-{
-    let mut steps: Steps<L> = fresh_steps(blank);
-    archive.query(book, query, &mut steps)
 }
 
 // Responds to a query.

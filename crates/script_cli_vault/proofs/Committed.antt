@@ -1,9 +1,11 @@
 -- What an archive answers to a command of changes is what a vault answers to it.
 use Rattle.std.proofs.Common.{◌≡◌, ◌+◌, ◌∷◌, [], refl, sym, subst, ◌∙◌}
-use Rattle.std.proofs.Common.{arith, Result, Ok, Err}
+use Rattle.std.proofs.Common.{arith, Result, Ok, Err, ap, length}
+use Rattle.std.proofs.lemmas.List.{length-map}
 use Rattle.std.specs.Prelude.{Some, None, IfErr, OnOk}
 use Rattle.disk_model.specs.declared.disk.Disk.{Ghosts}
 use Rattle.smo_ops_types.specs.Commands.{PlainBody, changing, evolving, PlainCommand}
+use Rattle.smo_ops_types.specs.Commands.{version_of}
 use Rattle.smo_ops_spec.specs.First.{first_refusal}
 use Rattle.smo_ops_spec.specs.Checks.{Fault}
 use Rattle.smo_ops_spec.specs.Accepts.{command_fault}
@@ -18,7 +20,7 @@ use Rattle.archive_core.specs.declared.fault.CommitFault.{CommitFault}
 use Rattle.archive_core.specs.declared.fault.CommitFault.TheVariants as commit
 use Rattle.archive_core.specs.Committing.{Commits, commit_fault, need_fault}
 use Rattle.archive_core.specs.Fields.{standing_of, disk_of, place_of, limit_of}
-use Rattle.sessions.specs.Shared.{Shared}
+use Rattle.sessions.specs.Shared.{Shared, newest}
 use Rattle.sessions.specs.Steps.{fault_of_command}
 use Rattle.sessions.specs.Vaults as vault
 use Rattle.script_cli_vault.specs.Answered.{answer_of}
@@ -55,6 +57,12 @@ module _ {D : Type 0} {g : Ghosts D} where
     record { past = some.0; place = place_of archive; limit = limit_of archive },
     record { past = some.1; place = refl; limit = refl },
   )
+
+  -- its newest version is that of what it shows
+  pub newest_shown : (archive : Archive D g) (shared : Shared) → Shows archive shared
+      → length (standing_of archive).groups.versions ≡ newest shared
+  newest_shown archive shared h = sym (length-map (standing_of archive).groups.versions version_of)
+      ∙ ap length h.past.groups.versions
 
   module _ (old new : Archive D g) (command : PlainCommand) (shared : Shared)
       (h : Shows old shared) (changes : vault.IsOfChanges command.body)

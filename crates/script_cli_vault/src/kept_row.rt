@@ -29,11 +29,11 @@ fn value_of(alloc: Global, val: &Val<'_>) -> Result<Value, NoMemory>
 fn row_of(alloc: Global, values: &[Val<'_>]) -> Result<Row, NoMemory>
     ensures { IfOk result (λ row. row ≡ map shown values.now) }
 {
-    let mut row = Vec::with_capacity(alloc, values.len())?;
+    let mut copied = Vec::with_capacity(alloc, values.len())?;
     for val in values {
-        row.push(value_of(alloc, val)?)?;
+        copied.push(value_of(alloc, val)?)?;
     }
-    Ok(Row::new(alloc, row))
+    Ok(Row::new(alloc, copied))
 }
 
 // The rows with their periods, copied.
@@ -42,8 +42,9 @@ pub(crate) fn kept_rows(alloc: Global, rows: &TimedRows<'_>) -> Result<Vec<KeptR
 {
     let mut kept = Vec::with_capacity(alloc, rows.len())?;
     for index in 0..rows.len() {
+        let row = row_of(alloc, rows.values(index))?;
         kept.push(KeptRow {
-            values: row_of(alloc, rows.values(index))?,
+            values: row,
             period: rows.period(index),
         })?;
     }

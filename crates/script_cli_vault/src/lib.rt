@@ -5,4 +5,4 @@ mod answer;
 mod kept_row;
 mod vault;
 
-pub use vault::ArchiveVault;
+pub use vault::{ArchiveVault, ask_counted};

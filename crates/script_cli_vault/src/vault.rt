@@ -1,10 +1,10 @@
 //! The vault over a borrowed archive and its book of rules.
 
-ghost use Rattle.std.specs.Prelude.{◌≡◌, ◌<◌};
+ghost use Rattle.std.specs.Prelude.{◌≡◌, ◌<◌, IfOk};
 ghost use Rattle.smo_ops_spec.specs.Past.{Past};
 ghost use Rattle.temporal_lang_types.specs.Queries.{query_of};
-ghost use Rattle.archive_core_state.specs.ArchiveContents.{RepresentsPast};
-ghost use Rattle.archive_core_state.specs.Asking.{IsAsked};
+ghost use Rattle.archive_core_state.specs.ArchiveContents.{RepresentsPast, RepresentsSome};
+ghost use Rattle.archive_core_state.specs.Asking.{IsAsked, IsKeptOfList};
 ghost use Rattle.archive_core.specs.Fields.{standing_of, below, is_broken};
 ghost use Rattle.script_cli_vault.specs.Shown.{Shows, IsGiven, need_of};
 
@@ -31,8 +31,8 @@ pub struct ArchiveVault<'a, D: Disk, R: Rule> {
     pub book: &'a RuleBook<R>,
 }
 
-// What the archive answers to a query, with a counter of the ledger.
-fn list_counted<'a, D: Disk, L: Ledger, R: Rule>(
+/// What the archive answers to a query, with a counter of the ledger.
+pub fn ask_counted<'a, D: Disk, L: Ledger, R: Rule>(
     archive: &'a Archive<D>,
     book: &RuleBook<R>,
     query: &Query,
@@ -41,8 +41,11 @@ fn list_counted<'a, D: Disk, L: Ledger, R: Rule>(
     requires name { blank.name ≡ L.name }
     requires parts { blank.parts ≡ L.parts }
     requires some { 0 < blank.parts }
-    ensures { (past : Past) → RepresentsPast (standing_of archive.now) past
+    ensures asked { (past : Past) → RepresentsPast (standing_of archive.now) past
         → IsAsked past (query_of query.now) result }
+    ensures listed { (past : Past) → RepresentsPast (standing_of archive.now) past
+        → IfOk result (λ listing. IsKeptOfList past (query_of query.now) listing) }
+    ensures represents { RepresentsSome (standing_of archive.now) }
 {
     let mut steps: Steps<L> = fresh_steps(blank);
     archive.query(book, query, &mut steps)
@@ -71,7 +74,7 @@ impl<D: Disk, R: Rule> Vault for ArchiveVault<'_, D, R> {
     }
 
     fn listing(&self, query: &Query) -> Result<Vec<KeptRow>, VaultFault> {
-        match list_counted::<D, Brand, R>(self.archive, self.book, query, Blank::new(1)) {
+        match ask_counted::<D, Brand, R>(self.archive, self.book, query, Blank::new(1)) {
             Ok(listing) => Ok(kept_rows(self.alloc, &listing.rows)?),
             Err(AskFault::Refused(refusal)) => Err(VaultFault::Refused(refusal)),
             Err(AskFault::NoMemory) => Err(VaultFault::NoMemory),
