@@ -11,7 +11,7 @@ use Rattle.smo_ops_types.specs.Changes.{PlainChange}
 use Rattle.smo_ops_types.specs.Commands.{PlainCommand}
 use Rattle.smo_ops_spec.specs.Checks.{Fault}
 use Rattle.archive_core_file_spec.specs.LogRecords.{logged}
-use Rattle.archive_core_state.specs.declared.archive.Done.{Done}
+use Rattle.archive_core.specs.State.{Done}
 use Rattle.archive_core.specs.declared.archive.Archive.{Archive}
 use Rattle.archive_core.specs.declared.fault.CommitFault.{CommitFault}
 use Rattle.archive_core.specs.declared.fault.CommitFault.TheVariants as commit

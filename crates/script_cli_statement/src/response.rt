@@ -18,7 +18,7 @@ ghost use Rattle.script_parse.specs.Statements.{statement_of};
 ghost use Rattle.rewrite.specs.Books.{book_meaning};
 ghost use Rattle.piece_ir.specs.ExplainedPieces.{all_explained};
 ghost use Rattle.version_groups.specs.Representation.{Represents};
-ghost use Rattle.archive_core_state.specs.ArchiveContents.{RepresentsPast};
+ghost use Rattle.archive_core.specs.State.{RepresentsPast};
 ghost use Rattle.archive_core.specs.Fields.{standing_of, below, limit_of};
 ghost use Rattle.answer_text.specs.RefusalTexts.{refusal_text};
 ghost use Rattle.answer_text.specs.Texts.{listing_text, explain_text, sizes_text};

@@ -1,6 +1,6 @@
 -- The answers of an archive, in the words of sessions, tell what the archive's tell.
 use Rattle.std.proofs.Common.{◌≡◌, refl, Result, Ok, Err}
-use Rattle.archive_core_state.specs.declared.archive.Done.{Done}
+use Rattle.archive_core.specs.State.{Done}
 use Rattle.archive_core.specs.declared.fault.CommitFault.{CommitFault}
 use Rattle.archive_core.specs.declared.fault.CommitFault.TheVariants as commit
 use Rattle.sessions.specs.declared.vault.VaultFault.TheVariants as fault

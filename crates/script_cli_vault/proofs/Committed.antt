@@ -12,9 +12,8 @@ use Rattle.smo_ops_spec.specs.Accepts.{command_fault}
 use Rattle.smo_ops_spec.specs.Effects.{gained, lost}
 use Rattle.smo_ops_spec.specs.Past.{Past, newest_database, next_database}
 use Rattle.version_groups.specs.Steps.{rows_gained, rows_lost}
-use Rattle.archive_core_state.specs.declared.archive.Done.{Done}
-use Rattle.archive_core_state.specs.NewCommands.{new_command_fault}
-use Rattle.archive_core_state.specs.ArchiveContents.{ArchiveContent, RepresentsPast, RepresentsSome}
+use Rattle.archive_core.specs.State.{Done}
+use Rattle.archive_core.specs.State.{ArchiveContent, RepresentsPast, RepresentsSome}
 use Rattle.archive_core.specs.declared.archive.Archive.{Archive}
 use Rattle.archive_core.specs.declared.fault.CommitFault.{CommitFault}
 use Rattle.archive_core.specs.declared.fault.CommitFault.TheVariants as commit
@@ -37,17 +36,21 @@ all_lost : (past : Past) (body : PlainBody) → vault.IsOfChanges body
 all_lost past (changing changes) h = refl
 all_lost past (evolving op inverse) h = absurd h
 
--- changes make no version, so that none is too wide
-by_past : (past : Past) (stamp : ℕ) (body : PlainBody) → vault.IsOfChanges body
-    → new_command_fault past (record { stamp = stamp; body = body })
-    ≡ command_fault past (record { stamp = stamp; body = body })
-by_past past stamp (changing changes) h = first_of_two
+-- changes make no version, so that none is too wide: they are refused by the past and by the room
+refused_alike : (past : Past) (at limit stamp : ℕ) (body : PlainBody) → vault.IsOfChanges body
+    → commit_fault past at limit (record { stamp = stamp; body = body })
+    ≡ first_refusal (command_fault past (record { stamp = stamp; body = body })
+    ∷ need_fault at limit (need_of (record { stamp = stamp; body = body })) ∷ [])
+refused_alike past at limit stamp (changing changes) h = by
     (command_fault past (record { stamp = stamp; body = changing changes }))
   where
-    first_of_two : (f : Fault) → first_refusal (f ∷ None ∷ []) ≡ f
-    first_of_two None = refl
-    first_of_two (Some r) = refl
-by_past past stamp (evolving op inverse) h = absurd h
+    by : (f : Fault) → first_refusal (first_refusal (f ∷ None ∷ [])
+        ∷ need_fault at limit (need_of (record { stamp = stamp; body = changing changes })) ∷ [])
+        ≡ first_refusal (f
+        ∷ need_fault at limit (need_of (record { stamp = stamp; body = changing changes })) ∷ [])
+    by None = refl
+    by (Some r) = refl
+refused_alike past at limit stamp (evolving op inverse) h = absurd h
 
 module _ {D : Type 0} {g : Ghosts D} where
   -- an archive shows something
@@ -69,8 +72,10 @@ module _ {D : Type 0} {g : Ghosts D} where
       (limits : limit_of new ≡ limit_of old) where
     faults : commit_fault shared.past (place_of old) (limit_of old) command
         ≡ fault_of_command need_of shared command
-    faults i = first_refusal (by_past shared.past command.stamp command.body changes i
-        ∷ need_fault (h.place i) (h.limit i) (need_of command) ∷ [])
+    faults = refused_alike shared.past (place_of old) (limit_of old) command.stamp command.body
+        changes
+        ∙ (λ i. first_refusal (command_fault shared.past command
+        ∷ need_fault (h.place i) (h.limit i) (need_of command) ∷ []))
 
     still : RepresentsPast (standing_of new) shared.past → place_of new ≡ place_of old
         → Shows new shared

@@ -1,6 +1,6 @@
 -- What an archive answers to a session's command, in the words of sessions.
 use Rattle.std.specs.Prelude.{Result, Ok, Err}
-use Rattle.archive_core_state.specs.declared.archive.Done.{Done}
+use Rattle.archive_core.specs.State.{Done}
 use Rattle.archive_core.specs.declared.fault.CommitFault.{CommitFault}
 use Rattle.archive_core.specs.declared.fault.CommitFault.TheVariants as commit
 use Rattle.sessions.specs.declared.vault.VaultDone.{VaultDone}

@@ -6,8 +6,8 @@ use Rattle.command_codec_spec.specs.Valid.{IsCommand}
 use Rattle.journal.specs.Records.{Record}
 use Rattle.journal.specs.JournalFiles.{needs}
 use Rattle.archive_core_file_spec.specs.LogRecords.{logged, record_of}
-use Rattle.archive_core_state.specs.ArchiveContents.{RepresentsPast}
-use Rattle.archive_core_state.specs.declared.archive.Done.{Done}
+use Rattle.archive_core.specs.State.{RepresentsPast}
+use Rattle.archive_core.specs.State.{Done}
 use Rattle.archive_core.specs.declared.archive.Archive.{Archive}
 use Rattle.archive_core.specs.declared.fault.CommitFault.{CommitFault}
 use Rattle.archive_core.specs.declared.fault.CommitFault.TheVariants as commit

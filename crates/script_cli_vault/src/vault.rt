@@ -3,8 +3,8 @@
 ghost use Rattle.std.specs.Prelude.{◌≡◌, ◌<◌, IfOk};
 ghost use Rattle.smo_ops_spec.specs.Past.{Past};
 ghost use Rattle.temporal_lang_types.specs.Queries.{query_of};
-ghost use Rattle.archive_core_state.specs.ArchiveContents.{RepresentsPast, RepresentsSome};
-ghost use Rattle.archive_core_state.specs.Asking.{IsAsked, IsKeptOfList};
+ghost use Rattle.archive_core.specs.State.{RepresentsPast, RepresentsSome};
+ghost use Rattle.archive_core.specs.State.{IsAsked, IsKeptOfList};
 ghost use Rattle.archive_core.specs.Fields.{standing_of, below, is_broken};
 ghost use Rattle.script_cli_vault.specs.Shown.{Shows, IsGiven, need_of};
 
