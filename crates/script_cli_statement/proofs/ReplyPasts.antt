@@ -1,13 +1,13 @@
 -- The past after a statement is valid where it was before it.
 use Rattle.std.proofs.Common.{◌≡◌, ◌<◌, ℕ, List, [], ◌∷◌, refl, sym, subst}
 use Rattle.std.specs.Prelude.{Option, Some, None}
-use Rattle.archive_core_file_spec.specs.LogRecords.{logged, record_of}
 use Rattle.relations_spec.specs.Spans.{forever}
 use Rattle.smo_ops_types.specs.Commands.{PlainBody, changing, evolving, PlainCommand}
 use Rattle.smo_ops_spec.specs.Checks.{Fault}
 use Rattle.smo_ops_spec.specs.Accepts.{command_fault}
 use Rattle.smo_ops_spec.specs.ValidPast.{last_or_nought, IsPast}
 use Rattle.smo_ops_spec.specs.Past.{Past, next_past, past_with, tables_of}
+use Rattle.smo_ops_spec.proofs.Firsts.{none_of_first}
 use Rattle.smo_ops_spec.proofs.PastSteps.{stays_valid, stamp_accepted}
 use Rattle.smo_ops_spec.proofs.PastSteps.{counts_accepted, body_accepted}
 use Rattle.piece_ir_spec.specs.Constants.{ValidInVersions, ValidInEvolution}

@@ -1,5 +1,6 @@
 -- What stands after a statement is the past of the records that it put, and the gate after them.
-use Rattle.std.proofs.Common.{◌≡◌, ℕ, ◌+◌, Bool, true, false, List, [], ◌∷◌, ◌++◌, length}
+use Rattle.std.proofs.Common.{◌≡◌, ℕ, ◌+◌, ◌-◌, Bool, true, false, List, [], ◌∷◌, ◌++◌}
+use Rattle.std.proofs.Common.{length}
 use Rattle.std.proofs.Common.{refl, sym, ap, ◌∙◌, subst, arith, length-append}
 use Rattle.std.specs.Prelude.{Option, Some, None, if◌then◌else◌}
 use Rattle.std.specs.Int.{w64, to_be_bytes}
@@ -8,6 +9,7 @@ use Rattle.smo_ops_types.specs.Commands.{PlainCommand}
 use Rattle.smo_ops_spec.specs.Checks.{Fault}
 use Rattle.smo_ops_spec.specs.Accepts.{command_fault}
 use Rattle.smo_ops_spec.specs.Past.{Past, beginning, past_with}
+use Rattle.smo_ops_spec.proofs.Firsts.{none_of_first}
 use Rattle.temporal_lang_spec.specs.Accepted.{version_fault, fault_of_query}
 use Rattle.journal.specs.Records.{Record, before_gate, body}
 use Rattle.journal.proofs.Putting.{before_gate-push}
@@ -271,11 +273,13 @@ commit_step limit now s stamp None e =
     by (c ∷ changes) are =
         let command = steps.command_at stamp (c ∷ changes) in
         let here = commit_due limit now s stamp (now.sessions.transaction s) c changes are e in
+        let next : now.at + need_of command - 1 ≡ now.at + 10 + due_length (command_due command) =
+        omega arith in
         one_step now (request_reply limit s (committing stamp) now) (command_due command)
         (ap (changes_due stamp) are)
         (ap (λ l. (steps.shared_after need_of stamp l (shared_by limit now)).past) are)
-        (ap (λ l. (steps.shared_after need_of stamp l (shared_by limit now)).place) are
-        ∙ omega (arith, record_length (record_of (logged command)))) refl here
+        (ap (λ l. (steps.shared_after need_of stamp l (shared_by limit now)).place) are ∙ next)
+        refl here
 
 session_step : (limit : Given) (now : Recorded) (s : ℕ) (request : Request)
     → IsStep now (session_reply limit s request now)
