@@ -1,6 +1,6 @@
-//! The lines of replies: what is answered to a query, to a command, to a checkpoint and to sessions,
-//! the pieces that a query runs, the versions, the tables of a schema, the lifelines of tables, and
-//! the refusals. Each is put into a sink.
+//! The lines of replies: what is answered to a query, to a command, to a checkpoint and to
+//! sessions, the pieces that a query runs, the versions, the tables of a schema, the lifelines of
+//! tables, and the refusals. Each is put into a sink.
 //!
 //! `specs/Texts.antt`, `specs/SessionTexts.antt` and `specs/RefusalTexts.antt` say each line by its
 //! bytes.

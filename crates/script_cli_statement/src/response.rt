@@ -1,8 +1,8 @@
 //! The response to one statement: what the archive accepts of it, and the reply that is put.
 //!
-//! The `ok` line of a command, of a COMMIT or of a checkpoint is put when its record is on the disk;
-//! a refused statement leaves the archive and the sessions as they were. The disk is called for
-//! these alone, before anything of the reply is put.
+//! The `ok` line of a command, of a COMMIT or of a checkpoint is put when its record is on the
+//! disk; a refused statement leaves the archive and the sessions as they were. The disk is called
+//! for these alone, before anything of the reply is put.
 
 ghost use Rattle.std.specs.Prelude.{◌≡◌, ◌≤◌, ◌^◌, ℕ, length, map, true, false, OnOk, OnErr};
 ghost use Rattle.std.specs.Prelude.{IfOk};
