@@ -3,6 +3,7 @@ use Rattle.std.proofs.Common.{◌≡◌, ℕ, false, List, [], refl, sym, ap, �
 use Rattle.std.specs.Prelude.{Option, Some, None, Result, Ok, Err, IfOk, OnOk, OnErr}
 use Rattle.std.specs.Io.KnownBytes.{Appends}
 use Rattle.prima_io.specs.Moves.{AppendsPrefix, AppendsLess}
+use Rattle.prima_io.specs.Causes.{HasCause}
 use Rattle.prima_io.proofs.Prefixes.{of_less}
 use Rattle.prima_base.specs.declared.failure.Failed.{Failed}
 use Rattle.disk_model.specs.Meaning.{IsValid}
@@ -26,7 +27,7 @@ use Rattle.script_cli_statement.specs.Replies.{request_due, request_reply, sessi
 use Rattle.script_cli_statement.specs.declared.reply_kind.ReplyKind.{ReplyKind}
 use Rattle.script_cli_statement.specs.declared.reply_kind.ReplyKind.TheVariants.{NoError}
 use Rattle.script_cli_statement.specs.declared.stop_reason.StopReason.{StopReason}
-use Rattle.script_cli_statement.specs.StopReasons.{or_write_fault}
+use Rattle.script_cli_statement.specs.StopReasons.{or_write_fault, SaidCounted}
 use Rattle.script_cli_statement.specs.Responses.{Says, Responds, RepresentsAt}
 use Rattle.script_cli_statement.specs.SessionResponses.{without_error, IsFaultOf, IsRefused}
 use Rattle.script_cli_statement.proofs.Responding.{says_stands}
@@ -35,6 +36,12 @@ use Rattle.script_cli_statement.proofs.Responding.{says_stands}
 pub shows_at : {D : Type 0} {g : Ghosts D} (a : Archive D g) (given : Given) (now : Recorded)
     → RepresentsAt a given now → Shows a (shared_by given now)
 shows_at a given now h = record { past = h.past; place = h.place; limit = h.limit_is }
+
+-- the counts of faults of such a line
+pub line_counted : (put : Result (Unit {0}) Failed) (before now : ℕ) → HasCause before now put
+    → SaidCounted (without_error put) before now
+line_counted (Ok p) before now h = h.kept
+line_counted (Err e) before now h = (h.later, h.failed)
 
 module _ (u w : Option (List ℕ)) where
   -- a line was put that is no error

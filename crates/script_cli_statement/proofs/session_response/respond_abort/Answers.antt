@@ -5,9 +5,10 @@ use Rattle.sessions.specs.Steps.{aborted, fault_of}
 use Rattle.script_cli_vault.specs.Shown.{need_of}
 use Rattle.script_cli_statement.specs.Replies.{shared_by, world_of, request_reply, session_reply}
 use Rattle.script_cli_statement.specs.Responses.{Says}
+use Rattle.script_cli_statement.specs.StopReasons.{SaidCounted}
 use Rattle.script_cli_statement.proofs.Responding.{on_ok}
 use Rattle.script_cli_statement.proofs.SessionSaid.{answer_says, answer_leaves, fault_so}
-use Rattle.script_cli_statement.proofs.SessionSaid.{fault_leaves}
+use Rattle.script_cli_statement.proofs.SessionSaid.{fault_leaves, line_counted}
 use Rattle.script_cli_statement.proofs.session_response.respond_abort.Goals as goal
 
 pub returns-in-Ok-clause-says : goal.returns-in-Ok-clause-says
@@ -27,6 +28,13 @@ returns-in-Ok-clause-sessions g c = λ given now kept.
     on_ok c.without_error.result _ (answer_leaves (λ _. aborted) given now c.args.session
     (aborting) (sessions_of c.args.sessions.now) (sessions_of c.abort.new.self) kept c.in-Ok.field-0
     (c.in-Ok.ensures.serves need_of (shared_by given now)))
+
+pub returns-in-Ok-clause-counts : goal.returns-in-Ok-clause-counts
+returns-in-Ok-clause-counts g c =
+    subst (λ r. SaidCounted r (g.K.Sink.faults c.args.sink.now)
+        (g.K.Sink.faults c.put_aborted.new.sink))
+    (sym c.without_error.ensures) (line_counted c.put_aborted.result _ _
+        c.put_aborted.ensures.cause)
 
 pub returns-in-Err-clause-says : goal.returns-in-Err-clause-says
 returns-in-Err-clause-says g c = λ given now kept.

@@ -6,9 +6,10 @@ use Rattle.sessions.specs.Steps.{buffered, fault_of}
 use Rattle.script_cli_vault.specs.Shown.{need_of}
 use Rattle.script_cli_statement.specs.Replies.{shared_by, world_of, request_reply, session_reply}
 use Rattle.script_cli_statement.specs.Responses.{Says}
+use Rattle.script_cli_statement.specs.StopReasons.{SaidCounted}
 use Rattle.script_cli_statement.proofs.Responding.{on_ok}
 use Rattle.script_cli_statement.proofs.SessionSaid.{answer_says, answer_leaves, fault_so}
-use Rattle.script_cli_statement.proofs.SessionSaid.{fault_leaves}
+use Rattle.script_cli_statement.proofs.SessionSaid.{fault_leaves, line_counted}
 use Rattle.script_cli_statement.proofs.session_response.respond_do.Goals as goal
 
 pub returns-in-Ok-clause-says : goal.returns-in-Ok-clause-says
@@ -29,6 +30,13 @@ returns-in-Ok-clause-sessions g c = λ given now kept.
     (buffering (changes_of c.args.changes.items)) (sessions_of c.args.sessions.now)
     (sessions_of c.buffer.new.self) kept c.in-Ok.count
     (c.in-Ok.ensures.serves need_of (shared_by given now)))
+
+pub returns-in-Ok-clause-counts : goal.returns-in-Ok-clause-counts
+returns-in-Ok-clause-counts g c =
+    subst (λ r. SaidCounted r (g.K.Sink.faults c.args.sink.now)
+        (g.K.Sink.faults c.put_buffered.new.sink))
+    (sym c.without_error.ensures) (line_counted c.put_buffered.result _ _
+        c.put_buffered.ensures.cause)
 
 pub returns-in-Err-clause-says : goal.returns-in-Err-clause-says
 returns-in-Err-clause-says g c = λ given now kept.

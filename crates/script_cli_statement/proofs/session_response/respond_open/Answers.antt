@@ -6,9 +6,10 @@ use Rattle.sessions.specs.Steps.{opened, fault_of}
 use Rattle.script_cli_vault.specs.Shown.{need_of}
 use Rattle.script_cli_statement.specs.Replies.{shared_by, world_of, request_reply, session_reply}
 use Rattle.script_cli_statement.specs.Responses.{Says}
+use Rattle.script_cli_statement.specs.StopReasons.{SaidCounted}
 use Rattle.script_cli_statement.proofs.Responding.{on_ok}
 use Rattle.script_cli_statement.proofs.SessionSaid.{answer_says, answer_leaves, fault_so}
-use Rattle.script_cli_statement.proofs.SessionSaid.{fault_leaves, shows_at}
+use Rattle.script_cli_statement.proofs.SessionSaid.{fault_leaves, shows_at, line_counted}
 use Rattle.script_cli_statement.proofs.session_response.respond_open.Goals as goal
 
 pub returns-in-Ok-clause-says : goal.returns-in-Ok-clause-says
@@ -31,6 +32,12 @@ returns-in-Ok-clause-sessions g c = λ given now represents kept.
     (sessions_of c.open.new.self) kept c.in-Ok.total
     (c.in-Ok.ensures.serves (shared_by given now)
     (shows_at c.args.archive.now given now represents)))
+
+pub returns-in-Ok-clause-counts : goal.returns-in-Ok-clause-counts
+returns-in-Ok-clause-counts g c =
+    subst (λ r. SaidCounted r (g.K.Sink.faults c.args.sink.now)
+        (g.K.Sink.faults c.put_opened.new.sink))
+    (sym c.without_error.ensures) (line_counted c.put_opened.result _ _ c.put_opened.ensures.cause)
 
 pub returns-in-Err-clause-says : goal.returns-in-Err-clause-says
 returns-in-Err-clause-says g c = λ given now represents kept.
