@@ -64,7 +64,8 @@ fn refuse_request<K: Sink>(sink: &mut K, fault: VaultFault) -> Result<ReplyKind,
     match fault {
         VaultFault::Refused(refusal) => or_write_fault(refuse(sink, &refusal)),
         VaultFault::NoMemory => Err(StopReason::NoMemory),
-        VaultFault::Broken | VaultFault::Disk => Err(StopReason::DiskFault),
+        VaultFault::Broken => Err(StopReason::DiskFault),
+        VaultFault::Disk => Err(StopReason::DiskFault),
     }
 }
 
