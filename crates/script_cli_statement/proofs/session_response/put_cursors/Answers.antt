@@ -31,7 +31,7 @@ loop-i-preserved g c =
           ))
       | in_default w ↦ absurd (let end = none_here cursors c.loop-i.i c.cursor.result
           w.in_default.is
-          c.cursor.ensures in omega (arith, end, c.cursors.ensures, c.loop-i-test.true))
+          c.cursor.ensures in omega (arith, end, c.cursors-count.ensures, c.loop-i-test.true))
     ]
 
 pub returns-in_err-put_count-clause-part : goal.returns-in_err-put_count-clause-part
@@ -39,7 +39,7 @@ returns-in_err-put_count-clause-part g c =
     let cursors = (sessions_of c.args.sessions.now).cursors in
     let i = c.loop-i.invariant in
     on_err _ _ (end_failed _ _ _ i.0 _ (whole cursors) i.2
-    (last_text cursors c.loop-i.i _ i.0 (omega arith) c.cursors.ensures i.3)
+    (last_text cursors c.loop-i.i _ i.0 (omega arith) c.cursors-count.ensures i.3)
     c.in_err-put_count.ensures.part)
 
 pub returns-clause-all : goal.returns-clause-all
@@ -47,5 +47,5 @@ returns-clause-all g c =
     let cursors = (sessions_of c.args.sessions.now).cursors in
     let i = c.loop-i.invariant in
     end_put _ _ _ i.0 _ (whole cursors) i.2
-    (last_text cursors c.loop-i.i _ i.0 (omega arith) c.cursors.ensures i.3)
+    (last_text cursors c.loop-i.i _ i.0 (omega arith) c.cursors-count.ensures i.3)
     c.in_ok-put_count.ensures.all
