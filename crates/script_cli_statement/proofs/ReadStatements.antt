@@ -1,5 +1,5 @@
 -- The constants of operators, bodies and queries that are read are valid.
-use Rattle.std.proofs.Common.{◌+◌, ℕ, List, [], ◌∷◌, ◌++◌, refl, sym, subst, inl, inr}
+use Rattle.std.proofs.Common.{◌≡◌, ◌+◌, ℕ, List, [], ◌∷◌, ◌++◌, refl, sym, subst, inl, inr}
 use Rattle.std.specs.Prelude.{Bool, codes, false, true}
 use Rattle.relations_spec.specs.Sets.{In}
 use Rattle.prima_base.specs.declared.refusal.What.{What}

@@ -1,4 +1,4 @@
-use Rattle.std.proofs.Common.{sym, ap, subst}
+use Rattle.std.proofs.Common.{◌≤◌, sym, subst}
 use Rattle.temporal_lang_types.specs.Queries.{query_of, slice_of}
 use Rattle.relations_spec.specs.Spans.{forever}
 use Rattle.version_groups.specs.Groups.{Kept}
@@ -24,5 +24,5 @@ pub returns-in-Ok-clause-lists : goal.returns-in-Ok-clause-lists
 returns-in-Ok-clause-lists g c =
     let past = c.ask_counted.ensures.represents in
     lists_kept past.0 (query_of c.args.query.now)
-    (subst (λ w. (slice_of w).end ≤ forever) c.in-Ok.ensures.when c.slice_end-_end.ensures)
+    (subst (λ w. (slice_of w).end ≤ forever) c.in-Ok.ensures.when c.slice_end-end.ensures)
     c.ask_counted.result (c.ask_counted.ensures.listed past.0 past.1)

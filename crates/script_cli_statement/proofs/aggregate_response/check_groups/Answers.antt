@@ -1,5 +1,6 @@
 use Rattle.std.proofs.Common.{ap}
 use Rattle.temporal_lang_types.specs.Queries.{query_of}
+use Rattle.temporal_lang_types.specs.declared.query.Query.{Query}
 use Rattle.script_cli_statement.proofs.PairedQueries.{checks_tested, unnamed_tested}
 use Rattle.script_cli_statement.proofs.aggregate_response.check_groups.Goals as goal
 
@@ -10,4 +11,4 @@ returns-in-Ok-clause-tested c = λ past represents. checks_tested past (query_of
 
 pub returns-in-Err-clause-tested : goal.returns-in-Err-clause-tested
 returns-in-Err-clause-tested c = λ past represents. unnamed_tested past (query_of c.args.query.now)
-    c.args.items.now c.args.group c.in-Err.fault (c.in-Err.ensures past represents)
+    c.args.items.now c.args.group Query c.in-Err.fault (c.in-Err.ensures past represents)

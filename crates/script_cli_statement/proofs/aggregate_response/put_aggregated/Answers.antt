@@ -31,8 +31,8 @@ returns-in-Ok-clause-says g c = λ now.
     (ap groups_shown c.deref.ensures.value ∙ is))
     c.put_groups.ensures.ok c.put_groups.ensures.all c.put_groups.ensures.part)
 
-pub returns-in-Err-NoMemory-clause-says : goal.returns-in-Err-NoMemory-clause-says
-returns-in-Err-NoMemory-clause-says g c = λ now. refl
+pub returns-in-Err-clause-says : goal.returns-in-Err-clause-says
+returns-in-Err-clause-says g c = λ now. refl
 
 pub returns-in-Ok-clause-counts : goal.returns-in-Ok-clause-counts
 returns-in-Ok-clause-counts g c = subst (λ r.

@@ -34,7 +34,8 @@ returns-in-Err-Refused-clause-says g c = λ now represents.
     (sym c.or_write_fault.ensures)
     (refused_says _ _ _ c.in-Err-Refused.refusal now _ c.refuse.result
     (rw c.in-Err-Refused.field-0-is at (c.in-Err-Refused.ensures.asked now.past represents))
-    c.refuse.ensures.ok c.refuse.ensures.all c.refuse.ensures.part)
+    c.refuse.ensures.ok (rw c.in-Err-Refused.field-0-is at c.refuse.ensures.all)
+    (rw c.in-Err-Refused.field-0-is at c.refuse.ensures.part))
 
 pub returns-in-Err-NoMemory-clause-says : goal.returns-in-Err-NoMemory-clause-says
 returns-in-Err-NoMemory-clause-says g c = λ now represents. refl

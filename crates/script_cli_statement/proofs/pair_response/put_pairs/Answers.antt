@@ -20,15 +20,15 @@ values-requires g c =
     ((c.pairs_are_all.ensures.members c.args.relation c.args.left.now.items
     c.args.right.now.items pair).0 there no_row).0
 
-pub period-2-requires : goal.period-2-requires
-period-2-requires g c =
+pub period-requires-in-Some : goal.period-requires-in-Some
+period-requires-in-Some g c =
     let pair = (c.in-Some.i, c.in-Some.j) in
     let there = c.lines.invariant.5 pair (subst (In pair) (sym c.in-Some.ensures) (inl refl)) in
     ((c.pairs_are_all.ensures.members c.args.relation c.args.left.now.items
     c.args.right.now.items pair).0 there no_row).1
 
-pub values-2-requires : goal.values-2-requires
-values-2-requires g c =
+pub values-requires-in-Some : goal.values-requires-in-Some
+values-requires-in-Some g c =
     let pair = (c.in-Some.i, c.in-Some.j) in
     let there = c.lines.invariant.5 pair (subst (In pair) (sym c.in-Some.ensures) (inl refl)) in
     ((c.pairs_are_all.ensures.members c.args.relation c.args.left.now.items
@@ -40,9 +40,10 @@ returns-in_err-put_pair-clause-part g c =
     let left = c.args.left.now.items in
     let right = c.args.right.now.items in
     let is = line_is c.args.relation left right c.in-Some.i c.in-Some.j c.period.result
-    c.period-2.result c.values.result.now c.values-2.result.now (c.period.ensures.period no_row)
-    (c.period-2.ensures.period no_row) (c.values.ensures.values no_row)
-    (c.values-2.ensures.values no_row) in
+    c.period-in-Some.result c.values.result.now c.values-in-Some.result.now
+        (c.period.ensures.period no_row)
+    (c.period-in-Some.ensures.period no_row) (c.values.ensures.values no_row)
+    (c.values-in-Some.ensures.values no_row) in
     on_err _ _ (line_failed _ _ _ i.0 _ (whole c.args.relation left right) i.2 _
     (next_text c.args.relation left right i.0 _ (c.in-Some.i, c.in-Some.j) c.lines.pairs
     c.next_pair.new.self i.4 c.in-Some.ensures is)
@@ -54,9 +55,10 @@ lines-preserved g c =
     let left = c.args.left.now.items in
     let right = c.args.right.now.items in
     let is = line_is c.args.relation left right c.in-Some.i c.in-Some.j c.period.result
-    c.period-2.result c.values.result.now c.values-2.result.now (c.period.ensures.period no_row)
-    (c.period-2.ensures.period no_row) (c.values.ensures.values no_row)
-    (c.values-2.ensures.values no_row) in
+    c.period-in-Some.result c.values.result.now c.values-in-Some.result.now
+        (c.period.ensures.period no_row)
+    (c.period-in-Some.ensures.period no_row) (c.values.ensures.values no_row)
+    (c.values-in-Some.ensures.values no_row) in
     let one : length c.lines.pairs ≡ length c.next_pair.new.self + 1 =
     (let e = ap length c.in-Some.ensures in omega (arith, e)) in (
       _,
