@@ -39,11 +39,14 @@ module _ (cursors : Cursors) where
         ∙ append_assoc sent (line_of_cursor line)
         (lines (drop (i + 1) all) ++ count_text (length all))
 
-  pub last_text : (i n : ℕ) (sent : List ℕ) → length all ≤ i → n ≡ length cursors
+  pub last_text : (i n : ℕ) (sent : List ℕ) → length cursors ≤ i → n ≡ length cursors
       → lines all ≡ sent ++ lines (drop i all) → whole ≡ sent ++ count_text n
-  last_text i n sent l c e = all_lines ∙ ap (λ t. t ++ count_text (length all))
-      (e ∙ ap (λ cs. sent ++ lines cs) (drop_all i all l) ∙ append-nil sent)
-      ∙ ap (λ k. sent ++ count_text k) (length-map cursors line_of ∙ sym c)
+  last_text i n sent l c e =
+      let so_many = length-map cursors line_of in
+      let end : length all ≤ i = omega (arith, l, so_many) in
+      all_lines ∙ ap (λ t. t ++ count_text (length all))
+      (e ∙ ap (λ cs. sent ++ lines cs) (drop_all i all end) ∙ append-nil sent)
+      ∙ ap (λ k. sent ++ count_text k) (so_many ∙ sym c)
 
   -- the line that is told stands in its place
   pub here : (i : ℕ) (r : Option CursorLine) (line : CursorLine) → r ≡ Some line

@@ -1,4 +1,4 @@
-use Rattle.std.proofs.Common.{◌∙◌, arith}
+use Rattle.std.proofs.Common.{◌≤◌, ◌∙◌, length, arith}
 use Rattle.prima_io.proofs.Prefixes.{on_err}
 use Rattle.sessions.specs.Meaning.{sessions_of}
 use Rattle.script_cli_statement.proofs.Lines.{line_put, line_failed, end_put, end_failed}
@@ -38,14 +38,18 @@ pub returns-in_err-put_count-clause-part : goal.returns-in_err-put_count-clause-
 returns-in_err-put_count-clause-part g c =
     let cursors = (sessions_of c.args.sessions.now).cursors in
     let i = c.loop-i.invariant in
+    let end : length cursors ≤ c.loop-i.i =
+    omega (arith, c.cursors-count.ensures, c.loop-i-test.false) in
     on_err _ _ (end_failed _ _ _ i.0 _ (whole cursors) i.2
-    (last_text cursors c.loop-i.i _ i.0 (omega arith) c.cursors-count.ensures i.3)
+    (last_text cursors c.loop-i.i _ i.0 end c.cursors-count.ensures i.3)
     c.in_err-put_count.ensures.part)
 
 pub returns-clause-all : goal.returns-clause-all
 returns-clause-all g c =
     let cursors = (sessions_of c.args.sessions.now).cursors in
     let i = c.loop-i.invariant in
+    let end : length cursors ≤ c.loop-i.i =
+    omega (arith, c.cursors-count.ensures, c.loop-i-test.false) in
     end_put _ _ _ i.0 _ (whole cursors) i.2
-    (last_text cursors c.loop-i.i _ i.0 (omega arith) c.cursors-count.ensures i.3)
+    (last_text cursors c.loop-i.i _ i.0 end c.cursors-count.ensures i.3)
     c.in_ok-put_count.ensures.all
