@@ -41,36 +41,47 @@ module _ (given : Given) (now : Recorded) (s : ℕ) (name : List ℕ) (count : �
       → ServesFetch now.sessions s name count r new
   served r h = subst (λ o. ServesFetch o s name count r new) same h
 
-  module _ (rows : Bor (List KeptRow)) (h : ServesFetch old s name count (Some rows) new) where
-    pub fetched_says : (u w : Option (List ℕ)) (periods : Bool) (told : Option Bool)
-        → told ≡ option_map (λ c. c.periods) (cursor_of old s name)
-        → periods ≡ unwrap_or told true → (put : Result ReplyKind Failed)
-        → IfOk put (λ p. p ≡ NoError)
-        → OnOk put (Appends u w (listing_text periods (kept_entries rows.now)))
-        → OnErr put (AppendsPrefix u w (listing_text periods (kept_entries rows.now)))
-        → Says (session_reply given s (fetching name count) now) (or_write_fault put) u w
-    fetched_says u w periods told e is put ok all part =
-        let k = served (Some rows) h need_of (shared_by given now) in
-        let periods_are : periods ≡ periods_of (cursor_of now.sessions s name) =
-        is ∙ told_is (cursor_of old s name) told e
-        ∙ ap (λ o. periods_of (cursor_of o s name)) same in
-        subst (λ (f : Fault). Says (refused_or f now (request_reply given s (fetching name count)
-        now)) (or_write_fault put) u w) (sym k.0)
-        (lines_say u w (request_reply given s (fetching name count) now)
-        (listing_text periods (kept_entries rows.now)) put refl refl
-        (ap (λ b. listing_text b (kept_entries rows.now)) periods_are ∙ ap said_text k.1)
-        ok all part)
+  module _ (r : Option (Bor (List KeptRow))) (h : ServesFetch old s name count r new) where
+    module _ (rows : Bor (List KeptRow)) (there : r ≡ Some rows) where
+      here : ServesFetch now.sessions s name count (Some rows) new
+      here = subst (λ (x : Option (Bor (List KeptRow))).
+          ServesFetch now.sessions s name count x new)
+          there (served r h)
 
-    pub fetched_leaves : new ≡ (session_reply given s (fetching name count) now).after.sessions
-    fetched_leaves = let k = served (Some rows) h need_of (shared_by given now) in
-        k.2 ∙ ap (λ (f : Fault). (refused_or f now
-        (request_reply given s (fetching name count) now)).after.sessions) (sym k.0)
+      pub fetched_says : (u w : Option (List ℕ)) (periods : Bool) (told : Option Bool)
+          → told ≡ option_map (λ c. c.periods) (cursor_of old s name)
+          → periods ≡ unwrap_or told true → (put : Result ReplyKind Failed)
+          → IfOk put (λ p. p ≡ NoError)
+          → OnOk put (Appends u w (listing_text periods (kept_entries rows.now)))
+          → OnErr put (AppendsPrefix u w (listing_text periods (kept_entries rows.now)))
+          → Says (session_reply given s (fetching name count) now) (or_write_fault put) u w
+      fetched_says u w periods told e is put ok all part =
+          let k = here need_of (shared_by given now) in
+          let periods_are : periods ≡ periods_of (cursor_of now.sessions s name) =
+          is ∙ told_is (cursor_of old s name) told e
+          ∙ ap (λ o. periods_of (cursor_of o s name)) same in
+          subst (λ (f : Fault). Says (refused_or f now (request_reply given s (fetching name count)
+          now)) (or_write_fault put) u w) (sym k.0)
+          (lines_say u w (request_reply given s (fetching name count) now)
+          (listing_text periods (kept_entries rows.now)) put refl refl
+          (ap (λ b. listing_text b (kept_entries rows.now)) periods_are ∙ ap said_text k.1)
+          ok all part)
 
-  module _ (h : ServesFetch old s name count None new) where
-    pub missing_is : fault_of need_of (world_of given now) s (fetching name count)
-        ≡ Some (NoCursor s name)
-    missing_is = ap (cursor_fault s name) (served None h).0
+      pub fetched_leaves : new ≡ (session_reply given s (fetching name count) now).after.sessions
+      fetched_leaves = let k = here need_of (shared_by given now) in
+          k.2 ∙ ap (λ (f : Fault). (refused_or f now
+          (request_reply given s (fetching name count) now)).after.sessions) (sym k.0)
 
-    pub missing_leaves : new ≡ (session_reply given s (fetching name count) now).after.sessions
-    missing_leaves = (served None h).1 ∙ ap (λ (f : Fault). (refused_or f now
-        (request_reply given s (fetching name count) now)).after.sessions) (sym missing_is)
+    module _ (missing : r ≡ None) where
+      gone : ServesFetch now.sessions s name count None new
+      gone = subst (λ (x : Option (Bor (List KeptRow))).
+          ServesFetch now.sessions s name count x new)
+          missing (served r h)
+
+      pub missing_is : fault_of need_of (world_of given now) s (fetching name count)
+          ≡ Some (NoCursor s name)
+      missing_is = ap (cursor_fault s name) gone.0
+
+      pub missing_leaves : new ≡ (session_reply given s (fetching name count) now).after.sessions
+      missing_leaves = gone.1 ∙ ap (λ (f : Fault). (refused_or f now
+          (request_reply given s (fetching name count) now)).after.sessions) (sym missing_is)

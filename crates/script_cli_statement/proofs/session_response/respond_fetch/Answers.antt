@@ -17,17 +17,18 @@ returns-in-Some-clause-says g c = λ given now kept.
     let w = g.K.Sink.written c.put_entries.new.sink in
     subst (λ r. Says (session_reply given c.args.session (fetching c.args.cursor c.args.count) now)
     r u w) (sym c.or_write_fault.ensures)
-    (fetched_says u w given now c.args.session c.args.cursor c.args.count
+    (fetched_says given now c.args.session c.args.cursor c.args.count
     (sessions_of c.args.sessions.now) (sessions_of c.fetch.follows.lender-at-none) kept
-    c.in-Some.rows c.unwrap_or-periods.result c.periods.result c.periods.ensures
-    c.unwrap_or-periods.ensures c.fetch.follows.holds-at-none c.put_entries.result
+    c.fetch.result c.fetch.follows.holds-at-none c.in-Some.rows c.in-Some.is u w
+    c.unwrap_or-periods.result c.periods.result c.periods.ensures c.unwrap_or-periods.ensures
+    c.put_entries.result
     c.put_entries.ensures.ok c.put_entries.ensures.all c.put_entries.ensures.part)
 
 pub returns-in-Some-clause-sessions : goal.returns-in-Some-clause-sessions
 returns-in-Some-clause-sessions g c = λ given now kept.
     on_ok c.or_write_fault.result _ (fetched_leaves given now c.args.session c.args.cursor
     c.args.count (sessions_of c.args.sessions.now) (sessions_of c.fetch.follows.lender-at-none) kept
-    c.in-Some.rows c.fetch.follows.holds-at-none)
+    c.fetch.result c.fetch.follows.holds-at-none c.in-Some.rows c.in-Some.is)
 
 pub returns-in-Some-clause-counts : goal.returns-in-Some-clause-counts
 returns-in-Some-clause-counts g c =
@@ -46,14 +47,14 @@ returns-in-None-clause-says g c = λ given now kept.
     (request_reply given c.args.session request now) c.refuse.result
     (missing_is given now c.args.session c.args.cursor c.args.count
     (sessions_of c.args.sessions.now) (sessions_of c.fetch.follows.lender-at-none) kept
-    c.fetch.follows.holds-at-none)
+    c.fetch.result c.fetch.follows.holds-at-none c.in-None.is)
     c.refuse.ensures.ok c.refuse.ensures.all c.refuse.ensures.part)
 
 pub returns-in-None-clause-sessions : goal.returns-in-None-clause-sessions
 returns-in-None-clause-sessions g c = λ given now kept.
     on_ok c.or_write_fault-in-None.result _ (missing_leaves given now c.args.session c.args.cursor
     c.args.count (sessions_of c.args.sessions.now) (sessions_of c.fetch.follows.lender-at-none) kept
-    c.fetch.follows.holds-at-none)
+    c.fetch.result c.fetch.follows.holds-at-none c.in-None.is)
 
 pub returns-in-None-clause-counts : goal.returns-in-None-clause-counts
 returns-in-None-clause-counts g c =
