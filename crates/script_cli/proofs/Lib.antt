@@ -3,6 +3,7 @@ pub mod DueRecords
 pub mod OneReading
 pub mod PutsAfter
 pub mod Recording
+pub mod SessionStatements
 pub mod Taking
 pub mod Reaching
 pub mod OnDisks

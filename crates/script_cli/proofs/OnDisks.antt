@@ -28,7 +28,8 @@ use Rattle.archive_core.specs.DiskReads.{HoldsAt}
 use Rattle.archive_core.specs.Mounting.{IsMounted}
 use Rattle.script_parse.specs.Script.{StatementPart}
 use Rattle.script_cli_statement.specs.Due.{AreRecordsOf}
-use Rattle.script_cli_statement.specs.Replies.{Recorded, recorded}
+use Rattle.sessions.specs.SessionStates.{no_sessions}
+use Rattle.script_cli_statement.specs.Replies.{Recorded, recorded, IsFresh}
 use Rattle.script_cli.specs.Output.{all_puts}
 use Rattle.script_cli_statement.specs.Putting.{HasPut}
 use Rattle.script_cli.specs.Driving.{PutsSome, RanScript, PutBy, HasOpened}
@@ -222,21 +223,24 @@ module _ {D : Type 0} {g : Ghosts D} (old : Meaning) (limit : ℕ) (book : Book)
     (archive : Archive D g) (has : HasOpened old limit archive) where
   start_told : (seen : Option (List ℕ)) → IfKnown seen (λ file. (opened : Opened)
       × IsMounted file (standing_of archive) (place_of archive) opened)
-      → (start : Recorded) × RepresentsAt archive (given_by limit book) start × IsOpening start seen
+      → (start : Recorded) × RepresentsAt archive (given_by limit book) start
+      × IsOpening start seen × IsFresh start
   start_told None told = (
-    record { past = has.represents.0; at = place_of archive },
+    record { past = has.represents.0; at = place_of archive; sessions = no_sessions },
     record { past = has.represents.1; place = refl; limit_is = has.limit_is },
     tt,
+    refl,
   )
   start_told (Some file) (opened, mounted) = (
     recorded mounted.log,
     record { past = mounted.represents; place = mounted.place; limit_is = has.limit_is },
     (mounted.log, mounted.opens, refl),
+    refl,
   )
 
   -- the start of a script after it
   pub start_of : (start : Recorded) × RepresentsAt archive (given_by limit book) start
-      × IsOpening start old.seen
+      × IsOpening start old.seen × IsFresh start
   start_of = start_told old.seen has.mounted
 
 -- the start is that of the records as which the file opens
@@ -249,7 +253,7 @@ start_is once seen start file opening is opened opens =
 
 module _ {D : Type 0} {g : Ghosts D} (once : OpensOnce) (old : Meaning) (limit : ℕ) (book : Book)
     (archive : Archive D g) (has : HasOpened old limit archive) (start : Recorded)
-    (opened : IsOpening start old.seen)
+    (opened : IsOpening start old.seen) (unbegun : IsFresh start)
     (status : Status) (a b u v : Option (List ℕ)) (new : Meaning) (law : IsValid new)
     (ran_script : RanScript (given_by limit book) start status a b u v (below archive) new
     (place_of archive)) where
@@ -280,6 +284,7 @@ module _ {D : Type 0} {g : Ghosts D} (once : OpensOnce) (old : Meaning) (limit :
   ran_opened = record {
     start = start;
     opened = opened;
+    fresh = unbegun;
     ran = ran_script.ran;
     log = ran_script.log;
     disk = record {

@@ -10,20 +10,23 @@ use Rattle.disk_model.specs.Meaning.{IsValid}
 use Rattle.disk_model.specs.declared.disk.Disk.{Ghosts}
 use Rattle.archive_core.specs.declared.archive.Archive.{Archive}
 use Rattle.archive_core.specs.Fields.{below, place_of}
+use Rattle.sessions.specs.SessionStates.{no_sessions}
+use Rattle.sessions.specs.Meaning.{sessions_of}
 use Rattle.script_parse.specs.Script.{StatementPart, parts_from, tail_from, ending}
 use Rattle.script_parse.specs.Splitting.{fresh}
 use Rattle.archive_core_file_spec.specs.LogRecords.{LogRecord}
 use Rattle.script_cli_statement.specs.Due.{Due, AreRecordsOf}
 use Rattle.script_cli_statement.specs.Putting.{HasPut}
 use Rattle.script_cli_statement.specs.Given.{Given}
-use Rattle.script_cli_statement.specs.Replies.{Recorded}
+use Rattle.script_cli_statement.specs.Replies.{Recorded, IsFresh}
 use Rattle.script_cli.specs.Output.{part_reply, all_puts, recorded_after, any_error, parts_of}
 use Rattle.script_cli.specs.Output.{ending_of, has_error, tail_text, tail_is_due}
 use Rattle.script_cli.specs.declared.script_run.ScriptRun.{ScriptRun}
 use Rattle.script_cli_statement.specs.declared.stop_reason.StopReason.{StopReason}
 use Rattle.script_cli_statement.specs.declared.stop_reason.StopReason.TheVariants as reason
 use Rattle.script_cli_statement.specs.Responses.{RepresentsAt, PutBetween}
-use Rattle.script_cli.specs.Taking.{Fed, Stopped, next_reply, parts_after, ending_after}
+use Rattle.script_cli.specs.Taking.{Fed, Stopped, RepresentsRun, next_reply, parts_after}
+use Rattle.script_cli.specs.Taking.{ending_after}
 use Rattle.script_cli.specs.Runs.{Log, Wrote, WroteAll, begun, logged_in}
 use Rattle.script_cli.specs.Driving.{RanScript, PutBy, Ends, is_faulty, status_of}
 use Rattle.script_cli.specs.Limits.{longest_script}
@@ -38,6 +41,7 @@ use Rattle.script_cli.proofs.Taking.{put-append, took_none, took_more, took_long
 -- the run at its beginning, which read nothing yet
 pub record IsStart (start : ScriptRun) : Type 0 where
   pub splitter : start.splitter ≡ fresh
+  pub sessions : sessions_of start.sessions ≡ no_sessions
   pub refused : start.refused ≡ false
   pub puts : start.puts ≡ 0
 
@@ -128,9 +132,9 @@ next_log limit start whole rest done its first then =
 pub reach_start : {D : Type 0} {g : Ghosts D} (limit : Given) (start : Recorded)
     (archive : Archive D g) (a u : Option (List ℕ)) (s : ScriptRun) → IsValid (below archive)
     → IsStart s
-    → RepresentsAt archive limit start → Consumes a a []
+    → RepresentsAt archive limit start → IsFresh start → Consumes a a []
     → Reached limit start archive archive a a u u s 0
-reach_start limit start archive a u s law h represents k =
+reach_start limit start archive a u s law h represents unbegun k =
     record {
       run = s;
       begun_so = h;
@@ -138,7 +142,10 @@ reach_start limit start archive a u s law h represents k =
       consumed = k;
       counted = refl;
       fed =
-          took_none limit start s archive [] u law represents;
+          took_none limit start s archive [] u law (record {
+            archive = represents;
+            sessions = h.sessions ∙ sym unbegun;
+          });
     }
 
 pub consumed_still : (a b c : Option (List ℕ)) (taken : List ℕ) → Consumes a b taken
@@ -202,7 +209,7 @@ module _ {D : Type 0} {g : Ghosts D} (limit : Given) (start : Recorded)
 stopped : {D : Type 0} {g : Ghosts D} (limit : Given) (start : Recorded) (o m e : Archive D g)
     (a b u v w : Option (List ℕ)) (s : ScriptRun) (n : ℕ) (h : StopReason)
     (r : Reached limit start o m a b u v s n) (chunk : List ℕ)
-    → ((now : Recorded) → RepresentsAt m limit now
+    → ((now : Recorded) → RepresentsRun m s limit now
     → Stopped h limit now (parts_after s chunk) m e v w)
     → Stopped h limit start (r.fed.parts ++ parts_after s chunk) o e u w
 stopped limit start o m e a b u v w s n h r chunk f =
@@ -263,7 +270,7 @@ module _ {D : Type 0} {g : Ghosts D} (limit : Given) (start : Recorded)
     (o m e : Archive D g) {a b c u v w : Option (List ℕ)} {s : ScriptRun} {n : ℕ} where
   pub reach : (r : Reached limit start o m a b u v s n) (chunk : List ℕ) (k : ℕ) (next : ScriptRun)
       → Consumes b c chunk → k ≡ n + length chunk
-      → ((now : Recorded) → RepresentsAt m limit now → Fed limit now s next m e chunk [] v w)
+      → ((now : Recorded) → RepresentsRun m s limit now → Fed limit now s next m e chunk [] v w)
       → Reached limit start o e a c u w next k
   unfolding took_longer
   reach r chunk k next consumes is f = record {
@@ -279,7 +286,7 @@ module _ {D : Type 0} {g : Ghosts D} (limit : Given) (start : Recorded)
 
   pub ran_stopped : (h : StopReason) (r : Reached limit start o m a b u v s n) (chunk : List ℕ)
       → IsValid (below e) → n + length chunk ≤ longest_script → Consumes b c chunk
-      → ((now : Recorded) → RepresentsAt m limit now
+      → ((now : Recorded) → RepresentsRun m s limit now
       → Stopped h limit now (parts_after s chunk) m e v w)
       → RanScript limit start (status_of h) a c u w (below o) (below e) (place_of o)
   ran_stopped h r chunk law l k f =

@@ -10,7 +10,7 @@ use Rattle.archive_core_file_spec.proofs.Records.{accepted_append, sound_accepte
 use Rattle.script_parse.specs.Script.{StatementPart, Whole as Text, Skipped}
 use Rattle.script_cli_statement.specs.Given.{Given}
 use Rattle.script_cli_statement.specs.Due.{AreRecordsOf, AreFirstOf}
-use Rattle.script_cli_statement.specs.Replies.{Recorded, recorded}
+use Rattle.script_cli_statement.specs.Replies.{Recorded, recorded, StandsAfter}
 use Rattle.script_cli_statement.proofs.ReplySteps.{IsStep, reply_step, unchanged, none_of}
 use Rattle.script_cli_statement.proofs.ReplySteps.{none_first}
 use Rattle.script_cli.specs.Output.{part_reply, all_puts, recorded_after}
@@ -39,20 +39,27 @@ first_sound limit (p ∷ parts) now log are =
     (first_sound limit parts reply.after apart.rest apart.rest_are))))
     (first_apart reply.puts (all_puts limit reply.after parts) log are)
 
+-- what stands after records is the same with none after them
+after_none : (opening log : List LogRecord) (now : Recorded) → log ≡ [] → StandsAfter opening now
+    → StandsAfter (opening ++ log) now
+after_none opening log now none stands = subst (λ (l : List LogRecord). StandsAfter l now)
+    (sym (ap (λ (l : List LogRecord). opening ++ l) none ∙ append-nil opening)) stands
+
 recorded_from : (limit : Given) (parts : List StatementPart) (now : Recorded)
-    (opening log : List LogRecord) → now ≡ recorded opening
+    (opening log : List LogRecord) → StandsAfter opening now
     → AreRecordsOf (all_puts limit now parts) log
-    → recorded_after limit now parts ≡ recorded (opening ++ log)
-recorded_from limit [] now opening log is are = is ∙ ap recorded (sym (append-nil opening))
-    ∙ ap (λ (l : List LogRecord). recorded (opening ++ l)) (sym (none_of log are))
-recorded_from limit (p ∷ parts) now opening log is are =
+    → StandsAfter (opening ++ log) (recorded_after limit now parts)
+recorded_from limit [] now opening log stands are = after_none opening log now (none_of log are)
+    stands
+recorded_from limit (p ∷ parts) now opening log stands are =
     let reply = part_reply limit now p in
     let step = part_step limit now p in
     let apart = records_apart reply.puts (all_puts limit reply.after parts) log are in
-    recorded_from limit parts reply.after (opening ++ apart.prefix) apart.rest
-    (step.recorded_is opening apart.prefix is apart.prefix_are) apart.rest_are
-    ∙ ap recorded (append_assoc opening apart.prefix apart.rest)
-    ∙ ap (λ (l : List LogRecord). recorded (opening ++ l)) (sym apart.both)
+    subst (λ (l : List LogRecord). StandsAfter l (recorded_after limit reply.after parts))
+    (append_assoc opening apart.prefix apart.rest
+    ∙ ap (λ (l : List LogRecord). opening ++ l) (sym apart.both))
+    (recorded_from limit parts reply.after (opening ++ apart.prefix) apart.rest
+    (step.recorded_is opening apart.prefix stands apart.prefix_are) apart.rest_are)
 
 pub first_put_sound : (limit : Given) (opening : List LogRecord) (parts : List StatementPart)
     (log : List LogRecord) → AreFirstOf (all_puts limit (recorded opening) parts) log
@@ -61,8 +68,9 @@ first_put_sound limit opening parts log are = first_sound limit parts (recorded 
 
 module _ (limit : Given) (opening : List LogRecord) (parts : List StatementPart)
     (log : List LogRecord) (are : AreRecordsOf (all_puts limit (recorded opening) parts) log) where
-  pub recorded_is : recorded_after limit (recorded opening) parts ≡ recorded (opening ++ log)
-  recorded_is = recorded_from limit parts (recorded opening) opening log refl are
+  pub recorded_is : StandsAfter (opening ++ log) (recorded_after limit (recorded opening) parts)
+  recorded_is = recorded_from limit parts (recorded opening) opening log
+      (record { past = refl; at = refl }) are
 
   pub put_sound : AreSound (past_recorded opening) log
   put_sound = first_put_sound limit opening parts log

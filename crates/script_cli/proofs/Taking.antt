@@ -20,8 +20,9 @@ use Rattle.script_cli_statement.specs.declared.stop_reason.StopReason.{StopReaso
 use Rattle.script_cli_statement.specs.declared.stop_reason.StopReason.TheVariants.{NoMemory}
 use Rattle.script_cli_statement.specs.Replies.{Recorded}
 use Rattle.script_cli.specs.Output.{part_reply, replies, all_puts, recorded_after, any_error}
-use Rattle.script_cli_statement.specs.Responses.{RepresentsAt, PutBetween, StopsIn}
-use Rattle.script_cli.specs.Taking.{Fed, Stopped, next_reply, parts_after, ending_after}
+use Rattle.script_cli_statement.specs.Responses.{PutBetween, StopsIn}
+use Rattle.script_cli.specs.Taking.{Fed, Stopped, RepresentsRun, next_reply, parts_after}
+use Rattle.script_cli.specs.Taking.{ending_after}
 use Rattle.script_cli_statement.proofs.OnePut.{nothing_between}
 use Rattle.script_cli.proofs.PutsAfter.{then_between}
 use Rattle.script_cli.proofs.DueRecords.{commands_append}
@@ -77,7 +78,7 @@ module _ (limit : Given) where
 module _ {D : Type 0} {g : Ghosts D} (limit : Given) (now : Recorded) where
   -- none was taken
   pub took_none : (s : ScriptRun) (a : Archive D g) (bytes : List ℕ) (w : Option (List ℕ))
-      → IsValid (below a) → RepresentsAt a limit now → Fed limit now s s a a bytes bytes w w
+      → IsValid (below a) → RepresentsRun a s limit now → Fed limit now s s a a bytes bytes w w
   took_none s a bytes w law represents = record {
     parts = [];
     cut = λ more. refl;
@@ -94,7 +95,7 @@ module _ {D : Type 0} {g : Ghosts D} (limit : Given) (now : Recorded) where
       (part : StatementPart)
       → ((more : List ℕ) → parts_after s (xs ++ more) ≡ part ∷ parts_after t (ys ++ more))
       → ((more : List ℕ) → ending_after s (xs ++ more) ≡ ending_after t (ys ++ more))
-      → RepresentsAt b limit (part_reply limit now part).after
+      → RepresentsRun b t limit (part_reply limit now part).after
       → t.refused ≡ (s.refused || (part_reply limit now part).is_error)
       → PutBetween a b (part_reply limit now part).puts
       → t.puts ≡ s.puts + length (commands_due (part_reply limit now part).puts)
@@ -122,7 +123,7 @@ module _ {D : Type 0} {g : Ghosts D} (limit : Given) (now : Recorded) where
         cut = λ more. k.cut more ∙ ap (λ l. k.parts ++ l) (m.cut more)
             ∙ sym (append_assoc k.parts m.parts (parts_after n (zs ++ more)));
         end = λ more. k.end more ∙ m.end more;
-        represents = subst (RepresentsAt c limit) (sym (after-append limit now k.parts m.parts))
+        represents = subst (RepresentsRun c n limit) (sym (after-append limit now k.parts m.parts))
             m.represents;
         refused = m.refused ∙ ap (λ x. x || any_error limit next m.parts) k.refused
             ∙ sym (or_assoc s.refused (any_error limit now k.parts)
@@ -242,7 +243,7 @@ module _ {D : Type 0} {g : Ghosts D} (limit : Given) (now : Recorded) (s t : Scr
     ≡ ending (tail_from z.mode z.kept (ys ++ more)))
     (same : t.splitter ≡ z) where
   -- no statement ended
-  pub took_all : cut ≡ More → ys ≡ [] → IsValid (below a) → RepresentsAt a limit now
+  pub took_all : cut ≡ More → ys ≡ [] → IsValid (below a) → RepresentsRun a t limit now
       → t.refused ≡ s.refused → t.puts ≡ s.puts → Fed limit now s t a a xs [] u u
   took_all e all law represents faulty counted = record {
     parts = [];
@@ -260,7 +261,7 @@ module _ {D : Type 0} {g : Ghosts D} (limit : Given) (now : Recorded) (s t : Scr
 
   -- a statement ended, and was answered
   pub took_answer : (part : StatementPart) → found cut ≡ part ∷ []
-      → RepresentsAt b limit (part_reply limit now part).after
+      → RepresentsRun b t limit (part_reply limit now part).after
       → t.refused ≡ (s.refused || (part_reply limit now part).is_error)
       → PutBetween a b (part_reply limit now part).puts
       → t.puts ≡ s.puts + length (commands_due (part_reply limit now part).puts)

@@ -27,6 +27,7 @@ use Rattle.temporal_lang_losses_spec.specs.LawOfLosses.{LawOfLosses}
 use Rattle.piece_ir_spec.specs.Rules.{Book}
 use Rattle.archive_core_file_spec.specs.LogRecords.{LogRecord, AreEncoded, AreAccepted, AreSound}
 use Rattle.archive_core_file_spec.specs.LogRecords.{past_recorded}
+use Rattle.sessions.specs.Runs.{CursorsKeepTheirAnswers, TransactionsAreWhole, OnlyCommitsChange}
 use Rattle.script_parse.specs.Script.{StatementPart, statements_of, tail_of}
 use Rattle.script_parse.specs.Joining.{Each}
 use Rattle.script_parse.specs.Lexing.{TextsAreLexed}
@@ -34,12 +35,14 @@ use Rattle.script_parse.specs.Reading.{LimitsAreKept, ReadingsAreOne, ReadingsAr
 use Rattle.script_parse.specs.Reading.{StatementsAreRead, Whole, reading}
 use Rattle.script_parse.specs.Statements.{explain}
 use Rattle.script_parse_laws.specs.Parts.{IsOpenFault, IsScript}
+use Rattle.script_cli_vault.specs.Shown.{need_of}
 use Rattle.script_cli_statement.specs.Due.{AreRecordsOf}
 use Rattle.script_cli_statement.specs.Explaining.{TellsPieces}
 use Rattle.script_cli_statement.specs.Given.{Given}
-use Rattle.script_cli_statement.specs.Replies.{Recorded, recorded, reply}
+use Rattle.script_cli_statement.specs.Replies.{Recorded, recorded, StandsAfter, reply}
 use Rattle.script_cli_sample.specs.Summary.{is_error_line}
 use Rattle.script_cli.specs.Output.{all_puts, recorded_after}
+use Rattle.script_cli.specs.Stepping.{StatementsAreSteps}
 use Rattle.script_cli.specs.Runs.{given_by}
 
 -- What the output of a script is made of, where the book's rules take queries from version to
@@ -74,7 +77,7 @@ pub record OutputLaws (book : Book) : Type 0 where
   -- records are.
   pub records : (limit : Given) (opening : List LogRecord) (statements : List StatementPart)
       (log : List LogRecord) → AreRecordsOf (all_puts limit (recorded opening) statements) log
-      → (recorded_after limit (recorded opening) statements ≡ recorded (opening ++ log))
+      → StandsAfter (opening ++ log) (recorded_after limit (recorded opening) statements)
       × AreSound (past_recorded opening) log
       × (AreAccepted beginning opening → AreAccepted beginning (opening ++ log))
       × (AreSound beginning opening → AreSound beginning (opening ++ log))
@@ -146,6 +149,14 @@ pub record OutputLaws (book : Book) : Type 0 where
       → let past = (recorded_after limit (recorded opening) statements).past in
       fault_of_query past query ≡ None → (slice_of query.when).start ≤ m
       → m < (slice_of query.when).end → asked_at past query m ≡ asked_with constants past query m
+  -- The statements of a script are steps of its sessions. Of each list of steps: a FETCH gives the
+  -- next entries of the answer at its cursor's opening, whatever is done between; and a transaction
+  -- is committed whole, as the one command of all its changes, or changes nothing.
+  pub steps : (limit : Given) → StatementsAreSteps limit
+  pub cursors : CursorsKeepTheirAnswers need_of
+  pub transactions : TransactionsAreWhole need_of
+  -- nothing that a session asks for but a COMMIT changes the past
+  pub commits : OnlyCommitsChange need_of
   -- a reply counts as an error exactly where its line begins with `error `
   pub errors : (limit : Given) (now : Recorded) (text : List ℕ)
       → (reply limit now text).is_error ≡ is_error_line (reply limit now text).text

@@ -1,6 +1,7 @@
 pub mod Codes
 pub mod Limits
 pub mod Output
+pub mod Stepping
 pub mod Taking
 pub mod Files
 pub mod Runs

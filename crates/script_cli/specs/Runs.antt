@@ -15,7 +15,7 @@ use Rattle.answer_text.specs.Texts.{wrong_words_text, not_a_journal_text}
 use Rattle.piece_ir_spec.specs.Rules.{Book}
 use Rattle.script_cli_statement.specs.Due.{Due, AreRecordsOf}
 use Rattle.script_cli_statement.specs.Given.{Given}
-use Rattle.script_cli_statement.specs.Replies.{Recorded, recorded}
+use Rattle.script_cli_statement.specs.Replies.{Recorded, recorded, IsFresh}
 use Rattle.script_cli.specs.Output.{replies, all_puts, recorded_after, parts_of, ending_of}
 use Rattle.script_cli.specs.Output.{has_error, tail_text}
 use Rattle.script_cli.specs.Limits.{longest_script}
@@ -148,6 +148,7 @@ pub record RanOpened (limit : Given) (status : Status)
     (left_old left_new written_old written_new : Option (List ℕ)) (old new : Meaning) : Type 0 where
   pub start : Recorded
   pub opened : IsOpening start old.seen
+  pub fresh : IsFresh start
   pub ran : Ran limit start status left_old left_new written_old written_new
   pub log : Log limit start status ran.whole ran.rest
   pub disk : OnDisk status log.done (logged_in log) old new

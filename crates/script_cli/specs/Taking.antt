@@ -3,6 +3,7 @@
 use Rattle.std.specs.Prelude.{◌≡◌, ℕ, ◌+◌, List, [], ◌∷◌, ◌++◌, length, ◌||◌, Option}
 use Rattle.std.specs.Io.KnownBytes.{Appends}
 use Rattle.disk_model.specs.declared.disk.Disk.{Ghosts}
+use Rattle.sessions.specs.Meaning.{sessions_of}
 use Rattle.script_parse.specs.Script.{StatementPart, parts_from, tail_from, ending}
 use Rattle.script_parse.specs.declared.splitter.Tail.{Tail}
 use Rattle.archive_core.specs.declared.archive.Archive.{Archive}
@@ -29,11 +30,17 @@ next_reply limit now [] = answered [] now
 next_reply limit now (p ∷ parts) = part_reply limit now p
 
 module _ {D : Type 0} {g : Ghosts D} where
+  -- the archive and the run's sessions are those that stand
+  pub record RepresentsRun (archive : Archive D g) (script_run : ScriptRun) (limit : Given)
+      (now : Recorded) : Type 0 where
+    pub archive : RepresentsAt archive limit now
+    pub sessions : sessions_of script_run.sessions ≡ now.sessions
+
   -- one more statement ended
   pub record Answered (limit : Given) (reply : Reply) (old new : ScriptRun) (a b : Archive D g)
       (written_old written_new : Option (List ℕ)) : Type 0 where
     pub splitter : new.splitter ≡ old.splitter
-    pub represents : RepresentsAt b limit reply.after
+    pub represents : RepresentsRun b new limit reply.after
     pub refused : new.refused ≡ (old.refused || reply.is_error)
     pub puts : PutBetween a b reply.puts
     pub counted : new.puts ≡ old.puts + length (commands_due reply.puts)
@@ -46,7 +53,7 @@ module _ {D : Type 0} {g : Ghosts D} where
     pub cut : (more : List ℕ) → parts_after old (bytes ++ more) ≡ parts
         ++ parts_after new (rest ++ more)
     pub end : (more : List ℕ) → ending_after old (bytes ++ more) ≡ ending_after new (rest ++ more)
-    pub represents : RepresentsAt b limit (recorded_after limit now parts)
+    pub represents : RepresentsRun b new limit (recorded_after limit now parts)
     pub refused : new.refused ≡ (old.refused || any_error limit now parts)
     pub puts : PutBetween a b (all_puts limit now parts)
     pub counted : new.puts ≡ old.puts + length (commands_due (all_puts limit now parts))

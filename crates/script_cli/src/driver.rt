@@ -6,7 +6,7 @@ ghost use Rattle.prima_io.specs.Causes.{HasCause};
 ghost use Rattle.rewrite.specs.Books.{book_meaning};
 ghost use Rattle.archive_core.specs.Fields.{below, place_of};
 ghost use Rattle.script_cli_statement.specs.Given.{Given};
-ghost use Rattle.script_cli_statement.specs.Replies.{Recorded};
+ghost use Rattle.script_cli_statement.specs.Replies.{Recorded, IsFresh};
 ghost use Rattle.script_cli.specs.Runs.{SourceCounted, SinkCounted, DiskCounted};
 ghost use Rattle.script_cli_statement.specs.Responses.{RepresentsAt, TakesRecords};
 ghost use Rattle.script_cli.specs.Driving.{RanScript, Ends, CountsPuts, status_of};
@@ -95,13 +95,13 @@ pub(crate) fn drive<S: Source, K: Sink, D: Disk, R: Rule>(
     requires takes { TakesRecords archive.old }
     ensures ran_script { (limit : Given) → limit.book
         ≡ book_meaning R.Rule book.now → (start : Recorded)
-        → RepresentsAt archive.old limit start
+        → RepresentsAt archive.old limit start → IsFresh start
         → RanScript limit start result.status (S.left source.old) (S.left source.new)
         (K.written sink.old) (K.written sink.new) (below archive.old) (below archive.new)
         (place_of archive.old) }
     ensures counted { (limit : Given) → limit.book
         ≡ book_meaning R.Rule book.now → (start : Recorded)
-        → RepresentsAt archive.old limit start
+        → RepresentsAt archive.old limit start → IsFresh start
         → CountsPuts result.status limit start (S.left source.old) result.puts }
     ensures source { SourceCounted result.status (S.faults source.old) (S.faults source.new) }
     ensures sink { SinkCounted result.status (K.faults sink.old) (K.faults sink.new) }

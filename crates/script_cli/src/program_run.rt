@@ -35,6 +35,7 @@ use script_parse::{
     texts_are_lexed,
 };
 use script_parse_laws::{a_script_is_read_in_one_way, a_statement_has_no_open_text};
+use sessions::{cursors_keep_their_answers, only_commits_change, transactions_are_whole};
 use smo_ops::a_command_is_seen_from_its_stamp_on;
 use std::alloc::Global;
 use store_image_spec::an_image_shows_a_past;
@@ -232,7 +233,8 @@ pub fn run<S: Source, K: Sink, D: Disk, R: Rule>(
     ensures goes { GoesOn (D.meaning disk.old) (D.meaning disk.new) }
 
     // What scripts, statements and replies are: how a script is cut, how a statement is read, what
-    // a command changes, what a query lists and EXPLAIN tells, and which replies are errors.
+    // a command changes, what a query lists and EXPLAIN tells, what becomes of cursors and
+    // transactions between the statements of others, and which replies are errors.
     ensures laws { OutputLaws (book_meaning R.Rule book.now) }
 {
     a_script_is_read_in_one_way();
@@ -249,6 +251,9 @@ pub fn run<S: Source, K: Sink, D: Disk, R: Rule>(
     related_entries_are_all();
     databases_agree_up_to_losses();
     no_answer_shows_a_filling();
+    cursors_keep_their_answers();
+    transactions_are_whole();
+    only_commits_change();
     a_file_opens_or_is_damaged();
     an_image_shows_a_past();
     book.known();

@@ -8,7 +8,7 @@ ghost use Rattle.archive_core.specs.Fields.{below, place_of};
 ghost use Rattle.script_cli_sample.specs.Statements.{sample_script};
 ghost use Rattle.script_cli_sample.specs.Summary as spec;
 ghost use Rattle.script_cli_statement.specs.Given.{Given};
-ghost use Rattle.script_cli_statement.specs.Replies.{Recorded};
+ghost use Rattle.script_cli_statement.specs.Replies.{Recorded, IsFresh};
 ghost use Rattle.script_cli_statement.specs.StopReasons.{SaidCounted};
 ghost use Rattle.script_cli.specs.Runs.{SinkCounted, DiskCounted, given_by, is_whole};
 ghost use Rattle.script_cli_statement.specs.Responses.{RepresentsAt, TakesRecords};
@@ -90,7 +90,7 @@ fn sample<K: Sink, D: Disk, R: Rule>(
     requires takes { TakesRecords archive.old }
     ensures ran_script { (limit : Given) → limit.book
         ≡ book_meaning R.Rule book.now → (start : Recorded)
-        → RepresentsAt archive.old limit start
+        → RepresentsAt archive.old limit start → IsFresh start
         → RanSample size limit (sample_script size) start commands result (K.written sink.old)
         (K.written sink.new) (below archive.old) (below archive.new) (place_of archive.old) }
     ensures sink { SinkCounted result (K.faults sink.old) (K.faults sink.new) }

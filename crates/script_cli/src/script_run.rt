@@ -6,6 +6,8 @@ ghost use Rattle.std.specs.Io.KnownBytes.{Appends};
 ghost use Rattle.prima_io.specs.Causes.{HasCause};
 ghost use Rattle.prima_io.specs.Moves.{AppendsPrefix};
 ghost use Rattle.prima_base.specs.declared.refusal.Refusal.TheVariants as refusal;
+ghost use Rattle.sessions.specs.SessionStates.{no_sessions};
+ghost use Rattle.sessions.specs.Meaning.{sessions_of};
 ghost use Rattle.script_parse.specs.Splitting.{fresh};
 ghost use Rattle.rewrite.specs.Books.{book_meaning};
 ghost use Rattle.archive_core.specs.Fields.{below};
@@ -16,7 +18,8 @@ ghost use Rattle.script_cli.specs.Output.{tail_text, tail_is_due};
 ghost use Rattle.script_cli_statement.specs.StopReasons.{StopCounted};
 ghost use Rattle.script_cli_statement.specs.Puts.{is_error};
 ghost use Rattle.script_cli.specs.Taking.{Fed, Answered, Stopped, parts_after, ending_after};
-ghost use Rattle.script_cli_statement.specs.Responses.{StopsIn, RepresentsAt, TakesRecords};
+ghost use Rattle.script_cli.specs.Taking.{RepresentsRun};
+ghost use Rattle.script_cli_statement.specs.Responses.{StopsIn, TakesRecords};
 
 use archive_core::Archive;
 use disk_model::Disk;
@@ -25,13 +28,16 @@ use prima_io::{Failed, Sink};
 use rewrite_rules_book::{Rule, RuleBook};
 use script_cli_statement::{ReplyKind, StopReason, refuse, respond};
 use script_parse::{Cut, Splitter, Tail};
+use sessions::Sessions;
 use std::alloc::Global;
 
-/// What cuts the script, whether an `error` line was put, and how many commands were.
+/// What cuts the script, the sessions that its statements have begun, whether an `error` line was
+/// put, and how many commands were.
 #[derive(Drop)]
 pub(crate) struct ScriptRun {
     alloc: Global,
     splitter: Splitter,
+    sessions: Sessions,
     refused: bool,
     puts: u64,
 }
@@ -40,12 +46,14 @@ impl ScriptRun {
     /// A run that has read nothing.
     pub(crate) fn new(alloc: Global) -> ScriptRun
         ensures splitter { result.splitter ≡ fresh }
+        ensures sessions { sessions_of result.sessions ≡ no_sessions }
         ensures refused { result.refused ≡ false }
         ensures puts { result.puts ≡ 0 }
     {
         ScriptRun {
             alloc,
             splitter: Splitter::new(alloc),
+            sessions: Sessions::new(alloc),
             refused: false,
             puts: 0,
         }
@@ -70,12 +78,12 @@ impl ScriptRun {
         requires takes { TakesRecords archive.old }
         ensures answered { (limit : Given) → limit.book
             ≡ book_meaning R.Rule book.now → (now : Recorded)
-            → RepresentsAt archive.old limit now
+            → RepresentsRun archive.old self.old limit now
             → OnOk result (Answered limit (reply limit now text.now) self.old self.new archive.old
             archive.new (K.written sink.old) (K.written sink.new)) }
         ensures stopped { (limit : Given) → limit.book
             ≡ book_meaning R.Rule book.now → (now : Recorded)
-            → RepresentsAt archive.old limit now
+            → RepresentsRun archive.old self.old limit now
             → IfErr result (λ reason. StopsIn reason (reply limit now text.now) archive.old
             archive.new
             (K.written sink.old) (K.written sink.new)) }
@@ -87,7 +95,7 @@ impl ScriptRun {
         let Some(more) = self.puts.checked_add(1) else {
             return Err(StopReason::NoMemory);
         };
-        match respond(self.alloc, archive, book, sink, text) {
+        match respond(self.alloc, archive, book, &mut self.sessions, sink, text) {
             Ok(put) => {
                 self.refused = self.refused || put.is_error();
                 if put.is_command() {
@@ -107,6 +115,7 @@ impl ScriptRun {
             (refusal_text refusal.TooLong)) }
         ensures refused { OnOk result (self.new.refused ≡ true) }
         ensures splitter { self.new.splitter ≡ self.old.splitter }
+        ensures sessions { self.new.sessions ≡ self.old.sessions }
         ensures puts { self.new.puts ≡ self.old.puts }
         ensures cause { HasCause (K.faults sink.old) (K.faults sink.new) result }
     {
@@ -132,7 +141,7 @@ impl ScriptRun {
         requires takes { TakesRecords archive.old }
         ensures fed { (limit : Given) → limit.book
             ≡ book_meaning R.Rule book.now → (now : Recorded)
-            → RepresentsAt archive.old limit now
+            → RepresentsRun archive.old self.old limit now
             → IfOk result (λ rest. MatchOption rest
             (Fed limit now self.old self.new archive.old archive.new bytes.now []
             (K.written sink.old) (K.written sink.new))
@@ -140,7 +149,7 @@ impl ScriptRun {
             (K.written sink.old) (K.written sink.new))) }
         ensures halted { (limit : Given) → limit.book
             ≡ book_meaning R.Rule book.now → (now : Recorded)
-            → RepresentsAt archive.old limit now
+            → RepresentsRun archive.old self.old limit now
             → IfErr result (λ reason. Stopped reason limit now (parts_after self.old bytes.now)
             archive.old archive.new (K.written sink.old) (K.written sink.new)) }
         ensures fewer { IfOk result (λ rest. MatchOption rest (Unit {0})
@@ -179,12 +188,12 @@ impl ScriptRun {
         requires takes { TakesRecords archive.old }
         ensures fed { (limit : Given) → limit.book
             ≡ book_meaning R.Rule book.now → (now : Recorded)
-            → RepresentsAt archive.old limit now
+            → RepresentsRun archive.old self.old limit now
             → OnOk result (Fed limit now self.old self.new archive.old archive.new chunk.now []
             (K.written sink.old) (K.written sink.new)) }
         ensures halted { (limit : Given) → limit.book
             ≡ book_meaning R.Rule book.now → (now : Recorded)
-            → RepresentsAt archive.old limit now
+            → RepresentsRun archive.old self.old limit now
             → IfErr result (λ reason. Stopped reason limit now (parts_after self.old chunk.now)
             archive.old archive.new (K.written sink.old) (K.written sink.new)) }
         ensures ready { OnOk result (self.new.splitter.spent ≡ false) }

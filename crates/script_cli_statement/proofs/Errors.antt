@@ -1,6 +1,6 @@
 -- A reply counts as an error exactly where its line is one.
 use Rattle.std.proofs.Common.{◌≡◌, ℕ, Bool, true, false, List, [], ◌∷◌, ◌++◌, length, refl, sym}
-use Rattle.std.specs.Prelude.{Some, None}
+use Rattle.std.specs.Prelude.{map, Some, None}
 use Rattle.std.specs.FinMap.{entries}
 use Rattle.relations_spec.specs.Timed.{Entry}
 use Rattle.prima_base.specs.Columns.{Column}
@@ -17,7 +17,8 @@ use Rattle.piece_ir.specs.ExplainedPieces.{PlainExplained}
 use Rattle.temporal_lang_spec.specs.Accepted.{version_fault, fault_of_query}
 use Rattle.temporal_lang_spec.specs.Answers.{answer}
 use Rattle.script_parse.specs.Statements.{PlainStatement, write, ask, explain, show_versions}
-use Rattle.script_parse.specs.Statements.{show_schema, show_sizes, checkpoint, pairs, aggregate}
+use Rattle.script_parse.specs.Statements.{show_schema, show_sizes, show_cursors, checkpoint, pairs}
+use Rattle.script_parse.specs.Statements.{aggregate, session}
 use Rattle.prima_base.specs.Groups.{Group}
 use Rattle.temporal_lang_spec.specs.PairFaults.{fault_of_pairs}
 use Rattle.temporal_lang_spec.specs.AggregateFaults.{fault_of_aggregate}
@@ -29,11 +30,18 @@ use Rattle.archive_core.specs.State.{tells_periods, pieces_told}
 use Rattle.answer_text.specs.Texts.{changed_text, evolved_text, checkpoint_text, listing_text}
 use Rattle.answer_text.specs.Texts.{piece_head, explain_text, tables_text, count_text, version_head}
 use Rattle.answer_text.specs.Texts.{versions_text, schema_text, size_text, sizes_text}
+use Rattle.answer_text.specs.SessionTexts.{begun_text, buffered_text, empty_text, aborted_text}
+use Rattle.answer_text.specs.SessionTexts.{opened_text, closed_text, cursor_text, cursors_text}
 use Rattle.answer_text.specs.RefusalTexts.{refusal_text}
+use Rattle.sessions.specs.Steps.{Answer, begun, buffered, committed, committed_nothing, aborted}
+use Rattle.sessions.specs.Steps.{opened, fetched, closed, fault_of, answer_of}
+use Rattle.sessions.specs.Lines.{line_of}
+use Rattle.script_cli_vault.specs.Shown.{need_of}
+use Rattle.script_cli_statement.specs.SessionLines.{said_text}
 use Rattle.script_cli_statement.specs.Given.{Given}
 use Rattle.script_cli_statement.specs.Replies.{Recorded, Reply, refused, answered, put_command}
 use Rattle.script_cli_statement.specs.Replies.{put_image, refused_or, body_text, statement_reply}
-use Rattle.script_cli_statement.specs.Replies.{reading_reply, reply}
+use Rattle.script_cli_statement.specs.Replies.{world_of, request_reply, reading_reply, reply}
 use Rattle.script_cli_sample.specs.Summary.{is_error_line}
 
 abbrev BothKnown : Reply → Type 0
@@ -103,6 +111,27 @@ unfolding sizes_text size_text
 sizes_told newest [] now = refl
 sizes_told newest (s ∷ sizes) now = refl
 
+cursors_told : (cursors : List (ℕ × List ℕ × ℕ × ℕ)) (now : Recorded)
+    → BothKnown (answered (cursors_text cursors) now)
+unfolding cursors_text cursor_text
+cursors_told [] now = refl
+cursors_told (c ∷ cursors) now = refl
+
+-- what a session is answered is no error
+said_is_none : (answer : Answer) → is_error_line (said_text answer) ≡ false
+unfolding begun_text buffered_text changed_text empty_text aborted_text opened_text listing_text
+    closed_text
+said_is_none (begun version) = refl
+said_is_none (buffered count) = refl
+said_is_none (committed stamp gained lost) = refl
+said_is_none committed_nothing = refl
+said_is_none aborted = refl
+said_is_none (opened count) = refl
+said_is_none (fetched told []) = refl
+said_is_none (fetched false (e ∷ entries)) = refl
+said_is_none (fetched true (e ∷ entries)) = refl
+said_is_none closed = refl
+
 refused_told : (fault : Fault) (now : Recorded) (r : Reply) → BothKnown r
     → BothKnown (refused_or fault now r)
 refused_told None now r h = h
@@ -127,12 +156,16 @@ statement_told limit (aggregate items group query) now = refused_told
     (fault_of_aggregate now.past items group query) now (answered (aggregates_text
     (tells_periods query.when) (aggregated group items (answer now.past query))) now)
     (groups_told (tells_periods query.when) (aggregated group items (answer now.past query)) now)
+statement_told limit (session s request) now = refused_told
+    (fault_of need_of (world_of limit now) s request) now (request_reply limit s request now)
+    (sym (said_is_none (answer_of need_of (world_of limit now) s request)))
 statement_told limit show_versions now = versions_told now.past.versions now
 statement_told limit (show_schema version) now =
     refused_told (version_fault now.past version) now
     (answered (schema_text (tables_of now.past version)) now)
     (schema_told (tables_of now.past version) now)
 statement_told limit show_sizes now = sizes_told (length now.past.versions) now.past.sizes now
+statement_told limit show_cursors now = cursors_told (map line_of now.sessions.cursors) now
 statement_told limit checkpoint now = refused_told (checkpoint_fault now.past now.at limit.limit)
     now (put_image now) (image_told now)
 

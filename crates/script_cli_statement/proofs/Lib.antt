@@ -1,6 +1,12 @@
 pub mod Errors
 pub mod OnePut
 pub mod ReplySteps
+pub mod SessionSteps
+pub mod SessionSaid
+pub mod SessionCommitted
+pub mod SessionFetched
+pub mod EntryLines
+pub mod CursorLines
 pub mod ReadConstants
 pub mod ReadParts
 pub mod ReadStatements

@@ -122,21 +122,30 @@ module _ (old new : Option (List ℕ)) where
       subst (λ (t : List ℕ). Says (answered t now) result old new) same h
   accepted_says (Some r) now text said result e same h = absurd (cc)
 
+  -- a statement that calls no disk, and leaves the archive as it was
+  pub says_stands : {D : Type 0} {g : Ghosts D} (limit : Given) (a : Archive D g) (reply : Reply)
+      (result : Result ReplyKind StopReason) → IsValid (below a)
+      → RepresentsAt a limit reply.after → reply.puts ≡ [] → Says reply result old new
+      → Responds limit reply result a a old new
+  says_stands limit a reply (Ok put) law represents none says = record {
+    is = says.0;
+    represents = represents;
+    puts = subst (PutBetween a a) (sym none) (nothing_between a law);
+    text = says.1;
+  }
+  says_stands limit a reply (Err WriteFault) law represents none says =
+      (says, subst (PutBetween a a) (sym none) (nothing_between a law))
+  says_stands limit a reply (Err DiskFault) law represents none says = absurd says
+  says_stands limit a reply (Err NoMemory) law represents none says =
+      (says, nothing_between a law)
+
   module _ {D : Type 0} {g : Ghosts D} (limit : Given) (now : Recorded) (a b : Archive D g) where
-    -- a statement that calls no disk
+    -- the same where all is as it was
     pub says_responds : (reply : Reply) (result : Result ReplyKind StopReason) → IsValid (below a)
         → RepresentsAt a limit now → reply.puts ≡ [] → reply.after ≡ now → Says reply result old new
         → Responds limit reply result a a old new
-    says_responds reply (Ok put) law represents none same says = record {
-      is = says.0;
-      represents = subst (RepresentsAt a limit) (sym same) represents;
-      puts = subst (PutBetween a a) (sym none) (nothing_between a law);
-      text = says.1;
-    }
-    says_responds reply (Err WriteFault) law represents none same says =
-        (says, subst (PutBetween a a) (sym none) (nothing_between a law))
-    says_responds reply (Err DiskFault) law represents none same says = absurd says
-    says_responds reply (Err NoMemory) law represents none same says = (says, nothing_between a law)
+    says_responds reply result law represents none same says = says_stands limit a reply result
+        law (subst (RepresentsAt a limit) (sym same) represents) none says
 
     -- the record of what is due was put, and then a line
     put_responds : (text said : List ℕ) (due : Due) (told : ReplyKind) (fault : Fault)
@@ -290,7 +299,7 @@ on_ok (Err e) P p = tt
 -- ---- a statement's bytes
 
 -- the reply is that to what they are read as
-reply_is : (limit : Given) (now : Recorded) (text : List ℕ) (r : Reading) → r ≡ reading text
+pub reply_is : (limit : Given) (now : Recorded) (text : List ℕ) (r : Reading) → r ≡ reading text
     → reading_reply limit r now ≡ reply limit now text
 unfolding reply
 reply_is limit now text r e = ap (λ x. reading_reply limit x now) e

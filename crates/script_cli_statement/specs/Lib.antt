@@ -1,10 +1,13 @@
 pub mod Given
 pub mod Due
+pub mod SessionLines
 pub mod Replies
 pub mod Puts
 pub mod StopReasons
 pub mod Putting
 pub mod Responses
+pub mod SessionResponses
+pub mod Stepping
 pub mod Written
 pub mod Explaining
 pub mod Paired

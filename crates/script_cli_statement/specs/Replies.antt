@@ -1,7 +1,8 @@
 -- The reply to a statement, what it puts, and what stands after it.
-use Rattle.std.specs.Prelude.{ℕ, ◌+◌, List, [], ◌∷◌, Bool, true, false, length, Some}
+use Rattle.std.specs.Prelude.{◌≡◌, ℕ, ◌+◌, List, [], ◌∷◌, Bool, true, false, length, map, Some}
 use Rattle.std.specs.Prelude.{None}
 use Rattle.prima_base.specs.declared.refusal.Refusal.{Refusal}
+use Rattle.smo_ops_types.specs.Changes.{PlainChange}
 use Rattle.smo_ops_types.specs.Commands.{PlainBody, changing, evolving, PlainCommand}
 use Rattle.smo_ops_spec.specs.Checks.{Fault}
 use Rattle.smo_ops_spec.specs.Effects.{gained, lost}
@@ -17,8 +18,16 @@ use Rattle.temporal_lang_spec.specs.Accepted.{version_fault, fault_of_query}
 use Rattle.temporal_lang_spec.specs.PairFaults.{fault_of_pairs}
 use Rattle.temporal_lang_spec.specs.AggregateFaults.{fault_of_aggregate}
 use Rattle.temporal_lang_spec.specs.Answers.{answer}
+use Rattle.sessions.specs.Shared.{Shared}
+use Rattle.sessions.specs.SessionStates.{PlainSessions, no_sessions}
+use Rattle.sessions.specs.Requests.{Request, beginning, buffering, committing, aborting, opening}
+use Rattle.sessions.specs.Requests.{fetching, closing}
+use Rattle.sessions.specs.Steps.{World, a_world, fault_of, answer_of, world_then, command_at}
+use Rattle.sessions.specs.Steps.{changes_so_far}
+use Rattle.sessions.specs.Lines.{line_of}
 use Rattle.script_parse.specs.Statements.{PlainStatement, write, ask, explain, show_versions}
-use Rattle.script_parse.specs.Statements.{show_schema, show_sizes, checkpoint, pairs, aggregate}
+use Rattle.script_parse.specs.Statements.{show_schema, show_sizes, show_cursors, checkpoint, pairs}
+use Rattle.script_parse.specs.Statements.{aggregate, session}
 use Rattle.period_join.specs.RelatedEntries.{related_entries}
 use Rattle.time_aggregate.specs.Aggregated.{aggregated}
 use Rattle.script_parse.specs.Reading.{Reading, Blank, Refused, Whole, reading}
@@ -28,24 +37,42 @@ use Rattle.answer_text.specs.RefusalTexts.{refusal_text}
 use Rattle.answer_text.specs.Texts.{made_text, changed_text, evolved_text, checkpoint_text}
 use Rattle.answer_text.specs.Texts.{listing_text, explain_text, versions_text, schema_text}
 use Rattle.answer_text.specs.Texts.{sizes_text, pairs_text, aggregates_text}
+use Rattle.answer_text.specs.SessionTexts.{cursors_text}
+use Rattle.script_cli_vault.specs.Shown.{need_of}
 use Rattle.script_cli_statement.specs.Due.{Due, command_due, image_due, due_length, past_after_due}
 use Rattle.script_cli_statement.specs.Given.{Given}
+use Rattle.script_cli_statement.specs.SessionLines.{said_text}
 
--- what stands after statements: the past, and the place of the gate after the journal's records
+-- what stands after statements: the past, the place of the gate after the journal's records, and
+-- what the sessions have
 pub record Recorded : Type 0 where
   pub past : Past
   pub at : ℕ
+  pub sessions : PlainSessions
 
--- after these records
+-- after these records, where no transaction is begun and no cursor is open
 abbrev pub recorded : List LogRecord → Recorded
-recorded log = record { past = past_recorded log; at = gate_after log }
+recorded log = record {
+  past = past_recorded log;
+  at = gate_after log;
+  sessions = no_sessions;
+}
+
+-- the past and the gate are those after these records, whatever the sessions have
+pub record StandsAfter (log : List LogRecord) (now : Recorded) : Type 0 where
+  pub past : now.past ≡ past_recorded log
+  pub at : now.at ≡ gate_after log
+
+-- no session has begun anything yet
+abbrev pub IsFresh : Recorded → Type 0
+IsFresh now = now.sessions ≡ no_sessions
 
 -- with what is due, whose record stands after the gate
 abbrev pub recorded_with : Recorded → Due → Recorded
 recorded_with now due = record {
   past = past_after_due now.past due;
-  at =
-      now.at + 10 + due_length due;
+  at = now.at + 10 + due_length due;
+  sessions = now.sessions;
 }
 
 -- a reply: its bytes; what is put, if anything is; what stands after the statement; and whether it
@@ -130,6 +157,53 @@ aggregate_reply items group query now = refused_or (fault_of_aggregate now.past 
     now (answered (aggregates_text (tells_periods query.when) (aggregated group items
     (answer now.past query))) now)
 
+-- ---- sessions
+
+-- what sessions share, and what they have
+abbrev pub shared_by : Given → Recorded → Shared
+shared_by given now = record { past = now.past; place = now.at; limit = given.limit }
+
+abbrev pub world_of : Given → Recorded → World
+world_of given now = a_world (shared_by given now) now.sessions
+
+-- what stands in a world
+abbrev pub recorded_in : World → Recorded
+recorded_in w = record { past = w.shared.past; at = w.shared.place; sessions = w.sessions }
+
+-- all changes as one command; none where nothing is changed
+abbrev pub changes_due : ℕ → List PlainChange → List Due
+changes_due stamp [] = []
+changes_due stamp (c ∷ changes) = command_due (command_at stamp (c ∷ changes)) ∷ []
+
+-- a COMMIT puts all changes that its session has buffered
+abbrev pub request_due : PlainSessions → ℕ → Request → List Due
+request_due it s beginning = []
+request_due it s (buffering changes) = []
+request_due it s (committing stamp) = changes_due stamp (changes_so_far (it.transaction s))
+request_due it s aborting = []
+request_due it s (opening name query) = []
+request_due it s (fetching name count) = []
+request_due it s (closing name) = []
+
+-- a request that is not refused is answered by its step
+abbrev pub request_reply : Given → ℕ → Request → Recorded → Reply
+request_reply given s request now = record {
+  text = said_text (answer_of need_of (world_of given now) s request);
+  puts = request_due now.sessions s request;
+  after = recorded_in (world_then need_of (world_of given now) s request);
+  is_error = false;
+}
+
+abbrev pub session_reply : Given → ℕ → Request → Recorded → Reply
+session_reply given s request now = refused_or (fault_of need_of (world_of given now) s request)
+    now (request_reply given s request now)
+
+-- the open cursors, in the order of their opening
+abbrev pub cursors_reply : Recorded → Reply
+cursors_reply now = answered (cursors_text (map line_of now.sessions.cursors)) now
+
+-- ---- what is shown
+
 abbrev pub versions_reply : Recorded → Reply
 versions_reply now = answered (versions_text now.past.versions) now
 
@@ -147,9 +221,11 @@ statement_reply limit (ask query) now = query_reply query now
 statement_reply limit (explain query) now = explain_reply limit.book query now
 statement_reply limit (pairs left relation right) now = pairs_reply left relation right now
 statement_reply limit (aggregate items group query) now = aggregate_reply items group query now
+statement_reply limit (session s request) now = session_reply limit s request now
 statement_reply limit show_versions now = versions_reply now
 statement_reply limit (show_schema version) now = schema_reply version now
 statement_reply limit show_sizes now = sizes_reply now
+statement_reply limit show_cursors now = cursors_reply now
 statement_reply limit checkpoint now = checkpoint_reply limit now
 
 abbrev pub reading_reply : Given → Reading → Recorded → Reply

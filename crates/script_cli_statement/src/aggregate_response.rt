@@ -27,7 +27,7 @@ ghost use Rattle.script_cli_statement.specs.Responses.{Says};
 ghost use Rattle.script_cli_statement.specs.Grouped.{IsListedWhole, IsWrongAggregate, IsUnnamed};
 
 use crate::reply_kind::ReplyKind;
-use crate::response::{ask_counted, refuse};
+use crate::response::refuse;
 use crate::stop_reason::{StopReason, or_write_fault};
 use answer_text::{put_aggregate, put_count};
 use archive_core::{Archive, AskFault, Listing};
@@ -36,6 +36,7 @@ use prima_base::{AggRow, NoMemory, Refusal};
 use prima_io::{Failed, Sink};
 use rewrite_rules_book::{Rule, RuleBook};
 use schema_catalog::Schema;
+use script_cli_vault::ask_counted;
 use std::alloc::Global;
 use std::marker::Brand;
 use std::sync::ledger::Blank;

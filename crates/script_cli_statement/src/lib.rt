@@ -10,6 +10,7 @@ mod checkpoint;
 mod pair_response;
 mod reply_kind;
 mod response;
+mod session_response;
 mod stop_reason;
 
 pub use reply_kind::ReplyKind;

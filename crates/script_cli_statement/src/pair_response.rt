@@ -24,7 +24,7 @@ ghost use Rattle.script_cli_statement.specs.Responses.{Says};
 ghost use Rattle.script_cli_statement.specs.Paired.{AreListed, IsWrongPair};
 
 use crate::reply_kind::ReplyKind;
-use crate::response::{ask_counted, refuse};
+use crate::response::refuse;
 use crate::stop_reason::{StopReason, or_write_fault};
 use answer_text::{put_pair, put_pair_count};
 use archive_core::{Archive, AskFault, Listing};
@@ -33,6 +33,7 @@ use period_join::{Pairs, pairs_are_all};
 use prima_base_rows::TimedRows;
 use prima_io::{Failed, Sink};
 use rewrite_rules_book::{Rule, RuleBook};
+use script_cli_vault::ask_counted;
 use std::marker::Brand;
 use std::sync::ledger::Blank;
 use temporal_lang::{Query, Relation, count_nodes, refusal_behind};

@@ -1,10 +1,10 @@
 //! The response to one statement: what the archive accepts of it, and the reply that is put.
 //!
-//! The `ok` line of a command or a checkpoint is put when its record is on the disk; a refused
-//! statement leaves the archive as it was. The disk is called for these two alone, before anything
-//! of the reply is put.
+//! The `ok` line of a command, of a COMMIT or of a checkpoint is put when its record is on the
+//! disk; a refused statement leaves the archive and the sessions as they were. The disk is called
+//! for these alone, before anything of the reply is put.
 
-ghost use Rattle.std.specs.Prelude.{◌≡◌, ◌<◌, ◌≤◌, ◌^◌, ℕ, length, map, true, false, OnOk, OnErr};
+ghost use Rattle.std.specs.Prelude.{◌≡◌, ◌≤◌, ◌^◌, ℕ, length, map, true, false, OnOk, OnErr};
 ghost use Rattle.std.specs.Prelude.{IfOk};
 ghost use Rattle.std.specs.Io.KnownBytes.{Appends};
 ghost use Rattle.prima_base.specs.Timed.{entries_of};
@@ -13,12 +13,12 @@ ghost use Rattle.prima_io.specs.Moves.{AppendsPrefix};
 ghost use Rattle.smo_ops_types.specs.Commands.{command_of};
 ghost use Rattle.smo_ops_spec.specs.Past.{Past};
 ghost use Rattle.temporal_lang_types.specs.Queries.{query_of};
+ghost use Rattle.sessions.specs.Meaning.{sessions_of};
 ghost use Rattle.script_parse.specs.Statements.{statement_of};
 ghost use Rattle.rewrite.specs.Books.{book_meaning};
 ghost use Rattle.piece_ir.specs.ExplainedPieces.{all_explained};
 ghost use Rattle.version_groups.specs.Representation.{Represents};
-ghost use Rattle.archive_core.specs.State.{IsAsked, IsKeptOfList};
-ghost use Rattle.archive_core.specs.State.{RepresentsPast, RepresentsSome};
+ghost use Rattle.archive_core.specs.State.{RepresentsPast};
 ghost use Rattle.archive_core.specs.Fields.{standing_of, below, limit_of};
 ghost use Rattle.answer_text.specs.RefusalTexts.{refusal_text};
 ghost use Rattle.answer_text.specs.Texts.{listing_text, explain_text, sizes_text};
@@ -27,6 +27,7 @@ ghost use Rattle.script_cli_statement.specs.Replies.{Recorded, reply, answered, 
 ghost use Rattle.script_cli_statement.specs.Replies.{command_reply, query_reply, explain_reply};
 ghost use Rattle.script_cli_statement.specs.Replies.{versions_reply, schema_reply, sizes_reply};
 ghost use Rattle.script_cli_statement.specs.Replies.{statement_reply};
+ghost use Rattle.script_cli_statement.specs.SessionResponses.{IsTimelyStatement};
 ghost use Rattle.script_cli_statement.specs.StopReasons.{StopCounted, SaidCounted};
 ghost use Rattle.script_cli_statement.specs.declared.reply_kind.ReplyKind.TheVariants as ReplyKind;
 ghost use Rattle.script_cli_statement.specs.Responses.{Says, Responds, RepresentsAt, TakesRecords};
@@ -35,6 +36,7 @@ use crate::aggregate_response::respond_aggregate;
 use crate::checkpoint::respond_checkpoint;
 use crate::pair_response::respond_pairs;
 use crate::reply_kind::ReplyKind;
+use crate::session_response::{respond_cursors, respond_session};
 use crate::stop_reason::{StopReason, or_write_fault};
 use answer_text::{
     Listing, PutStop, put_changed, put_count, put_evolved, put_explained, put_listing, put_refusal,
@@ -43,16 +45,17 @@ use answer_text::{
 use archive_core::{Archive, AskFault, CommitFault, Done};
 use disk_model::Disk;
 use piece_ir::Explained;
+use prima_base::Refusal;
 use prima_base::limits::MAX_VERSIONS;
-use prima_base::{Refusal, Steps};
-use prima_base_counter::fresh_steps;
 use prima_io::{Failed, Sink};
 use rewrite_rules_book::{Rule, RuleBook};
+use script_cli_vault::ask_counted;
 use script_parse::{ReadFault, Statement, next_statement};
+use sessions::Sessions;
 use smo_ops::Command;
 use std::alloc::Global;
 use std::marker::Brand;
-use std::sync::ledger::{Blank, Ledger};
+use std::sync::ledger::Blank;
 use temporal_lang::Query;
 use version_groups::{Groups, lifelines_are_few};
 
@@ -146,26 +149,6 @@ fn put_pieces<K: Sink>(
         Err(PutStop::WriteFault) => Err(StopReason::WriteFault),
         Err(PutStop::NoMemory) => Err(StopReason::NoMemory),
     }
-}
-
-/// What the archive answers to a query, with a counter of the ledger.
-pub(crate) fn ask_counted<'a, D: Disk, L: Ledger, R: Rule>(
-    archive: &'a Archive<D>,
-    book: &RuleBook<R>,
-    query: &Query,
-    blank: Blank,
-) -> Result<Listing<'a>, AskFault>
-    requires name { blank.name ≡ L.name }
-    requires parts { blank.parts ≡ L.parts }
-    requires some { 0 < blank.parts }
-    ensures asked { (past : Past) → RepresentsPast (standing_of archive.now) past
-        → IsAsked past (query_of query.now) result }
-    ensures listed { (past : Past) → RepresentsPast (standing_of archive.now) past
-        → IfOk result (λ listing. IsKeptOfList past (query_of query.now) listing) }
-    ensures represents { RepresentsSome (standing_of archive.now) }
-{
-    let mut steps: Steps<L> = fresh_steps(blank);
-    archive.query(book, query, &mut steps)
 }
 
 // Responds to a query.
@@ -300,15 +283,21 @@ fn respond_statement<K: Sink, D: Disk, R: Rule>(
     alloc: Global,
     archive: &mut Archive<D>,
     book: &RuleBook<R>,
+    sessions: &mut Sessions,
     sink: &mut K,
     statement: Statement,
 ) -> Result<ReplyKind, StopReason>
     requires takes { TakesRecords archive.old }
+    requires timely { IsTimelyStatement (statement_of statement) }
     ensures replies { (limit : Given) → limit.book
         ≡ book_meaning R.Rule book.now → (now : Recorded)
-        → RepresentsAt archive.old limit now
+        → RepresentsAt archive.old limit now → sessions_of sessions.old ≡ now.sessions
         → Responds limit (statement_reply limit (statement_of statement) now) result archive.old
         archive.new (K.written sink.old) (K.written sink.new) }
+    ensures sessions { (limit : Given) → (now : Recorded)
+        → RepresentsAt archive.old limit now → sessions_of sessions.old ≡ now.sessions
+        → OnOk result (sessions_of sessions.new
+        ≡ (statement_reply limit (statement_of statement) now).after.sessions) }
     ensures takes { OnOk result (TakesRecords archive.new) }
     ensures counts { StopCounted result (K.faults sink.old) (K.faults sink.new)
         (below archive.old).faults (below archive.new).faults }
@@ -323,19 +312,25 @@ fn respond_statement<K: Sink, D: Disk, R: Rule>(
         Statement::Aggregate(items, group, query) => {
             respond_aggregate(alloc, archive, book, sink, &items, group, &query)
         }
+        Statement::Session(session, request) => {
+            respond_session(alloc, archive, book, sessions, sink, session, request)
+        }
         Statement::ShowVersions => respond_versions(alloc, archive, sink),
         Statement::ShowSchema(version) => respond_schema(alloc, archive, sink, version),
         Statement::ShowSizes => respond_sizes(archive, sink),
+        Statement::ShowCursors => respond_cursors(sessions, sink),
         Statement::Checkpoint => respond_checkpoint(archive, sink),
     }
 }
 
-/// The response to the statement of these bytes; it answers what was put.
+/// The response to the statement of these bytes, over an archive and the sessions that share it; it
+/// answers what was put.
 #[tactic(auto, unfolding(crate::specs::Replies::reply))]
 pub fn respond<K: Sink, D: Disk, R: Rule>(
     alloc: Global,
     archive: &mut Archive<D>,
     book: &RuleBook<R>,
+    sessions: &mut Sessions,
     sink: &mut K,
     text: &[u8],
 ) -> Result<ReplyKind, StopReason>
@@ -343,16 +338,20 @@ pub fn respond<K: Sink, D: Disk, R: Rule>(
     requires takes { TakesRecords archive.old }
     ensures replies { (limit : Given) → limit.book
         ≡ book_meaning R.Rule book.now → (now : Recorded)
-        → RepresentsAt archive.old limit now
+        → RepresentsAt archive.old limit now → sessions_of sessions.old ≡ now.sessions
         → Responds limit (reply limit now text.now) result archive.old archive.new
         (K.written sink.old) (K.written sink.new) }
+    // after Ok the sessions have what the reply leaves them
+    ensures sessions { (limit : Given) → (now : Recorded)
+        → RepresentsAt archive.old limit now → sessions_of sessions.old ≡ now.sessions
+        → OnOk result (sessions_of sessions.new ≡ (reply limit now text.now).after.sessions) }
     ensures takes { OnOk result (TakesRecords archive.new) }
     ensures counts { StopCounted result (K.faults sink.old) (K.faults sink.new)
         (below archive.old).faults (below archive.new).faults }
 {
     match next_statement(alloc, text) {
         Ok(None) => Ok(ReplyKind::NoError),
-        Ok(Some(statement)) => respond_statement(alloc, archive, book, sink, statement),
+        Ok(Some(statement)) => respond_statement(alloc, archive, book, sessions, sink, statement),
         Err(ReadFault::Syntax(at)) => or_write_fault(refuse(sink, &Refusal::Syntax(at))),
         Err(ReadFault::TooMany(what, limit)) => or_write_fault(refuse(
             sink,

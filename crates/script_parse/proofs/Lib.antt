@@ -7,6 +7,7 @@ pub mod TextLexing
 pub mod BlankTexts
 pub mod ChangeCorrectness
 pub mod AnswerStatements
+pub mod SessionStatements
 pub mod StatementCorrectness
 pub mod StatementAlong
 pub mod FirstFaults

@@ -21,7 +21,7 @@ use Rattle.lexer_combinators.specs.ListOverflows.{Overflow, none_overflow, fresh
 use Rattle.lexer_combinators.specs.ListOverflows.{lead_overflow, map_overflow, bind_overflow}
 use Rattle.lexer_combinators.specs.ListOverflows.{list_overflow, counted_overflow}
 use Rattle.lexer_spec.proofs.Cases.{by_test}
-use Rattle.lexer_combinators.proofs.Parsing.{side}
+use Rattle.lexer_combinators.proofs.Parsing.{side, correct_follow}
 use Rattle.lexer_spec.proofs.LexemeTests.{word_is, word_exact, sign_is, sign_exact}
 use Rattle.lexer_trees_spec.proofs.Singles.{name_correct, moment_correct}
 use Rattle.lexer_trees_spec.proofs.Correctness.{outermost_correct}
@@ -46,11 +46,13 @@ use Rattle.smo_parse.proofs.OperatorCounted.{operator_counted, operator_length}
 use Rattle.temporal_lang_grammar_spec.specs.QueryGrammar.{IsAsk}
 use Rattle.temporal_lang_grammar_spec.specs.QueryReader as query
 use Rattle.temporal_lang_grammar_spec.specs.QueryOverflows.{ask_overflows}
+use Rattle.temporal_lang_grammar_spec.proofs.QueryCorrectness.{ask_correct}
 use Rattle.temporal_lang_grammar_spec.proofs.QueryAlong.{ask_along}
 use Rattle.script_parse.specs.Statements.{PlainStatement, write, ask, explain}
 use Rattle.script_parse.specs.Productions.{AreSoMany, IsRow, IsInsert, IsSetting, IsChange, IsOp}
 use Rattle.script_parse.specs.Productions.{AreOps, IsInverse, AreChanges, IsBody, IsShowVersions}
-use Rattle.script_parse.specs.Productions.{IsShowSchema, IsShowSizes, IsCheckpoint, IsStatement}
+use Rattle.script_parse.specs.Productions.{IsShowSchema, IsShowSizes, IsShowCursors, IsCheckpoint}
+use Rattle.script_parse.specs.Productions.{IsListOfChanges, IsStatement}
 use Rattle.script_parse.specs.StatementReader.{setting, settings, delete_rest, update_rest, change}
 use Rattle.script_parse.specs.StatementReader.{changes, op, ops, inverse, evolve_rest, body}
 use Rattle.script_parse.specs.StatementReader.{write_rest, ask_rest, explain_rest, statement}
@@ -58,15 +60,19 @@ use Rattle.script_parse.specs.StatementReader.{follow_settings, follow_change, f
 use Rattle.script_parse.specs.StatementReader.{follow_ops, follow_evolve, follow_body}
 use Rattle.script_parse.specs.StatementReader.{follow_statement}
 use Rattle.script_parse.specs.StatementOverflows.{setting_overflows, change_overflows}
-use Rattle.script_parse.specs.StatementOverflows.{changes_overflows, op_overflows, ops_overflows}
+use Rattle.script_parse.specs.StatementOverflows.{list_of_changes_overflows, changes_overflows}
+use Rattle.script_parse.specs.StatementOverflows.{op_overflows, ops_overflows}
 use Rattle.script_parse.specs.StatementOverflows.{inverse_overflows, body_overflows}
 use Rattle.script_parse.specs.StatementOverflows.{statement_overflows}
-use Rattle.script_parse.specs.StatementReader.{pairs_rest, aggregate_rest}
+use Rattle.script_parse.specs.StatementReader.{pairs_rest, aggregate_rest, session_rest}
 use Rattle.script_parse.proofs.AnswerStatements.{PairsRest, AggregateRest, pairs_along}
 use Rattle.script_parse.proofs.AnswerStatements.{aggregate_along, pairs_rest_overflows}
 use Rattle.script_parse.proofs.AnswerStatements.{aggregate_rest_overflows}
+use Rattle.script_parse.proofs.SessionStatements.{SessionRest, session_along}
+use Rattle.script_parse.proofs.SessionStatements.{session_rest_overflows}
 use Rattle.script_parse.proofs.BodySteps.{body_evolves, body_changes}
 use Rattle.script_parse.proofs.ChangeCorrectness.{ends, setting_correct, change_correct}
+use Rattle.script_parse.proofs.ChangeCorrectness.{changes_correct}
 use Rattle.script_parse.proofs.ChangeCorrectness.{change_not_none, change_not_first, where_change}
 use Rattle.script_parse.proofs.ChangeCorrectness.{where_side}
 use Rattle.script_parse.proofs.StatementCorrectness.{op_correct, fewer_ops, fewer_evolve}
@@ -304,6 +310,20 @@ explain_along = lead_follow (is_word (codes "QUERY")) (word (codes "QUERY"))
     (stops_along query.ask IsAsk query.follow_ask follow_statement ask_overflows fewer_ask
     ask_along))
 
+-- what a session asks for
+changes_to_end : (x : Lexeme) → follow_statement x ≡ false → follow_changes x ≡ false
+changes_to_end x h = fewer_changes x (fewer_body x h)
+
+session_then_along : GoesAlong session_rest SessionRest follow_statement session_rest_overflows
+session_then_along = session_along follow_statement
+    (correct_follow 0 32 changes IsListOfChanges follow_changes follow_statement changes_to_end
+    changes_correct)
+    (correct_follow 0 32 query.ask IsAsk query.follow_ask follow_statement fewer_ask ask_correct)
+    (stops_along changes IsListOfChanges follow_changes follow_statement
+    list_of_changes_overflows changes_to_end changes_along)
+    (stops_along query.ask IsAsk query.follow_ask follow_statement ask_overflows fewer_ask
+    ask_along)
+
 versions_light : Light IsShowVersions
 versions_light = lead_light _ _ (lead_light _ _ (pure_light _))
 
@@ -312,6 +332,9 @@ schema_light = lead_light _ _ (lead_light _ _ (map_light _ small_grammar (single
 
 sizes_light : Light IsShowSizes
 sizes_light = lead_light _ _ (lead_light _ _ (pure_light _))
+
+cursors_light : Light IsShowCursors
+cursors_light = lead_light _ _ (lead_light _ _ (pure_light _))
 
 checkpoint_light : Light IsCheckpoint
 checkpoint_light = lead_light _ _ (pure_light _)
@@ -333,18 +356,24 @@ statement_along a s f (inr (inr (inr (inl (inl h))))) us stops =
 statement_along a s f (inr (inr (inr (inl (inr (inl h)))))) us stops =
     light_along statement IsStatement follow_statement statement_correct a s f
     (inr (inr (inr (inl (inr (inl h)))))) (schema_light a s f h) us stops
-statement_along a s f (inr (inr (inr (inl (inr (inr h)))))) us stops =
+statement_along a s f (inr (inr (inr (inl (inr (inr (inl h))))))) us stops =
     light_along statement IsStatement follow_statement statement_correct a s f
-    (inr (inr (inr (inl (inr (inr h)))))) (sizes_light a s f h) us stops
+    (inr (inr (inr (inl (inr (inr (inl h))))))) (sizes_light a s f h) us stops
+statement_along a s f (inr (inr (inr (inl (inr (inr (inr h))))))) us stops =
+    light_along statement IsStatement follow_statement statement_correct a s f
+    (inr (inr (inr (inl (inr (inr (inr h))))))) (cursors_light a s f h) us stops
 statement_along a s f (inr (inr (inr (inr (inl h))))) us stops =
     after_follow statement pairs_rest (word (codes "PAIRS")) (λ ts. refl) PairsRest
     follow_statement pairs_rest_overflows (pairs_along follow_statement) a s f h us stops
 statement_along a s f (inr (inr (inr (inr (inr (inl h)))))) us stops =
     after_follow statement aggregate_rest (word (codes "AGGREGATE")) (λ ts. refl) AggregateRest
     follow_statement aggregate_rest_overflows (aggregate_along follow_statement) a s f h us stops
-statement_along a s f (inr (inr (inr (inr (inr (inr h)))))) us stops =
+statement_along a s f (inr (inr (inr (inr (inr (inr (inl h))))))) us stops =
+    after_follow statement session_rest (word (codes "SESSION")) (λ ts. refl) SessionRest
+    follow_statement session_rest_overflows session_then_along a s f h us stops
+statement_along a s f (inr (inr (inr (inr (inr (inr (inr h))))))) us stops =
     light_along statement IsStatement follow_statement statement_correct a s f
-    (inr (inr (inr (inr (inr (inr h)))))) (checkpoint_light a s f h) us stops
+    (inr (inr (inr (inr (inr (inr (inr h))))))) (checkpoint_light a s f h) us stops
 
 -- a whole text
 pub statement_reads : (a : PlainStatement) (s : Size) (f : List Lexeme) (h : IsStatement a s f)

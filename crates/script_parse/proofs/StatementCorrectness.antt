@@ -31,13 +31,14 @@ use Rattle.temporal_lang_grammar_spec.specs.QueryGrammar.{IsAsk}
 use Rattle.temporal_lang_grammar_spec.specs.QueryReader as query
 use Rattle.temporal_lang_grammar_spec.proofs.QueryCorrectness.{ask_correct}
 use Rattle.script_parse.specs.Statements.{PlainStatement, write, ask, explain, show_versions}
-use Rattle.script_parse.specs.Statements.{show_schema, show_sizes, checkpoint}
+use Rattle.script_parse.specs.Statements.{show_schema, show_sizes, show_cursors, checkpoint}
 use Rattle.script_parse.specs.Productions.{IsChange, IsOp, AreOps, IsInverse, IsEvolve, AreChanges}
 use Rattle.script_parse.specs.Productions.{IsBody, IsWrite, IsQuery, IsExplain, IsCheckpoint}
-use Rattle.script_parse.specs.Productions.{IsStatement}
-use Rattle.script_parse.specs.StatementReader.{pairs_rest, aggregate_rest}
+use Rattle.script_parse.specs.Productions.{IsListOfChanges, IsStatement}
+use Rattle.script_parse.specs.StatementReader.{pairs_rest, aggregate_rest, session_rest}
 use Rattle.script_parse.proofs.AnswerStatements.{PairsRest, AggregateRest, pairs_correct}
 use Rattle.script_parse.proofs.AnswerStatements.{aggregate_correct}
+use Rattle.script_parse.proofs.SessionStatements.{SessionRest, session_correct}
 use Rattle.script_parse.specs.StatementReader.{changes, op, ops, inverse, evolve_rest, body_arm}
 use Rattle.script_parse.specs.StatementReader.{body, write_rest, ask_rest, explain_rest}
 use Rattle.script_parse.specs.StatementReader.{schema_rest, show_arm, show_rest, statement_arm}
@@ -167,9 +168,15 @@ SchemaRest = grammar.map (λ version. show_schema version) small_grammar
 abbrev SizesRest : Grammar PlainStatement
 SizesRest = grammar.pure show_sizes
 
+abbrev CursorsRest : Grammar PlainStatement
+CursorsRest = grammar.pure show_cursors
+
+abbrev FromSizes : Grammar PlainStatement
+FromSizes = grammar.alt (grammar.lead (word (codes "SIZES")) SizesRest)
+    (grammar.lead (word (codes "CURSORS")) CursorsRest)
+
 abbrev FromSchema : Grammar PlainStatement
-FromSchema = grammar.alt (grammar.lead (word (codes "SCHEMA")) SchemaRest)
-    (grammar.lead (word (codes "SIZES")) SizesRest)
+FromSchema = grammar.alt (grammar.lead (word (codes "SCHEMA")) SchemaRest) FromSizes
 
 abbrev ShowRest : Grammar PlainStatement
 ShowRest = grammar.alt (grammar.lead (word (codes "VERSIONS")) VersionsRest) FromSchema
@@ -199,36 +206,57 @@ unfolding schema_rest
 schema_correct follow = map_correct 0 32 (λ version. show_schema version) small small_grammar follow
     (small_correct 0 32 follow)
 
+-- the arms after that of VERSIONS
+abbrev cursors_arms : Lexeme → Arm PlainStatement
+cursors_arms y = cond (is_word (codes "CURSORS") y) (Takes (pure show_cursors)) No
+
+abbrev sizes_arms : Lexeme → Arm PlainStatement
+sizes_arms y = cond (is_word (codes "SIZES") y) (Takes (pure show_sizes)) (cursors_arms y)
+
+abbrev schema_arms : Lexeme → Arm PlainStatement
+schema_arms y = cond (is_word (codes "SCHEMA") y) (Takes schema_rest) (sizes_arms y)
+
+sizes_first : (v : List ℕ) → is_word (codes "SIZES") (word v) ≡ false
+    → is_word (codes "CURSORS") (word v) ≡ false → NotFirst FromSizes (word v)
+sizes_first v no_sizes no_cursors = either_not_first (word v)
+    (grammar.lead (word (codes "SIZES")) SizesRest)
+    (grammar.lead (word (codes "CURSORS")) CursorsRest)
+    (lead_not_first (is_word (codes "SIZES")) (word v) (word (codes "SIZES")) SizesRest no_sizes
+    (word_is (codes "SIZES")))
+    (lead_not_first (is_word (codes "CURSORS")) (word v) (word (codes "CURSORS")) CursorsRest
+    no_cursors (word_is (codes "CURSORS")))
+
 show_correct : (follow : Lexeme → Bool) → IsCorrectParser 0 32 show_rest ShowRest follow
 unfolding show_rest
 show_correct follow = choose_correct 0 32 show_arm ShowRest follow
     (live (pure_correct 0 32 show_versions follow).live)
     (either_not_none (grammar.lead (word (codes "VERSIONS")) VersionsRest) FromSchema
     (lead_not_none (word (codes "VERSIONS")) VersionsRest)
-    (either_not_none (grammar.lead (word (codes "SCHEMA")) SchemaRest)
-    (grammar.lead (word (codes "SIZES")) SizesRest)
+    (either_not_none (grammar.lead (word (codes "SCHEMA")) SchemaRest) FromSizes
     (lead_not_none (word (codes "SCHEMA")) SchemaRest)
-    (lead_not_none (word (codes "SIZES")) SizesRest)))
+    (either_not_none (grammar.lead (word (codes "SIZES")) SizesRest)
+    (grammar.lead (word (codes "CURSORS")) CursorsRest)
+    (lead_not_none (word (codes "SIZES")) SizesRest)
+    (lead_not_none (word (codes "CURSORS")) CursorsRest))))
     (λ x. first_arm (is_word (codes "VERSIONS")) (word (codes "VERSIONS"))
     (word_is (codes "VERSIONS")) (word_exact (codes "VERSIONS")) 32 (pure show_versions)
-    VersionsRest follow (pure_correct 0 32 show_versions follow)
-    (λ y. cond (is_word (codes "SCHEMA") y) (Takes schema_rest)
-    (cond (is_word (codes "SIZES") y) (Takes (pure show_sizes)) No)) FromSchema
+    VersionsRest follow (pure_correct 0 32 show_versions follow) schema_arms FromSchema
     (either_not_first (word (codes "VERSIONS")) (grammar.lead (word (codes "SCHEMA")) SchemaRest)
-    (grammar.lead (word (codes "SIZES")) SizesRest)
+    FromSizes
     (lead_not_first (is_word (codes "SCHEMA")) (word (codes "VERSIONS")) (word (codes "SCHEMA"))
-    SchemaRest refl (word_is (codes "SCHEMA")))
-    (lead_not_first (is_word (codes "SIZES")) (word (codes "VERSIONS")) (word (codes "SIZES"))
-    SizesRest refl (word_is (codes "SIZES")))) x
+    SchemaRest refl (word_is (codes "SCHEMA"))) (sizes_first (codes "VERSIONS") refl refl)) x
     (first_arm (is_word (codes "SCHEMA")) (word (codes "SCHEMA")) (word_is (codes "SCHEMA"))
     (word_exact (codes "SCHEMA")) 32 schema_rest SchemaRest follow (schema_correct follow)
-    (λ y. cond (is_word (codes "SIZES") y) (Takes (pure show_sizes)) No)
-    (grammar.lead (word (codes "SIZES")) SizesRest)
-    (lead_not_first (is_word (codes "SIZES")) (word (codes "SCHEMA")) (word (codes "SIZES"))
-    SizesRest refl (word_is (codes "SIZES"))) x
-    (last_arm (is_word (codes "SIZES")) (word (codes "SIZES")) (word_is (codes "SIZES"))
+    sizes_arms FromSizes (sizes_first (codes "SCHEMA") refl refl) x
+    (first_arm (is_word (codes "SIZES")) (word (codes "SIZES")) (word_is (codes "SIZES"))
     (word_exact (codes "SIZES")) 32 (pure show_sizes) SizesRest follow
-    (pure_correct 0 32 show_sizes follow) x)))
+    (pure_correct 0 32 show_sizes follow) cursors_arms
+    (grammar.lead (word (codes "CURSORS")) CursorsRest)
+    (lead_not_first (is_word (codes "CURSORS")) (word (codes "SIZES")) (word (codes "CURSORS"))
+    CursorsRest refl (word_is (codes "CURSORS"))) x
+    (last_arm (is_word (codes "CURSORS")) (word (codes "CURSORS")) (word_is (codes "CURSORS"))
+    (word_exact (codes "CURSORS")) 32 (pure show_cursors) CursorsRest follow
+    (pure_correct 0 32 show_cursors follow) x))))
   where
     live : (a : PlainStatement) × (s : Size) × (ts : List Lexeme) × VersionsRest a s ts
         → (a : PlainStatement) × (s : Size) × (ts : List Lexeme) × ShowRest a s ts
@@ -241,8 +269,14 @@ Paired = grammar.lead (word (codes "PAIRS")) PairsRest
 abbrev Aggregated : Grammar PlainStatement
 Aggregated = grammar.lead (word (codes "AGGREGATE")) AggregateRest
 
+abbrev OfSession : Grammar PlainStatement
+OfSession = grammar.lead (word (codes "SESSION")) SessionRest
+
+abbrev FromSession : Grammar PlainStatement
+FromSession = grammar.alt OfSession IsCheckpoint
+
 abbrev FromAggregate : Grammar PlainStatement
-FromAggregate = grammar.alt Aggregated IsCheckpoint
+FromAggregate = grammar.alt Aggregated FromSession
 
 abbrev FromPairs : Grammar PlainStatement
 FromPairs = grammar.alt Paired FromAggregate
@@ -271,29 +305,35 @@ module _ (v : List ℕ) (no_checkpoint : is_word (codes "CHECKPOINT") (word v) �
   checkpoint_first : NotFirst IsCheckpoint (word v)
   checkpoint_first = apart v (codes "CHECKPOINT") (grammar.pure checkpoint) no_checkpoint
 
-  module _ (no_aggregate : is_word (codes "AGGREGATE") (word v) ≡ false) where
-    aggregate_first : NotFirst FromAggregate (word v)
-    aggregate_first = either_not_first (word v) Aggregated IsCheckpoint
-        (apart v (codes "AGGREGATE") AggregateRest no_aggregate) checkpoint_first
+  module _ (no_session : is_word (codes "SESSION") (word v) ≡ false) where
+    session_first : NotFirst FromSession (word v)
+    session_first = either_not_first (word v) OfSession IsCheckpoint
+        (apart v (codes "SESSION") SessionRest no_session) checkpoint_first
 
-    module _ (no_pairs : is_word (codes "PAIRS") (word v) ≡ false) where
-      pairs_first : NotFirst FromPairs (word v)
-      pairs_first = either_not_first (word v) Paired FromAggregate
-          (apart v (codes "PAIRS") PairsRest no_pairs) aggregate_first
+    module _ (no_aggregate : is_word (codes "AGGREGATE") (word v) ≡ false) where
+      aggregate_first : NotFirst FromAggregate (word v)
+      aggregate_first = either_not_first (word v) Aggregated FromSession
+          (apart v (codes "AGGREGATE") AggregateRest no_aggregate) session_first
 
-      module _ (no_show : is_word (codes "SHOW") (word v) ≡ false) where
-        show_first : NotFirst FromShow (word v)
-        show_first = either_not_first (word v) Shown FromPairs
-            (apart v (codes "SHOW") ShowRest no_show) pairs_first
+      module _ (no_pairs : is_word (codes "PAIRS") (word v) ≡ false) where
+        pairs_first : NotFirst FromPairs (word v)
+        pairs_first = either_not_first (word v) Paired FromAggregate
+            (apart v (codes "PAIRS") PairsRest no_pairs) aggregate_first
 
-        explain_first : is_word (codes "EXPLAIN") (word v) ≡ false → NotFirst FromExplain (word v)
-        explain_first e = either_not_first (word v) IsExplain FromShow
-            (apart v (codes "EXPLAIN") ExplainRest e) show_first
+        module _ (no_show : is_word (codes "SHOW") (word v) ≡ false) where
+          show_first : NotFirst FromShow (word v)
+          show_first = either_not_first (word v) Shown FromPairs
+              (apart v (codes "SHOW") ShowRest no_show) pairs_first
 
-        at_first : is_word (codes "QUERY") (word v) ≡ false
-            → is_word (codes "EXPLAIN") (word v) ≡ false → NotFirst FromQuery (word v)
-        at_first e f = either_not_first (word v) IsQuery FromExplain
-            (apart v (codes "QUERY") AskRest e) (explain_first f)
+          explain_first : is_word (codes "EXPLAIN") (word v) ≡ false
+              → NotFirst FromExplain (word v)
+          explain_first e = either_not_first (word v) IsExplain FromShow
+              (apart v (codes "EXPLAIN") ExplainRest e) show_first
+
+          at_first : is_word (codes "QUERY") (word v) ≡ false
+              → is_word (codes "EXPLAIN") (word v) ≡ false → NotFirst FromQuery (word v)
+          at_first e f = either_not_first (word v) IsQuery FromExplain
+              (apart v (codes "QUERY") AskRest e) (explain_first f)
 
 by_words_not_none : NotNone FromAt
 by_words_not_none = either_not_none IsWrite FromQuery (lead_not_none (word (codes "AT")) WriteRest)
@@ -301,16 +341,21 @@ by_words_not_none = either_not_none IsWrite FromQuery (lead_not_none (word (code
     (either_not_none IsExplain FromShow (lead_not_none (word (codes "EXPLAIN")) ExplainRest)
     (either_not_none Shown FromPairs (lead_not_none (word (codes "SHOW")) ShowRest)
     (either_not_none Paired FromAggregate (lead_not_none (word (codes "PAIRS")) PairsRest)
-    (either_not_none Aggregated IsCheckpoint
+    (either_not_none Aggregated FromSession
     (lead_not_none (word (codes "AGGREGATE")) AggregateRest)
-    (lead_not_none (word (codes "CHECKPOINT")) (grammar.pure checkpoint)))))))
+    (either_not_none OfSession IsCheckpoint
+    (lead_not_none (word (codes "SESSION")) SessionRest)
+    (lead_not_none (word (codes "CHECKPOINT")) (grammar.pure checkpoint))))))))
 
 -- the arms after that of AT, and so on
 abbrev checkpoint_arms : Lexeme → Arm PlainStatement
 checkpoint_arms y = cond (is_word (codes "CHECKPOINT") y) (Takes (pure checkpoint)) No
 
+abbrev session_arms : Lexeme → Arm PlainStatement
+session_arms y = cond (is_word (codes "SESSION") y) (Takes session_rest) (checkpoint_arms y)
+
 abbrev aggregate_arms : Lexeme → Arm PlainStatement
-aggregate_arms y = cond (is_word (codes "AGGREGATE") y) (Takes aggregate_rest) (checkpoint_arms y)
+aggregate_arms y = cond (is_word (codes "AGGREGATE") y) (Takes aggregate_rest) (session_arms y)
 
 abbrev pairs_arms : Lexeme → Arm PlainStatement
 pairs_arms y = cond (is_word (codes "PAIRS") y) (Takes pairs_rest) (aggregate_arms y)
@@ -324,19 +369,28 @@ explain_arms y = cond (is_word (codes "EXPLAIN") y) (Takes explain_rest) (show_a
 abbrev query_arms : Lexeme → Arm PlainStatement
 query_arms y = cond (is_word (codes "QUERY") y) (Takes ask_rest) (explain_arms y)
 
+session_then : IsCorrectParser 0 32 session_rest SessionRest follow_statement
+session_then = session_correct follow_statement
+    (correct_follow 0 32 changes IsListOfChanges follow_changes follow_statement
+    (λ x h. fewer_changes x (fewer_body x h)) changes_correct)
+    (correct_follow 0 32 query.ask IsAsk query.follow_ask follow_statement fewer_ask ask_correct)
+
 late_arms_correct : (x : Lexeme) → ArmCorrect 0 32 (pairs_arms x) x FromPairs follow_statement
 late_arms_correct x = first_arm (is_word (codes "PAIRS")) (word (codes "PAIRS"))
     (word_is (codes "PAIRS")) (word_exact (codes "PAIRS")) 32 pairs_rest PairsRest follow_statement
     (pairs_correct follow_statement) aggregate_arms FromAggregate
-    (aggregate_first (codes "PAIRS") refl refl) x
+    (aggregate_first (codes "PAIRS") refl refl refl) x
     (first_arm (is_word (codes "AGGREGATE")) (word (codes "AGGREGATE"))
     (word_is (codes "AGGREGATE")) (word_exact (codes "AGGREGATE")) 32 aggregate_rest AggregateRest
-    follow_statement (aggregate_correct follow_statement) checkpoint_arms IsCheckpoint
-    (checkpoint_first (codes "AGGREGATE") refl) x
+    follow_statement (aggregate_correct follow_statement) session_arms FromSession
+    (session_first (codes "AGGREGATE") refl refl) x
+    (first_arm (is_word (codes "SESSION")) (word (codes "SESSION")) (word_is (codes "SESSION"))
+    (word_exact (codes "SESSION")) 32 session_rest SessionRest follow_statement session_then
+    checkpoint_arms IsCheckpoint (checkpoint_first (codes "SESSION") refl) x
     (last_arm (is_word (codes "CHECKPOINT")) (word (codes "CHECKPOINT"))
     (word_is (codes "CHECKPOINT")) (word_exact (codes "CHECKPOINT")) 32 (pure checkpoint)
     (grammar.pure checkpoint) follow_statement
-    (pure_correct 0 32 checkpoint follow_statement) x))
+    (pure_correct 0 32 checkpoint follow_statement) x)))
 
 by_words_correct : IsCorrectParser 0 32 statement FromAt follow_statement
 unfolding statement
@@ -344,17 +398,17 @@ by_words_correct = choose_correct 0 32 statement_arm FromAt follow_statement
     (live write_correct.live) by_words_not_none
     (λ x. first_arm (is_word (codes "AT")) (word (codes "AT")) (word_is (codes "AT"))
     (word_exact (codes "AT")) 32 write_rest WriteRest follow_statement write_correct
-    query_arms FromQuery (at_first (codes "AT") refl refl refl refl refl refl) x
+    query_arms FromQuery (at_first (codes "AT") refl refl refl refl refl refl refl) x
     (first_arm (is_word (codes "QUERY")) (word (codes "QUERY")) (word_is (codes "QUERY"))
     (word_exact (codes "QUERY")) 32 ask_rest AskRest follow_statement ask_rest_correct
-    explain_arms FromExplain (explain_first (codes "QUERY") refl refl refl refl refl) x
+    explain_arms FromExplain (explain_first (codes "QUERY") refl refl refl refl refl refl) x
     (first_arm (is_word (codes "EXPLAIN")) (word (codes "EXPLAIN")) (word_is (codes "EXPLAIN"))
     (word_exact (codes "EXPLAIN")) 32 explain_rest ExplainRest follow_statement explain_correct
-    show_arms FromShow (show_first (codes "EXPLAIN") refl refl refl refl) x
+    show_arms FromShow (show_first (codes "EXPLAIN") refl refl refl refl refl) x
     (first_arm (is_word (codes "SHOW")) (word (codes "SHOW")) (word_is (codes "SHOW"))
     (word_exact (codes "SHOW")) 32 show_rest ShowRest follow_statement
     (show_correct follow_statement) pairs_arms FromPairs
-    (pairs_first (codes "SHOW") refl refl refl) x (late_arms_correct x)))))
+    (pairs_first (codes "SHOW") refl refl refl refl) x (late_arms_correct x)))))
   where
     live : (a : PlainStatement) × (s : Size) × (ts : List Lexeme) × WriteRest a s ts
         → (a : PlainStatement) × (s : Size) × (ts : List Lexeme) × FromAt a s ts
@@ -367,8 +421,10 @@ up a s l (inr (inr (inl h))) = inr (inr (inl h))
 up a s l (inr (inr (inr (inl (more, e, inl h))))) = inr (inr (inr (inl (inl (more, e, h)))))
 up a s l (inr (inr (inr (inl (more, e, inr (inl h)))))) =
     inr (inr (inr (inl (inr (inl (more, e, h))))))
-up a s l (inr (inr (inr (inl (more, e, inr (inr h)))))) =
-    inr (inr (inr (inl (inr (inr (more, e, h))))))
+up a s l (inr (inr (inr (inl (more, e, inr (inr (inl h))))))) =
+    inr (inr (inr (inl (inr (inr (inl (more, e, h)))))))
+up a s l (inr (inr (inr (inl (more, e, inr (inr (inr h))))))) =
+    inr (inr (inr (inl (inr (inr (inr (more, e, h)))))))
 up a s l (inr (inr (inr (inr h)))) = inr (inr (inr (inr h)))
 
 down : (a : PlainStatement) (s : Size) (l : List Lexeme) → IsStatement a s l → FromAt a s l
@@ -377,7 +433,10 @@ down a s l (inr (inl h)) = inr (inl h)
 down a s l (inr (inr (inl h))) = inr (inr (inl h))
 down a s l (inr (inr (inr (inl (inl h))))) = inr (inr (inr (inl (h.0, h.1, inl h.2))))
 down a s l (inr (inr (inr (inl (inr (inl h)))))) = inr (inr (inr (inl (h.0, h.1, inr (inl h.2)))))
-down a s l (inr (inr (inr (inl (inr (inr h)))))) = inr (inr (inr (inl (h.0, h.1, inr (inr h.2)))))
+down a s l (inr (inr (inr (inl (inr (inr (inl h))))))) =
+    inr (inr (inr (inl (h.0, h.1, inr (inr (inl h.2))))))
+down a s l (inr (inr (inr (inl (inr (inr (inr h))))))) =
+    inr (inr (inr (inl (h.0, h.1, inr (inr (inr h.2))))))
 down a s l (inr (inr (inr (inr h)))) = inr (inr (inr (inr h)))
 
 pub statement_correct : IsCorrectParser 0 32 statement IsStatement follow_statement

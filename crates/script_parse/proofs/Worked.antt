@@ -32,14 +32,18 @@ use Rattle.temporal_lang_types.specs.declared.relation.Relation.TheVariants.{Bef
 use Rattle.temporal_lang_types.specs.declared.agg_item.AggItem.TheVariants.{Count, Min, Max, Sum}
 use Rattle.temporal_lang_grammar_spec.specs.AggregateReader.{relation, agg, aggs, more_aggs}
 use Rattle.temporal_lang_grammar_spec.specs.AggregateReader.{of_output}
-use Rattle.script_parse.specs.Statements.{show_sizes, checkpoint, pairs, aggregate}
+use Rattle.sessions.specs.Requests.{beginning, buffering, committing, aborting, opening, fetching}
+use Rattle.sessions.specs.Requests.{closing}
+use Rattle.script_parse.specs.Statements.{show_sizes, show_cursors, checkpoint, pairs, aggregate}
+use Rattle.script_parse.specs.Statements.{session}
 use Rattle.script_parse.specs.Lexing.{lexed_from}
 use Rattle.script_parse.specs.StatementReader.{more_constants, constants, row, insert_rest}
 use Rattle.script_parse.specs.StatementReader.{delete_rest, setting, settings, update_rest, change}
 use Rattle.script_parse.specs.StatementReader.{changes, op, ops, inverse, evolve_rest, body}
 use Rattle.script_parse.specs.StatementReader.{write_rest, ask_rest, explain_rest, schema_rest}
 use Rattle.script_parse.specs.StatementReader.{show_rest, statement, in_brackets, pairs_rest}
-use Rattle.script_parse.specs.StatementReader.{aggregate_rest}
+use Rattle.script_parse.specs.StatementReader.{aggregate_rest, session_rest, request, do_rest}
+use Rattle.script_parse.specs.StatementReader.{commit_rest, open_rest, fetch_rest, close_rest}
 use Rattle.script_parse.specs.Reading.{Reading, Blank, Refused, Whole, reading}
 
 -- text = reading
@@ -173,10 +177,33 @@ shown :
     × Reads (codes "SHOW SCHEMA 07") (Whole (show_schema 7))
     × Reads (codes "SHOW SCHEMA 4294967296") (Refused (Syntax 12))
     × Reads (codes "SHOW SIZES") (Whole show_sizes)
+    × Reads (codes "SHOW CURSORS") (Whole show_cursors)
     × Reads (codes "SHOW TABLE") (Refused (Syntax 5))
     × Reads (codes "SHOW SIZES 1") (Refused (Syntax 11))
 unfolding reading lexed_from gap_len gap_dash scanned_from small statement show_rest schema_rest
-shown = (refl, refl, refl, refl, refl, refl)
+shown = (refl, refl, refl, refl, refl, refl, refl)
+
+-- what sessions ask for; its words are names elsewhere
+asked :
+    Reads (codes "SESSION 1 BEGIN") (Whole (session 1 beginning))
+    × Reads (codes "SESSION 2 DO DELETE FROM DO THEN DELETE FROM t")
+    (Whole (session 2 (buffering (deletion (codes "DO") always ∷ deletion t always ∷ []))))
+    × Reads (codes "SESSION 2 COMMIT AT 6") (Whole (session 2 (committing 6)))
+    × Reads (codes "SESSION 0 ABORT") (Whole (session 0 aborting))
+    × Reads (codes "SESSION 1 OPEN c VERSION 1 SELECT a FROM t")
+    (Whole (session 1 (opening (codes "c") (from_t 1 (column Free a ∷ []) t))))
+    × Reads (codes "SESSION 1 FETCH FETCH 5") (Whole (session 1 (fetching (codes "FETCH") 5)))
+    × Reads (codes "SESSION 1 CLOSE c") (Whole (session 1 (closing (codes "c"))))
+    × Reads (codes "SESSION 4294967296 BEGIN") (Refused (Syntax 8))
+    × Reads (codes "SESSION 1 COMMIT AT now") (Refused (Syntax 20))
+    × Reads (codes "SESSION 1 FETCH c") (Refused (Syntax 17))
+    × Reads (codes "SESSION 1 DO EVOLVE NOP") (Refused (Syntax 13))
+unfolding reading lexed_from gap_len gap_dash scanned_from is_name name small moment more statement
+    session_rest request do_rest commit_rest open_rest fetch_rest close_rest changes change
+    delete_rest query.ask query.branches query.branch query.outputs query.output query.items
+    query.item query.alias fresh_where expr ref_rest outermost query.when_part query.as_of
+    query.range query.during query.keeping
+asked = (refl, refl, refl, refl, refl, refl, refl, refl, refl, refl, refl)
 
 -- the word alone, which no name spells
 checkpoints :

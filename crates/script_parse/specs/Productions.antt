@@ -19,9 +19,11 @@ use Rattle.smo_parse.specs.Productions.{IsOperator}
 use Rattle.temporal_lang_types.specs.Queries.{PlainQuery}
 use Rattle.temporal_lang_grammar_spec.specs.QueryGrammar.{IsAsk, IsFullAsk}
 use Rattle.temporal_lang_grammar_spec.specs.AggregateGrammar.{IsRelation, AreAggs}
+use Rattle.sessions.specs.Requests.{Request, beginning, buffering, committing, aborting, opening}
+use Rattle.sessions.specs.Requests.{fetching, closing}
 use Rattle.script_parse.specs.Statements.{PlainStatement, write, ask, explain, show_versions}
 use Rattle.script_parse.specs.Statements.{show_schema, show_sizes, checkpoint}
-use Rattle.script_parse.specs.Statements.{pairs, aggregate}
+use Rattle.script_parse.specs.Statements.{pairs, aggregate, session, show_cursors}
 
 -- ---- changes
 
@@ -71,8 +73,11 @@ abbrev pub IsChange : Grammar PlainChange
 IsChange = grammar.alt IsInsert (grammar.alt IsDelete IsUpdate)
 
 -- change { THEN change }
+abbrev pub IsListOfChanges : Grammar (List PlainChange)
+IsListOfChanges = grammar.list (word (codes "THEN")) IsChange
+
 abbrev pub AreChanges : Grammar PlainBody
-AreChanges = grammar.map (λ l. changing l) (grammar.list (word (codes "THEN")) IsChange)
+AreChanges = grammar.map (λ l. changing l) IsListOfChanges
 
 -- ---- operators
 
@@ -129,9 +134,15 @@ abbrev pub IsShowSizes : Grammar PlainStatement
 IsShowSizes = grammar.lead (word (codes "SHOW"))
     (grammar.lead (word (codes "SIZES")) (grammar.pure show_sizes))
 
--- SHOW, and what of the archive
+-- SHOW CURSORS
+abbrev pub IsShowCursors : Grammar PlainStatement
+IsShowCursors = grammar.lead (word (codes "SHOW"))
+    (grammar.lead (word (codes "CURSORS")) (grammar.pure show_cursors))
+
+-- SHOW, and what of the archive or of the sessions
 abbrev pub IsShow : Grammar PlainStatement
-IsShow = grammar.alt IsShowVersions (grammar.alt IsShowSchema IsShowSizes)
+IsShow = grammar.alt IsShowVersions (grammar.alt IsShowSchema
+    (grammar.alt IsShowSizes IsShowCursors))
 
 -- ( ask )
 abbrev pub IsInBrackets : Grammar PlainQuery → Grammar PlainQuery
@@ -150,6 +161,48 @@ IsAggregate = grammar.lead (word (codes "AGGREGATE")) (grammar.seq AreAggs
     (λ items. grammar.lead (word (codes "BY")) (grammar.seq small_grammar
     (λ group. grammar.map (λ q. aggregate items group q) (IsInBrackets IsFullAsk)))))
 
+-- ---- sessions
+
+-- BEGIN
+abbrev pub IsBegin : Grammar Request
+IsBegin = grammar.lead (word (codes "BEGIN")) (grammar.pure beginning)
+
+-- DO change { THEN change }
+abbrev pub IsDo : Grammar Request
+IsDo = grammar.lead (word (codes "DO")) (grammar.map (λ l. buffering l) IsListOfChanges)
+
+-- COMMIT AT moment
+abbrev pub IsCommit : Grammar Request
+IsCommit = grammar.lead (word (codes "COMMIT")) (grammar.lead (word (codes "AT"))
+    (grammar.map (λ stamp. committing stamp) moment_grammar))
+
+-- ABORT
+abbrev pub IsAbort : Grammar Request
+IsAbort = grammar.lead (word (codes "ABORT")) (grammar.pure aborting)
+
+-- OPEN name ask
+abbrev pub IsOpen : Grammar Request
+IsOpen = grammar.lead (word (codes "OPEN")) (grammar.seq name_grammar
+    (λ name. grammar.map (λ q. opening name q) IsAsk))
+
+-- FETCH name small
+abbrev pub IsFetch : Grammar Request
+IsFetch = grammar.lead (word (codes "FETCH")) (grammar.seq name_grammar
+    (λ name. grammar.map (λ count. fetching name count) small_grammar))
+
+-- CLOSE name
+abbrev pub IsClose : Grammar Request
+IsClose = grammar.lead (word (codes "CLOSE")) (grammar.map (λ name. closing name) name_grammar)
+
+abbrev pub IsRequest : Grammar Request
+IsRequest = grammar.alt IsBegin (grammar.alt IsDo (grammar.alt IsCommit (grammar.alt IsAbort
+    (grammar.alt IsOpen (grammar.alt IsFetch IsClose)))))
+
+-- SESSION small, and what it asks for
+abbrev pub IsSession : Grammar PlainStatement
+IsSession = grammar.lead (word (codes "SESSION")) (grammar.seq small_grammar
+    (λ s. grammar.map (λ request. session s request) IsRequest))
+
 -- CHECKPOINT
 abbrev pub IsCheckpoint : Grammar PlainStatement
 IsCheckpoint = grammar.lead (word (codes "CHECKPOINT")) (grammar.pure checkpoint)
@@ -157,4 +210,4 @@ IsCheckpoint = grammar.lead (word (codes "CHECKPOINT")) (grammar.pure checkpoint
 abbrev pub IsStatement : Grammar PlainStatement
 IsStatement = grammar.alt IsWrite (grammar.alt IsQuery
     (grammar.alt IsExplain (grammar.alt IsShow
-    (grammar.alt IsPairs (grammar.alt IsAggregate IsCheckpoint)))))
+    (grammar.alt IsPairs (grammar.alt IsAggregate (grammar.alt IsSession IsCheckpoint))))))

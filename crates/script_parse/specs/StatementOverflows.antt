@@ -23,11 +23,14 @@ use Rattle.temporal_lang_grammar_spec.specs.QueryGrammar.{IsAsk, IsFullAsk}
 use Rattle.temporal_lang_grammar_spec.specs.AggregateGrammar.{IsRelation, AreAggs}
 use Rattle.temporal_lang_grammar_spec.specs.QueryOverflows.{ask_overflows, full_ask_overflows}
 use Rattle.temporal_lang_types.specs.Queries.{PlainQuery}
-use Rattle.script_parse.specs.Statements.{write, ask, explain, pairs, aggregate}
+use Rattle.sessions.specs.Requests.{buffering, opening}
+use Rattle.script_parse.specs.Statements.{write, ask, explain, pairs, aggregate, session}
 use Rattle.script_parse.specs.Productions.{IsInsert, IsDelete, IsSetting, IsUpdate, IsChange, IsOp}
 use Rattle.script_parse.specs.Productions.{AreOps, IsInverse, IsEvolve, AreChanges, IsBody, IsWrite}
 use Rattle.script_parse.specs.Productions.{IsQuery, IsExplain, IsShowVersions, IsShowSchema}
 use Rattle.script_parse.specs.Productions.{IsShowSizes, IsShow, IsInBrackets, IsPairs, IsAggregate}
+use Rattle.script_parse.specs.Productions.{IsShowCursors, IsListOfChanges, IsBegin, IsDo, IsCommit}
+use Rattle.script_parse.specs.Productions.{IsAbort, IsOpen, IsFetch, IsClose, IsRequest, IsSession}
 use Rattle.script_parse.specs.Productions.{IsCheckpoint, IsStatement}
 
 -- ---- changes
@@ -64,9 +67,11 @@ abbrev pub change_overflows : Overflow IsChange
 change_overflows = either_overflow IsInsert (grammar.alt IsDelete IsUpdate) (none_overflow IsInsert)
     (either_overflow IsDelete IsUpdate delete_overflows update_overflows)
 
+abbrev pub list_of_changes_overflows : Overflow IsListOfChanges
+list_of_changes_overflows = list_overflow (word (codes "THEN")) IsChange change_overflows
+
 abbrev pub changes_overflows : Overflow AreChanges
-changes_overflows = map_overflow (λ l. changing l) (grammar.list (word (codes "THEN")) IsChange)
-    (list_overflow (word (codes "THEN")) IsChange change_overflows)
+changes_overflows = map_overflow (λ l. changing l) IsListOfChanges list_of_changes_overflows
 
 -- ---- operators
 
@@ -109,9 +114,12 @@ explain_overflows = lead_overflow (word (codes "EXPLAIN")) _
     (lead_overflow (word (codes "QUERY")) _ (map_overflow (λ q. explain q) IsAsk ask_overflows))
 
 abbrev pub show_overflows : Overflow IsShow
-show_overflows = either_overflow IsShowVersions (grammar.alt IsShowSchema IsShowSizes)
-    (none_overflow IsShowVersions) (either_overflow IsShowSchema IsShowSizes
-    (none_overflow IsShowSchema) (none_overflow IsShowSizes))
+show_overflows = either_overflow IsShowVersions
+    (grammar.alt IsShowSchema (grammar.alt IsShowSizes IsShowCursors))
+    (none_overflow IsShowVersions) (either_overflow IsShowSchema
+    (grammar.alt IsShowSizes IsShowCursors) (none_overflow IsShowSchema)
+    (either_overflow IsShowSizes IsShowCursors (none_overflow IsShowSizes)
+    (none_overflow IsShowCursors)))
 
 abbrev pub bracket_overflows : (G : Grammar PlainQuery) → Overflow G → Overflow (IsInBrackets G)
 bracket_overflows G ps = lead_overflow (sign (codes "(")) _
@@ -141,19 +149,60 @@ aggregate_overflows = lead_overflow (word (codes "AGGREGATE")) _
     (λ group. map_overflow (λ q. aggregate items group q) (IsInBrackets IsFullAsk)
     (bracket_overflows IsFullAsk full_ask_overflows)))))
 
--- the statements from PAIRS on
-abbrev pub late_overflows : Overflow (grammar.alt IsPairs (grammar.alt IsAggregate IsCheckpoint))
-late_overflows = either_overflow IsPairs (grammar.alt IsAggregate IsCheckpoint) pairs_overflows
-    (either_overflow IsAggregate IsCheckpoint aggregate_overflows (none_overflow IsCheckpoint))
+-- ---- sessions
+
+abbrev pub do_overflows : Overflow IsDo
+do_overflows = lead_overflow (word (codes "DO")) _
+    (map_overflow (λ l. buffering l) IsListOfChanges list_of_changes_overflows)
+
+abbrev pub open_overflows : Overflow IsOpen
+open_overflows = lead_overflow (word (codes "OPEN")) _
+    (bind_overflow name_grammar (λ name. grammar.map (λ q. opening name q) IsAsk)
+    (none_overflow name_grammar)
+    (λ name. map_overflow (λ q. opening name q) IsAsk ask_overflows))
+
+-- the requests from OPEN on
+abbrev pub cursor_overflows : Overflow (grammar.alt IsOpen (grammar.alt IsFetch IsClose))
+cursor_overflows = either_overflow IsOpen (grammar.alt IsFetch IsClose) open_overflows
+    (either_overflow IsFetch IsClose (none_overflow IsFetch) (none_overflow IsClose))
+
+abbrev pub request_overflows : Overflow IsRequest
+request_overflows = either_overflow IsBegin
+    (grammar.alt IsDo (grammar.alt IsCommit (grammar.alt IsAbort
+    (grammar.alt IsOpen (grammar.alt IsFetch IsClose))))) (none_overflow IsBegin)
+    (either_overflow IsDo (grammar.alt IsCommit (grammar.alt IsAbort
+    (grammar.alt IsOpen (grammar.alt IsFetch IsClose)))) do_overflows
+    (either_overflow IsCommit (grammar.alt IsAbort
+    (grammar.alt IsOpen (grammar.alt IsFetch IsClose))) (none_overflow IsCommit)
+    (either_overflow IsAbort (grammar.alt IsOpen (grammar.alt IsFetch IsClose))
+    (none_overflow IsAbort) cursor_overflows)))
+
+abbrev pub session_overflows : Overflow IsSession
+session_overflows = lead_overflow (word (codes "SESSION")) _
+    (bind_overflow small_grammar (λ s. grammar.map (λ request. session s request) IsRequest)
+    (none_overflow small_grammar)
+    (λ s. map_overflow (λ request. session s request) IsRequest request_overflows))
+
+-- ---- all statements
+
+-- those from PAIRS on
+abbrev pub late_overflows : Overflow (grammar.alt IsPairs (grammar.alt IsAggregate
+    (grammar.alt IsSession IsCheckpoint)))
+late_overflows = either_overflow IsPairs
+    (grammar.alt IsAggregate (grammar.alt IsSession IsCheckpoint)) pairs_overflows
+    (either_overflow IsAggregate (grammar.alt IsSession IsCheckpoint) aggregate_overflows
+    (either_overflow IsSession IsCheckpoint session_overflows (none_overflow IsCheckpoint)))
 
 abbrev pub statement_overflows : Overflow IsStatement
 statement_overflows = either_overflow IsWrite
     (grammar.alt IsQuery (grammar.alt IsExplain (grammar.alt IsShow
-    (grammar.alt IsPairs (grammar.alt IsAggregate IsCheckpoint))))) write_overflows
+    (grammar.alt IsPairs (grammar.alt IsAggregate (grammar.alt IsSession IsCheckpoint))))))
+    write_overflows
     (either_overflow IsQuery (grammar.alt IsExplain (grammar.alt IsShow
-    (grammar.alt IsPairs (grammar.alt IsAggregate IsCheckpoint))))
+    (grammar.alt IsPairs (grammar.alt IsAggregate (grammar.alt IsSession IsCheckpoint)))))
     query_overflows
     (either_overflow IsExplain (grammar.alt IsShow
-    (grammar.alt IsPairs (grammar.alt IsAggregate IsCheckpoint))) explain_overflows
-    (either_overflow IsShow (grammar.alt IsPairs (grammar.alt IsAggregate IsCheckpoint))
-    show_overflows late_overflows)))
+    (grammar.alt IsPairs (grammar.alt IsAggregate (grammar.alt IsSession IsCheckpoint))))
+    explain_overflows
+    (either_overflow IsShow (grammar.alt IsPairs (grammar.alt IsAggregate
+    (grammar.alt IsSession IsCheckpoint))) show_overflows late_overflows)))

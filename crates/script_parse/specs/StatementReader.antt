@@ -17,9 +17,11 @@ use Rattle.smo_parse.specs.OperatorReader.{operator, follow_operator}
 use Rattle.temporal_lang_types.specs.Queries.{PlainQuery}
 use Rattle.temporal_lang_grammar_spec.specs.QueryReader as query
 use Rattle.temporal_lang_grammar_spec.specs.AggregateReader.{relation, aggs}
+use Rattle.sessions.specs.Requests.{Request, beginning, buffering, committing, aborting, opening}
+use Rattle.sessions.specs.Requests.{fetching, closing}
 use Rattle.script_parse.specs.Statements.{PlainStatement, write, ask, explain, show_versions}
 use Rattle.script_parse.specs.Statements.{show_schema, show_sizes, checkpoint}
-use Rattle.script_parse.specs.Statements.{pairs, aggregate}
+use Rattle.script_parse.specs.Statements.{pairs, aggregate, session, show_cursors}
 
 -- ---- changes
 
@@ -119,7 +121,8 @@ abbrev pub show_arm : Lexeme → Arm PlainStatement
 show_arm x =
     if is_word (codes "VERSIONS") x then Takes (pure show_versions)
     else (if is_word (codes "SCHEMA") x then Takes schema_rest else
-    (if is_word (codes "SIZES") x then Takes (pure show_sizes) else No))
+    (if is_word (codes "SIZES") x then Takes (pure show_sizes)
+    else (if is_word (codes "CURSORS") x then Takes (pure show_cursors) else No)))
 
 -- after SHOW
 unfoldable pub show_rest : Parser PlainStatement
@@ -138,6 +141,45 @@ unfoldable pub aggregate_rest : Parser PlainStatement
 aggregate_rest = bind aggs (λ items. lead (is_word (codes "BY")) (bind small
     (λ group. map_to (λ q. aggregate items group q) (in_brackets query.full_ask))))
 
+-- ---- sessions
+
+-- after DO
+unfoldable pub do_rest : Parser Request
+do_rest = map_to (λ l. buffering l) changes
+
+-- after COMMIT
+unfoldable pub commit_rest : Parser Request
+commit_rest = lead (is_word (codes "AT")) (map_to (λ m. committing m) moment)
+
+-- after OPEN
+unfoldable pub open_rest : Parser Request
+open_rest = bind name (λ n. map_to (λ q. opening n q) query.ask)
+
+-- after FETCH
+unfoldable pub fetch_rest : Parser Request
+fetch_rest = bind name (λ n. map_to (λ count. fetching n count) small)
+
+-- after CLOSE
+unfoldable pub close_rest : Parser Request
+close_rest = map_to (λ n. closing n) name
+
+abbrev pub request_arm : Lexeme → Arm Request
+request_arm x =
+    if is_word (codes "BEGIN") x then Takes (pure beginning)
+    else (if is_word (codes "DO") x then Takes do_rest else
+    (if is_word (codes "COMMIT") x then Takes commit_rest
+    else (if is_word (codes "ABORT") x then Takes (pure aborting) else
+    (if is_word (codes "OPEN") x then Takes open_rest
+    else (if is_word (codes "FETCH") x then Takes fetch_rest else
+    (if is_word (codes "CLOSE") x then Takes close_rest else No))))))
+
+unfoldable pub request : Parser Request
+request = choose request_arm
+
+-- after SESSION
+unfoldable pub session_rest : Parser PlainStatement
+session_rest = bind small (λ s. map_to (λ r. session s r) request)
+
 abbrev pub statement_arm : Lexeme → Arm PlainStatement
 statement_arm x =
     if is_word (codes "AT") x then Takes write_rest
@@ -146,7 +188,8 @@ statement_arm x =
     else (if is_word (codes "SHOW") x then Takes show_rest else
     (if is_word (codes "PAIRS") x then Takes pairs_rest
     else (if is_word (codes "AGGREGATE") x then Takes aggregate_rest else
-    (if is_word (codes "CHECKPOINT") x then Takes (pure checkpoint) else No))))))
+    (if is_word (codes "SESSION") x then Takes session_rest
+    else (if is_word (codes "CHECKPOINT") x then Takes (pure checkpoint) else No)))))))
 
 unfoldable pub statement : Parser PlainStatement
 statement = choose statement_arm

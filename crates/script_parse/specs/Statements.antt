@@ -4,10 +4,12 @@ use Rattle.smo_ops_types.specs.Commands.{PlainCommand, command_of}
 use Rattle.temporal_lang_types.specs.declared.relation.Relation.{Relation}
 use Rattle.temporal_lang_types.specs.declared.agg_item.AggItem.{AggItem}
 use Rattle.temporal_lang_types.specs.Queries.{PlainQuery, query_of}
+use Rattle.sessions.specs.Requests.{Request, request_of}
 use Rattle.script_parse.specs.declared.statement.Statement.{Statement}
 use Rattle.script_parse.specs.declared.statement.Statement.TheVariants.{Write, Ask, Explain}
 use Rattle.script_parse.specs.declared.statement.Statement.TheVariants.{ShowVersions, ShowSchema}
-use Rattle.script_parse.specs.declared.statement.Statement.TheVariants.{ShowSizes, Checkpoint}
+use Rattle.script_parse.specs.declared.statement.Statement.TheVariants.{ShowSizes, ShowCursors}
+use Rattle.script_parse.specs.declared.statement.Statement.TheVariants.{Checkpoint, Session}
 use Rattle.script_parse.specs.declared.statement.Statement.TheVariants.{Pairs, Aggregate}
 
 pub data PlainStatement : Type 0 where
@@ -19,10 +21,13 @@ pub data PlainStatement : Type 0 where
   pairs : PlainQuery → Relation → PlainQuery → PlainStatement
   -- what groups of rows have, by so many of their first outputs
   aggregate : List AggItem → ℕ → PlainQuery → PlainStatement
+  -- what the session with this number asks for
+  session : ℕ → Request → PlainStatement
   show_versions : PlainStatement
   -- the version's number
   show_schema : ℕ → PlainStatement
   show_sizes : PlainStatement
+  show_cursors : PlainStatement
   -- what the archive holds is to be stored as a whole
   checkpoint : PlainStatement
 
@@ -32,7 +37,9 @@ statement_of (Ask q) = ask (query_of q)
 statement_of (Explain q) = explain (query_of q)
 statement_of (Pairs left relation right) = pairs (query_of left) relation (query_of right)
 statement_of (Aggregate items group q) = aggregate items.items group (query_of q)
+statement_of (Session s request) = session s (request_of request)
 statement_of ShowVersions = show_versions
 statement_of (ShowSchema version) = show_schema version
 statement_of ShowSizes = show_sizes
+statement_of ShowCursors = show_cursors
 statement_of Checkpoint = checkpoint

@@ -16,6 +16,7 @@ mod change_reader;
 mod inverse_reader;
 mod laws;
 mod mode;
+mod session_reader;
 mod splitter;
 mod statement;
 mod statement_laws;

@@ -1,6 +1,7 @@
 //! Statements, and why a text is none.
 
 use prima_base::What;
+use sessions::SessionRequest;
 use smo_ops::Command;
 use temporal_lang::{AggItem, Query, Relation};
 
@@ -18,12 +19,16 @@ pub enum Statement {
     /// What the aggregates have over time of the groups of a query's rows, which are as many of
     /// their first outputs as this number says.
     Aggregate(Vec<AggItem>, u32, Query),
+    /// What the session with this number asks for.
+    Session(u32, SessionRequest),
     /// The list of all versions.
     ShowVersions,
     /// The tables of the version with this number.
     ShowSchema(u32),
     /// The list of all lifelines with their sizes.
     ShowSizes,
+    /// The list of all open cursors.
+    ShowCursors,
     /// The whole archive is to be stored, so that later runs begin from there.
     Checkpoint,
 }

@@ -20,6 +20,7 @@ ghost use Rattle.script_parse.specs.StatementReader as spec;
 
 use crate::change_reader::changes;
 use crate::inverse_reader::evolve_rest;
+use crate::session_reader::request;
 use crate::{ReadFault, Statement};
 use lexer::{Cursor, LexFault, Stop, Token, limit_of, moment, small, tokens};
 use smo_ops::{Body, Command};
@@ -94,6 +95,10 @@ fn show_rest(c: &mut Cursor<'_, '_>) -> Result<Statement, Stop>
         c.skip();
         return Ok(Statement::ShowSizes);
     }
+    if c.sees_word(b"CURSORS") {
+        c.skip();
+        return Ok(Statement::ShowCursors);
+    }
     Err(Stop::Unexpected)
 }
 
@@ -143,6 +148,16 @@ fn aggregate_rest(alloc: Global, c: &mut Cursor<'_, '_>) -> Result<Statement, St
     Ok(Statement::Aggregate(items, group, query))
 }
 
+// What stands after SESSION.
+#[tactic(auto, unfolding(crate::specs::StatementReader::session_rest))]
+fn session_rest(alloc: Global, c: &mut Cursor<'_, '_>) -> Result<Statement, Stop>
+    ensures { Reads statement_of (spec.session_rest c.old.nodes (ahead c.old)) result c.new }
+{
+    let session = small(c)?;
+    let asked = request(alloc, c)?;
+    Ok(Statement::Session(session, asked))
+}
+
 // A statement.
 #[tactic(auto, unfolding(crate::specs::StatementReader::statement), using(lexer_combinators::proofs::ReadSteps::choose_takes, lexer_combinators::proofs::ReadSteps::choose_no))]
 fn statement(alloc: Global, c: &mut Cursor<'_, '_>) -> Result<Statement, Stop>
@@ -171,6 +186,10 @@ fn statement(alloc: Global, c: &mut Cursor<'_, '_>) -> Result<Statement, Stop>
     if c.sees_word(b"AGGREGATE") {
         c.skip();
         return aggregate_rest(alloc, c);
+    }
+    if c.sees_word(b"SESSION") {
+        c.skip();
+        return session_rest(alloc, c);
     }
     if c.sees_word(b"CHECKPOINT") {
         c.skip();

@@ -12,7 +12,8 @@ use Rattle.sessions.specs.Shared.{Shared}
 use Rattle.sessions.specs.SessionStates.{PlainTransaction, Cursors, some_sessions}
 use Rattle.sessions.specs.Meaning.{transaction_of, transactions_of}
 use Rattle.sessions.specs.Buffering.{Buffers}
-use Rattle.sessions.specs.Steps.{a_world, buffering, buffered, buffer_fault, changes_so_far}
+use Rattle.sessions.specs.Requests.{buffering}
+use Rattle.sessions.specs.Steps.{a_world, buffered, buffer_fault, changes_so_far}
 use Rattle.sessions.specs.Steps.{buffered_in}
 use Rattle.sessions.specs.Serving.{Serves}
 use Rattle.std.specs.Prelude.{length, ◌+◌}

@@ -1,6 +1,6 @@
 -- What a COMMIT answers where it comes to the vault.
 use Rattle.std.proofs.Common.{◌≡◌, ℕ, cond, nat_eq, List, [], ◌∷◌, Option, Some, None, refl}
-use Rattle.std.proofs.Common.{sym, ap, ◌∙◌, subst, Ok, Err}
+use Rattle.std.proofs.Common.{sym, ap, ◌∙◌, subst, Result, Ok, Err, inr}
 use Rattle.std.specs.Option.{option_map}
 use Rattle.std.specs.Map.{lookup}
 use Rattle.smo_ops_types.specs.Changes.{PlainChange}
@@ -19,7 +19,7 @@ use Rattle.sessions.specs.Steps.{a_world, committed, command_at, changes_so_far}
 use Rattle.sessions.specs.Steps.{changes_fault, commit_fault, fault_of_command}
 use Rattle.sessions.specs.Steps.{commit_answer, command_answer, shared_after}
 use Rattle.sessions.specs.Vaults.{Commits}
-use Rattle.sessions.specs.Serving.{ServesCommit, ComesToVault}
+use Rattle.sessions.specs.Serving.{ServesCommit, ComesToVault, GivesCommand, GivesVault}
 use Rattle.sessions.proofs.Keyed.{option_map-cond}
 
 -- a session's transaction is gone
@@ -79,3 +79,14 @@ module _ (needs : PlainCommand → ℕ) (shared : Shared) (stamp : ℕ) where
       e,
       subst shows (sym (some_shared (changes_so_far (it.transaction s)) comes.some)) h.2,
     )
+
+-- a fault of the vault's is one of the call's
+pub gives_fault : {V : Type 0}
+    (commits : V → PlainCommand → Result VaultDone VaultFault → V → Type 0) (old new : V)
+    (stamp : ℕ) (changes : List PlainChange) (e : VaultFault)
+    → GivesCommand commits old stamp changes (Err e) new
+    → GivesVault commits old stamp changes (Err e) new
+gives_fault commits old new stamp changes (fault.Refused r) h = inr h
+gives_fault commits old new stamp changes fault.NoMemory h = inr h
+gives_fault commits old new stamp changes fault.Broken h = h
+gives_fault commits old new stamp changes fault.Disk h = h

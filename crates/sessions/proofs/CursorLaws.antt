@@ -17,8 +17,10 @@ use Rattle.smo_ops_spec.specs.OneRow.{Row}
 use Rattle.smo_ops_spec.specs.Checks.{Fault}
 use Rattle.sessions.specs.SessionStates.{PlainCursor, a_cursor, CursorKey, is_cursor, cursor_of}
 use Rattle.sessions.specs.SessionStates.{advanced}
-use Rattle.sessions.specs.Steps.{World, beginning, buffering, committing, aborting, opening}
-use Rattle.sessions.specs.Steps.{fetching, closing, fault_of, world_then, cursor_fault}
+use Rattle.sessions.specs.Requests.{beginning, buffering, committing, aborting, opening, fetching}
+use Rattle.sessions.specs.Requests.{closing}
+use Rattle.sessions.specs.Steps.{World}
+use Rattle.sessions.specs.Steps.{fault_of, world_then, cursor_fault}
 use Rattle.sessions.specs.Steps.{with_fetched}
 use Rattle.sessions.specs.Steps.{a_world, open_fault, cursor_on, fetch_answer, fetched}
 use Rattle.sessions.specs.Runs.{Step, asked, elsewhere, after, after_all, given_at, given}

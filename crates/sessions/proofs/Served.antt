@@ -17,7 +17,8 @@ use Rattle.sessions.specs.Lines.{IsNoCursor}
 use Rattle.sessions.specs.Shared.{Shared}
 use Rattle.sessions.specs.SessionStates.{PlainCursor, a_cursor, PlainSessions, cursor_of}
 use Rattle.sessions.specs.SessionStates.{with_opened}
-use Rattle.sessions.specs.Steps.{Answer, a_world, opening, fetching, closing, opened, cursor_fault}
+use Rattle.sessions.specs.Requests.{opening, fetching, closing}
+use Rattle.sessions.specs.Steps.{Answer, a_world, opened, cursor_fault}
 use Rattle.sessions.specs.Steps.{open_fault, tells_periods}
 use Rattle.sessions.specs.Vaults.{IsListed}
 use Rattle.sessions.specs.Serving.{Serves}

@@ -13,9 +13,10 @@ use Rattle.smo_ops_spec.specs.Checks.{Fault}
 use Rattle.sessions.specs.Shared.{newest}
 use Rattle.sessions.specs.SessionStates.{PlainTransaction, a_transaction, PlainCursor}
 use Rattle.sessions.specs.SessionStates.{PlainSessions}
-use Rattle.sessions.specs.Steps.{World, Request, beginning, buffering, committing, aborting}
-use Rattle.sessions.specs.Steps.{opening}
-use Rattle.sessions.specs.Steps.{fetching, closing, fault_of, world_then, a_world, with_fetched}
+use Rattle.sessions.specs.Requests.{Request, beginning, buffering, committing, aborting, opening}
+use Rattle.sessions.specs.Requests.{fetching, closing}
+use Rattle.sessions.specs.Steps.{World}
+use Rattle.sessions.specs.Steps.{fault_of, world_then, a_world, with_fetched}
 use Rattle.sessions.specs.Steps.{begin_fault, buffered_in, changes_fault, commit_fault}
 use Rattle.sessions.specs.Steps.{commit_answer, changes_so_far, shared_after}
 use Rattle.sessions.specs.Runs.{shared_unless}

@@ -10,7 +10,8 @@ use Rattle.sessions.specs.declared.vault.KeptRow.{KeptRow}
 use Rattle.sessions.specs.Kept.{kept_entries}
 use Rattle.sessions.specs.SessionStates.{CursorKey, PlainCursor, advanced, PlainSessions, cursor_of}
 use Rattle.sessions.specs.Meaning.{plain_cursor}
-use Rattle.sessions.specs.Steps.{Answer, fetched, a_world, fetching, fault_of, answer_of}
+use Rattle.sessions.specs.Requests.{fetching}
+use Rattle.sessions.specs.Steps.{Answer, fetched, a_world, fault_of, answer_of}
 use Rattle.sessions.specs.Steps.{sessions_after}
 
 -- the cursor at a place goes on from where it was, and the others stay

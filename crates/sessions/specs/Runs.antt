@@ -13,8 +13,9 @@ use Rattle.temporal_lang_spec.specs.Answers.{answer}
 use Rattle.prima_base.specs.declared.refusal.Refusal.TheVariants.{SchemaMoved}
 use Rattle.sessions.specs.Shared.{Shared, newest}
 use Rattle.sessions.specs.SessionStates.{PlainCursor, cursor_of, next_entries}
-use Rattle.sessions.specs.Steps.{Request, beginning, buffering, committing, aborting, opening}
-use Rattle.sessions.specs.Steps.{fetching, closing, fetched, World, a_world, fault_of}
+use Rattle.sessions.specs.Requests.{Request, beginning, buffering, committing, aborting, opening}
+use Rattle.sessions.specs.Requests.{fetching, closing}
+use Rattle.sessions.specs.Steps.{fetched, World, a_world, fault_of}
 use Rattle.sessions.specs.Steps.{answer_of, world_then, tells_periods, changes_fault, commit_answer}
 use Rattle.sessions.specs.Steps.{shared_after}
 

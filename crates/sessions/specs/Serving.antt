@@ -1,13 +1,14 @@
 -- What a call of sessions answers, and what they have after it.
-use Rattle.std.specs.Prelude.{◌≡◌, ℕ, ◌⊎◌, Option, Some, None, Result, Ok, Err}
-use Rattle.std.specs.Prelude.{[], ⊤}
+use Rattle.std.specs.Prelude.{◌≡◌, ℕ, ◌⊎◌, List, [], Option, Some, None, Result, Ok, Err, ⊤}
+use Rattle.smo_ops_types.specs.Changes.{PlainChange}
 use Rattle.smo_ops_types.specs.Commands.{PlainCommand, command_of}
 use Rattle.sessions.specs.declared.vault.VaultDone.{VaultDone}
 use Rattle.sessions.specs.declared.vault.VaultFault.{VaultFault}
 use Rattle.sessions.specs.declared.vault.VaultFault.TheVariants as fault
 use Rattle.sessions.specs.Shared.{Shared}
 use Rattle.sessions.specs.SessionStates.{PlainTransaction, PlainSessions}
-use Rattle.sessions.specs.Steps.{Request, committing, Answer, committed, committed_nothing, World}
+use Rattle.sessions.specs.Requests.{Request, committing}
+use Rattle.sessions.specs.Steps.{Answer, committed, committed_nothing, World}
 use Rattle.sessions.specs.Steps.{fault_of, answer_of, sessions_after, shared_then}
 use Rattle.sessions.specs.Steps.{command_at, changes_so_far, schema_fault}
 use Rattle.smo_ops_types.specs.declared.command.Body.{Body}
@@ -62,15 +63,32 @@ IsCommandOf s stamp now t (Err fault.NoMemory) = ⊤
 IsCommandOf s stamp now t (Err fault.Broken) = ⊥
 IsCommandOf s stamp now t (Err fault.Disk) = ⊥
 
--- what became of the vault: it is as it was, or was given the one command of all changes
+-- it is a refusal, or memory ran out: no disk was called
+abbrev pub IsNoDisks : VaultFault → Type 0
+IsNoDisks (fault.Refused r) = ⊤
+IsNoDisks fault.NoMemory = ⊤
+IsNoDisks fault.Broken = ⊥
+IsNoDisks fault.Disk = ⊥
+
+-- the vault was given the one command of all changes, of which there is one at least
+abbrev pub GivesCommand : {V : Type 0}
+    → (V → PlainCommand → Result VaultDone VaultFault → V → Type 0) → V → ℕ → List PlainChange
+    → Result VaultDone VaultFault → V → Type 0
+GivesCommand commits old stamp changes result new = (changes ≡ [] → ⊥)
+    × commits old (command_at stamp changes) result new
+
+-- what became of the vault: it is as it was, or was given that command
 abbrev pub GivesVault : {V : Type 0}
-    → (V → PlainCommand → Result VaultDone VaultFault → V → Type 0) → V → PlainCommand
+    → (V → PlainCommand → Result VaultDone VaultFault → V → Type 0) → V → ℕ → List PlainChange
     → Result (Option VaultDone) VaultFault → V → Type 0
-GivesVault commits old command (Ok (Some done)) new = commits old command (Ok done) new
-GivesVault commits old command (Ok None) new = new ≡ old
-GivesVault commits old command (Err fault.Disk) new = commits old command (Err fault.Disk) new
-GivesVault commits old command (Err fault.Broken) new = commits old command (Err fault.Broken) new
-GivesVault commits old command (Err (fault.Refused r)) new = (new ≡ old)
-    ⊎ commits old command (Err (fault.Refused r)) new
-GivesVault commits old command (Err fault.NoMemory) new = (new ≡ old)
-    ⊎ commits old command (Err fault.NoMemory) new
+GivesVault commits old stamp changes (Ok (Some done)) new =
+    GivesCommand commits old stamp changes (Ok done) new
+GivesVault commits old stamp changes (Ok None) new = (changes ≡ []) × (new ≡ old)
+GivesVault commits old stamp changes (Err fault.Disk) new =
+    GivesCommand commits old stamp changes (Err fault.Disk) new
+GivesVault commits old stamp changes (Err fault.Broken) new =
+    GivesCommand commits old stamp changes (Err fault.Broken) new
+GivesVault commits old stamp changes (Err (fault.Refused r)) new = (new ≡ old)
+    ⊎ GivesCommand commits old stamp changes (Err (fault.Refused r)) new
+GivesVault commits old stamp changes (Err fault.NoMemory) new = (new ≡ old)
+    ⊎ GivesCommand commits old stamp changes (Err fault.NoMemory) new

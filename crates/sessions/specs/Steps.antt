@@ -21,22 +21,12 @@ use Rattle.temporal_lang_types.specs.declared.when.When.TheVariants.{Always, AsO
 use Rattle.temporal_lang_types.specs.Queries.{PlainQuery}
 use Rattle.temporal_lang_spec.specs.Accepted.{fault_of_query}
 use Rattle.temporal_lang_spec.specs.Answers.{answer}
+use Rattle.sessions.specs.Requests.{Request, beginning, buffering, committing, aborting, opening}
+use Rattle.sessions.specs.Requests.{fetching, closing}
 use Rattle.sessions.specs.Shared.{Shared, newest, shared_with}
 use Rattle.sessions.specs.SessionStates.{PlainTransaction, a_transaction, PlainCursor, a_cursor}
 use Rattle.sessions.specs.SessionStates.{PlainSessions, with_transaction, cursor_of, with_opened}
 use Rattle.sessions.specs.SessionStates.{with_cursor, with_closed, next_entries, advanced}
-
-pub data Request : Type 0 where
-  beginning : Request
-  buffering : List PlainChange → Request
-  -- at this stamp
-  committing : ℕ → Request
-  aborting : Request
-  -- the cursor's name, and what is asked
-  opening : List ℕ → PlainQuery → Request
-  -- the cursor's name, and how many entries
-  fetching : List ℕ → ℕ → Request
-  closing : List ℕ → Request
 
 -- what a request that is not refused is answered
 pub data Answer : Type 0 where

@@ -8,11 +8,13 @@
 
 mod cursor;
 mod laws;
+mod request;
 mod session;
 mod transaction;
 mod vault;
 
 pub use cursor::CursorLine;
 pub use laws::{cursors_keep_their_answers, only_commits_change, transactions_are_whole};
+pub use request::SessionRequest;
 pub use session::Sessions;
 pub use vault::{KeptRow, Vault, VaultDone, VaultFault};

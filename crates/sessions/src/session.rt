@@ -1,4 +1,5 @@
-ghost use Rattle.std.specs.Prelude.{◌≡◌, ◌<◌, ◌↔◌, ◌⊎◌, ℕ, true, IfOk, OnOk, Some, None, Ok, Err};
+ghost use Rattle.std.specs.Prelude.{◌≡◌, ◌<◌, ◌↔◌, ◌⊎◌, ℕ, true, IfOk, IfErr, OnOk, Some, None};
+ghost use Rattle.std.specs.Prelude.{Ok, Err};
 ghost use Rattle.std.specs.Prelude.{position, length, slice_get, take, drop, IfSome, ◌≤◌};
 ghost use Rattle.std.specs.Map.{keys_of};
 ghost use Rattle.std.specs.Option.{option_map};
@@ -12,12 +13,13 @@ ghost use Rattle.sessions.specs.Shared.{Shared, newest};
 ghost use Rattle.sessions.specs.SessionStates.{no_sessions, is_cursor, cursor_of};
 ghost use Rattle.sessions.specs.Kept.{kept_entries};
 ghost use Rattle.sessions.specs.Meaning.{sessions_of};
-ghost use Rattle.sessions.specs.Steps.{a_world, beginning, buffering, committing, aborting};
-ghost use Rattle.sessions.specs.Steps.{opening};
-ghost use Rattle.sessions.specs.Steps.{fetching, closing, begun, buffered, aborted, opened, closed};
-ghost use Rattle.sessions.specs.Steps.{command_at, changes_so_far};
+ghost use Rattle.sessions.specs.Requests.{beginning, buffering, committing, aborting, opening};
+ghost use Rattle.sessions.specs.Requests.{fetching, closing};
+ghost use Rattle.sessions.specs.Steps.{a_world};
+ghost use Rattle.sessions.specs.Steps.{begun, buffered, aborted, opened, closed};
+ghost use Rattle.sessions.specs.Steps.{changes_so_far};
 ghost use Rattle.sessions.specs.Serving.{Serves, ServesCommit, ComesToVault, GivesVault};
-ghost use Rattle.sessions.specs.Serving.{IsCommandOf};
+ghost use Rattle.sessions.specs.Serving.{IsCommandOf, IsNoDisks};
 ghost use Rattle.sessions.specs.Lines.{line_of, line_seen, IsNoCursor};
 
 use crate::cursor::{Cursor, CursorLine, next_rows};
@@ -64,6 +66,7 @@ impl Sessions {
         ensures serves { (shared : Shared) → V.shows vault.now shared
             → Serves V.needs begun (a_world shared (sessions_of self.old)) session beginning result
             (sessions_of self.new) }
+        ensures no_disk { IfErr result IsNoDisks }
     {
         if self.transactions.contains_key(&session) {
             return Err(VaultFault::Refused(Refusal::Begun(session)));
@@ -81,6 +84,7 @@ impl Sessions {
         ensures serves { (needs : PlainCommand → ℕ) → (shared : Shared)
             → Serves needs buffered (a_world shared (sessions_of self.old)) session
             (buffering (changes_of changes.items)) result (sessions_of self.new) }
+        ensures no_disk { IfErr result IsNoDisks }
     {
         match self.transactions.get_mut(&session) {
             None => Err(VaultFault::Refused(Refusal::NotBegun(session))),
@@ -95,6 +99,7 @@ impl Sessions {
             → Serves needs (λ _. aborted) (a_world shared (sessions_of self.old)) session aborting
             result (sessions_of self.new) }
         ensures no_memory { result ≡ Err fault.NoMemory → ⊥ }
+        ensures no_disk { IfErr result IsNoDisks }
     {
         match self.transactions.shift_remove(&session) {
             None => Err(VaultFault::Refused(Refusal::NotBegun(session))),
@@ -154,9 +159,9 @@ impl Sessions {
         ensures cause { result ≡ Err fault.Disk → Rose (V.faults vault.old) (V.faults vault.new) }
         ensures unfailed { (result ≡ Err fault.Disk → ⊥)
             → V.faults vault.new ≡ V.faults vault.old }
-        ensures gives { GivesVault V.commits vault.old
-            (command_at stamp (changes_so_far ((sessions_of self.old).transaction session))) result
-            vault.new }
+        ensures broken_before { result ≡ Err fault.Broken → V.is_broken vault.old ≡ true }
+        ensures gives { GivesVault V.commits vault.old stamp
+            (changes_so_far ((sessions_of self.old).transaction session)) result vault.new }
     {
         let newest = vault.newest();
         match self.command_of(session, stamp, newest)? {
@@ -194,6 +199,7 @@ impl Sessions {
         ensures serves { (shared : Shared) → V.shows vault.now shared
             → Serves V.needs opened (a_world shared (sessions_of self.old)) session
             (opening cursor (query_of query.now)) result (sessions_of self.new) }
+        ensures no_disk { IfErr result IsNoDisks }
     {
         if self.place_of(session, &cursor).is_some() {
             return Err(VaultFault::Refused(Refusal::CursorOpen(session, cursor)));
@@ -264,6 +270,7 @@ impl Sessions {
             (closing cursor.now) result (sessions_of self.new) }
         ensures no_memory { result ≡ Err fault.NoMemory
             → cursor_of (sessions_of self.old) session cursor.now ≡ None }
+        ensures no_disk { IfErr result IsNoDisks }
     {
         match self.place_of(session, cursor) {
             None => Err(no_cursor(session, cursor)),

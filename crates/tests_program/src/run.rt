@@ -129,6 +129,34 @@ fn after_a_long_statement(rt: HostRuntime) -> Result<(), Fail> {
     Ok(())
 }
 
+// A transaction to which so many changes are added at once, by two statements.
+fn many_changes(alloc: Global, each: usize) -> Result<Vec<u8>, AllocError> {
+    let mut script = Vec::from_slice(
+        alloc,
+        b"AT 1 EVOLVE CREATE TABLE t (a INT); AT 2 INSERT INTO t (a) VALUES (1); SESSION 1 BEGIN;",
+    )?;
+    for _ in 0..2usize {
+        script.extend_from_slice(b"SESSION 1 DO DELETE FROM t")?;
+        for _ in 1..each {
+            script.extend_from_slice(b" THEN DELETE FROM t")?;
+        }
+        script.push(b';')?;
+    }
+    Ok(script)
+}
+
+// As many changes as a command may have, and one more.
+#[test]
+fn the_most_changes_of_a_transaction(rt: HostRuntime) -> Result<(), Fail> {
+    let alloc = rt.alloc();
+    let mut script = many_changes(alloc, 32_768)?;
+    script.extend_from_slice(b"SESSION 1 DO DELETE FROM t; SESSION 1 COMMIT AT 3;")?;
+    let replies = b"ok 1 version 1\nok 2 +1 -0\nok begin 1\nok buffered 32768\nok buffered 65536\n\
+            error 38 changes 65536\nok 3 +0 -1\n";
+    expect_run(&rt, alloc, &script, 65536, Status::Refused, replies)?;
+    Ok(())
+}
+
 #[test]
 fn sure_ends_never_fail(rt: HostRuntime) -> Result<(), Fail> {
     let alloc = rt.alloc();

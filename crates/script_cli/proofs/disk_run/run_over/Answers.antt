@@ -44,7 +44,7 @@ returns-in-Ok-clause-runs g c =
     c.in-Ok.archive has in
     let ran_script = c.drive-driven.ensures.ran_script (given_by c.args.limit
     (book_of g.R.Rule.handles g.R.Rule.answers c.args.book.now.rules.items))
-    refl start.0 start.1 in
+    refl start.0 start.1 start.3 in
     let new = c.drive-driven.new.archive in
     subst (λ d. RunsOver (given_by c.args.limit
     (book_of g.R.Rule.handles g.R.Rule.answers c.args.book.now.rules.items))
@@ -55,7 +55,7 @@ returns-in-Ok-clause-runs g c =
     (M d)) (sym c.into_disk.ensures)
     (inr (ran_opened c.a_file_opens_or_is_damaged.ensures.one (M c.args.disk) c.args.limit
     (book_of g.R.Rule.handles g.R.Rule.answers c.args.book.now.rules.items)
-    c.in-Ok.archive has start.0 start.2 c.drive-driven.result.status _ _ _ _ (below new)
+    c.in-Ok.archive has start.0 start.2 start.3 c.drive-driven.result.status _ _ _ _ (below new)
     (g.met.D.Disk.valid new.journal.disk) ran_script))
 
 pub returns-in-Ok-clause-goes : goal.returns-in-Ok-clause-goes
@@ -67,7 +67,7 @@ returns-in-Ok-clause-goes g c =
     c.in-Ok.archive has in
     let ran_script = c.drive-driven.ensures.ran_script (given_by c.args.limit
     (book_of g.R.Rule.handles g.R.Rule.answers c.args.book.now.rules.items))
-    refl start.0 start.1 in
+    refl start.0 start.1 start.3 in
     let new = c.drive-driven.new.archive in
     subst (λ d. GoesOn (M c.args.disk) (M d)) (sym c.into_disk.ensures)
     (goes_trans (M c.args.disk) (below c.in-Ok.archive) (below new) has.goes

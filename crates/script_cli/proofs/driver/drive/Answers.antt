@@ -30,10 +30,16 @@ nothing_taken (Some bytes) = refl
 pub turns-init : goal.turns-init
 turns-init g c =
     let fresh = c.new-script_run.ensures in record {
-      reached = λ limit same start represents. reach_start limit start c.args.archive.now _ _
+      reached = λ limit same start represents unbegun.
+          reach_start limit start c.args.archive.now _ _
           c.new-script_run.result (g.met.D.Disk.valid c.args.archive.now.journal.disk)
-          (record { splitter = fresh.splitter; refused = fresh.refused; puts = fresh.puts })
-          represents
+          (record {
+            splitter = fresh.splitter;
+            sessions = fresh.sessions;
+            refused = fresh.refused;
+            puts = fresh.puts;
+          })
+          represents unbegun
           (nothing_taken _);
       ready = ap (λ s. s.spent) fresh.splitter;
       takes = c.requires.takes;
@@ -44,22 +50,24 @@ turns-init g c =
     }
 
 pub returns-in-Err-clause-ran_script : goal.returns-in-Err-clause-ran_script
-returns-in-Err-clause-ran_script g c = λ limit same start represents.
+returns-in-Err-clause-ran_script g c = λ limit same start represents unbegun.
     drove_read limit start c.args.archive.now c.turns.archive
-    (c.turns.invariant.reached limit same start represents) c.turns.invariant.within
+    (c.turns.invariant.reached limit same start represents
+    unbegun) c.turns.invariant.within
     c.in-Err.ensures.bytes
 
 pub returns-then-taken-eq0-clause-ran_script : goal.returns-then-taken-eq0-clause-ran_script
-returns-then-taken-eq0-clause-ran_script g c = λ limit same start represents.
+returns-then-taken-eq0-clause-ran_script g c = λ limit same start represents unbegun.
     drove_end limit start c.args.archive.now c.turns.archive
-    (c.turns.invariant.reached limit same start represents) c.turns.invariant.within
+    (c.turns.invariant.reached limit same start represents
+    unbegun) c.turns.invariant.within
     (none_taken _ _ c.take_some.new.chunk _ c.if-taken-eq0.true c.in-Ok.ensures.bytes.0)
     (c.in-Ok.ensures.bytes.1 c.if-taken-eq0.true) c.finish-status.result
     c.finish-status.ensures.ends
 
 pub returns-then-count-eq-SCRIPT_LIMIT-clause-ran_script :
     goal.returns-then-count-eq-SCRIPT_LIMIT-clause-ran_script
-returns-then-count-eq-SCRIPT_LIMIT-clause-ran_script g c = λ limit same start represents.
+returns-then-count-eq-SCRIPT_LIMIT-clause-ran_script g c = λ limit same start represents unbegun.
     let l : length c.take_some.new.chunk ≡ 4096 = grind arith in
     let one : c.in-Ok.taken ≡ 1 = omega (
       arith,
@@ -67,17 +75,19 @@ returns-then-count-eq-SCRIPT_LIMIT-clause-ran_script g c = λ limit same start r
       c.room_for-room.ensures.last,
     ) in
     drove_limit limit start c.args.archive.now c.turns.archive
-    (c.turns.invariant.reached limit same start represents)
+    (c.turns.invariant.reached limit same start represents
+    unbegun)
     (take c.in-Ok.taken c.take_some.new.chunk) c.in-Ok.ensures.bytes.0
     c.if-count-eq-SCRIPT_LIMIT.true
     (prefix_length c.take_some.new.chunk c.in-Ok.taken (omega arith) ∙ one)
 
 pub returns-then-taken-eq0-clause-counted : goal.returns-then-taken-eq0-clause-counted
-returns-then-taken-eq0-clause-counted g c = λ limit same start represents.
+returns-then-taken-eq0-clause-counted g c = λ limit same start represents unbegun.
     subst (λ n. CountsPuts c.finish-status.result limit start (g.S.Source.left c.args.source.now) n)
     (sym c.puts-puts.ensures)
     (counts_at_end limit start c.args.archive.now c.turns.archive _ _ _ _ _ c.turns.script_run
-    c.turns.count c.finish-status.result (c.turns.invariant.reached limit same start represents)
+    c.turns.count c.finish-status.result (c.turns.invariant.reached limit same start represents
+    unbegun)
     (none_taken _ _ c.take_some.new.chunk _ c.if-taken-eq0.true c.in-Ok.ensures.bytes.0)
     (c.in-Ok.ensures.bytes.1 c.if-taken-eq0.true))
 
@@ -86,8 +96,10 @@ turns-preserved g c =
     let l : length c.take_some.new.chunk ≡ 4096 = grind arith in
     let n : c.in-Ok.taken ≤ length c.take_some.new.chunk = omega (arith, c.in-Ok.ensures.bound) in
     record {
-      reached = λ limit same start represents. reach limit start c.args.archive.now c.turns.archive
-          c.feed.new.archive (c.turns.invariant.reached limit same start represents)
+      reached = λ limit same start represents unbegun.
+          reach limit start c.args.archive.now c.turns.archive
+          c.feed.new.archive (c.turns.invariant.reached limit same start represents
+          unbegun)
           (take c.in-Ok.taken c.take_some.new.chunk) _ _ c.in-Ok.ensures.bytes.0
           (ap (λ k. c.turns.count + k) (sym (prefix_length c.take_some.new.chunk c.in-Ok.taken n)))
           (c.in-Ok-feed.ensures.fed limit same);
@@ -143,7 +155,7 @@ returns-then-count-eq-SCRIPT_LIMIT-clause-disk g c = c.turns.invariant.disk
 -- ---- a run that stopped
 
 pub returns-in-Err-feed-clause-ran_script : goal.returns-in-Err-feed-clause-ran_script
-returns-in-Err-feed-clause-ran_script g c = λ limit same start represents.
+returns-in-Err-feed-clause-ran_script g c = λ limit same start represents unbegun.
     let l : length c.take_some.new.chunk ≡ 4096 = grind arith in
     let n : length (take c.in-Ok.taken c.take_some.new.chunk) ≡ c.in-Ok.taken =
     prefix_length c.take_some.new.chunk c.in-Ok.taken (omega (arith, c.in-Ok.ensures.bound)) in
@@ -155,7 +167,8 @@ returns-in-Err-feed-clause-ran_script g c = λ limit same start represents.
     (below c.args.archive.now) (below c.feed.new.archive) (place_of c.args.archive.now))
     (sym c.status_of.ensures)
     (ran_stopped limit start c.args.archive.now c.turns.archive c.feed.new.archive
-    c.in-Err-feed.reason (c.turns.invariant.reached limit same start represents)
+    c.in-Err-feed.reason (c.turns.invariant.reached limit same start represents
+    unbegun)
     (take c.in-Ok.taken c.take_some.new.chunk)
     (g.met.D.Disk.valid c.feed.new.archive.journal.disk) within c.in-Ok.ensures.bytes.0
     (c.in-Err-feed.ensures.halted limit same))
@@ -187,6 +200,6 @@ returns-in-Err-feed-clause-disk g c =
     c.turns.invariant.disk c.in-Err-feed.ensures.counts)
 
 pub returns-in-Err-feed-clause-counted : goal.returns-in-Err-feed-clause-counted
-returns-in-Err-feed-clause-counted g c = λ limit same start represents.
+returns-in-Err-feed-clause-counted g c = λ limit same start represents unbegun.
     subst (λ s. CountsPuts s limit start (g.S.Source.left c.args.source.now) c.puts-puts.result)
     (sym c.status_of.ensures) (counts_stopped c.in-Err-feed.reason limit start _ _)

@@ -17,6 +17,8 @@ use Rattle.script_cli.specs.declared.status.Status.TheVariants.{NotAJournal, Wor
 use Rattle.script_cli.proofs.ValidPasts.{of_script, still_made}
 use Rattle.script_cli_statement.proofs.ExplainedQueries.{tells_pieces}
 use Rattle.script_cli_statement.proofs.Errors.{error_told}
+use Rattle.script_cli_vault.specs.Shown.{need_of}
+use Rattle.script_cli.proofs.SessionStatements.{statements_are_steps}
 use Rattle.script_cli.proofs.Recording.{recorded_is, put_sound, put_accepted, still_sound}
 use Rattle.script_cli.proofs.OnDisks.{sound_opens}
 use Rattle.script_cli.proofs.Answered.{answered_over, answered_untouched}
@@ -278,5 +280,9 @@ returns-clause-laws g c = record {
       (still_made c.an_image_shows_a_past.ensures.past limit opening statements are history)
       (c.an_accepted_query_asks_questions.ensures.found
       (recorded_after limit (recorded opening) statements).past query accepted) from to;
+  steps = statements_are_steps;
+  cursors = c.cursors_keep_their_answers.ensures need_of;
+  transactions = c.transactions_are_whole.ensures need_of;
+  commits = c.only_commits_change.ensures need_of;
   errors = error_told;
 }

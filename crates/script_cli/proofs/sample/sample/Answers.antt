@@ -11,7 +11,7 @@ use Rattle.script_cli.proofs.SampleDriven.{told_by_reason, sample_stops, sample_
 use Rattle.script_cli.proofs.sample.sample.Goals as goal
 
 pub returns-then-not-is_whole-clause-ran_script : goal.returns-then-not-is_whole-clause-ran_script
-returns-then-not-is_whole-clause-ran_script g c = λ limit same start represents.
+returns-then-not-is_whole-clause-ran_script g c = λ limit same start represents unbegun.
     let a = c.args.archive.now in
     let d = c.drive-driven in
     let u = g.K.Sink.written c.args.sink.now in
@@ -19,10 +19,10 @@ returns-then-not-is_whole-clause-ran_script g c = λ limit same start represents
     c.stop_of.result u u d.result.status (left_of c.new-source.result)
     (Some (left_of d.new.source)) (kept_by c.new-kept.result) (kept_by d.new.sink)
     (below a) (below d.new.archive) (place_of a) c.new-source.ensures.left c.new-kept.ensures.kept
-    (d.ensures.ran_script limit same start represents) c.stop_of.ensures refl
+    (d.ensures.ran_script limit same start represents unbegun) c.stop_of.ensures refl
 
 pub returns-in-Ok-clause-ran_script : goal.returns-in-Ok-clause-ran_script
-returns-in-Ok-clause-ran_script g c = λ limit same start represents.
+returns-in-Ok-clause-ran_script g c = λ limit same start represents unbegun.
     let a = c.args.archive.now in
     let d = c.drive-driven in
     let u = g.K.Sink.written c.args.sink.now in
@@ -32,12 +32,12 @@ returns-in-Ok-clause-ran_script g c = λ limit same start represents.
     u w d.result.status (left_of c.new-source.result) (Some (left_of d.new.source))
     (kept_by c.new-kept.result) (kept_by d.new.sink)
     (below a) (below d.new.archive) (place_of a) c.new-source.ensures.left c.new-kept.ensures.kept
-    (d.ensures.ran_script limit same start represents)
-    d.result.puts c.bytes.result.now whole (d.ensures.counted limit same start represents)
+    (d.ensures.ran_script limit same start represents unbegun)
+    d.result.puts c.bytes.result.now whole (d.ensures.counted limit same start represents unbegun)
     c.bytes.ensures (inl (refl, c.in-Ok.ensures.told))
 
 pub returns-clause-ran_script : goal.returns-clause-ran_script
-returns-clause-ran_script g c = λ limit same start represents.
+returns-clause-ran_script g c = λ limit same start represents unbegun.
     let a = c.args.archive.now in
     let d = c.drive-driven in
     let u = g.K.Sink.written c.args.sink.now in
@@ -48,8 +48,8 @@ returns-clause-ran_script g c = λ limit same start represents.
     c.status_of.result u w d.result.status (left_of c.new-source.result)
     (Some (left_of d.new.source)) (kept_by c.new-kept.result) (kept_by d.new.sink)
     (below a) (below d.new.archive) (place_of a) c.new-source.ensures.left c.new-kept.ensures.kept
-    (d.ensures.ran_script limit same start represents)
-    d.result.puts c.bytes.result.now whole (d.ensures.counted limit same start represents)
+    (d.ensures.ran_script limit same start represents unbegun)
+    d.result.puts c.bytes.result.now whole (d.ensures.counted limit same start represents unbegun)
     c.bytes.ensures
     (subst (λ s. ToldBy d.result.status s text u w) (sym c.status_of.ensures)
     (told_by_reason d.result.status c.in-Err.reason text u w c.in-Err.ensures.told))

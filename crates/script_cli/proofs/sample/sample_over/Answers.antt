@@ -47,16 +47,18 @@ returns-in-Ok-clause-samples g c = λ left.
     c.in-Ok.archive has in
     let it = c.sample-status.ensures.ran_script (given_by c.args.limit
     (book_of g.R.Rule.handles g.R.Rule.answers c.args.book.now.rules.items))
-    refl start.0 start.1 in
+    refl start.0 start.1 start.3 in
     let new = c.sample-status.new.archive in
     let law = g.met.D.Disk.valid new.journal.disk in
     let ran = ran_opened c.a_file_opens_or_is_damaged.ensures.one (M c.args.disk) c.args.limit
     (book_of g.R.Rule.handles g.R.Rule.answers c.args.book.now.rules.items)
-    c.in-Ok.archive has start.0 start.2 it.driven (Some script) it.left (Some []) (Some it.kept)
+    c.in-Ok.archive has start.0 start.2 start.3 it.driven (Some script) it.left (Some [])
+    (Some it.kept)
     (below new) law it.ran_script in
     let from = ran_opened_start c.a_file_opens_or_is_damaged.ensures.one (M c.args.disk)
     c.args.limit (book_of g.R.Rule.handles g.R.Rule.answers c.args.book.now.rules.items)
-    c.in-Ok.archive has start.0 start.2 it.driven (Some script) it.left (Some []) (Some it.kept)
+    c.in-Ok.archive has start.0 start.2 start.3 it.driven (Some script) it.left (Some [])
+    (Some it.kept)
     (below new) law it.ran_script in
     subst (λ d. SamplesOver c.args.size (given_by c.args.limit
     (book_of g.R.Rule.handles g.R.Rule.answers c.args.book.now.rules.items))
@@ -79,7 +81,7 @@ returns-in-Ok-clause-goes g c =
     c.in-Ok.archive has in
     let it = c.sample-status.ensures.ran_script (given_by c.args.limit
     (book_of g.R.Rule.handles g.R.Rule.answers c.args.book.now.rules.items))
-    refl start.0 start.1 in
+    refl start.0 start.1 start.3 in
     let new = c.sample-status.new.archive in
     subst (λ d. GoesOn (M c.args.disk) (M d)) (sym c.into_disk.ensures)
     (goes_trans (M c.args.disk) (below c.in-Ok.archive) (below new) has.goes

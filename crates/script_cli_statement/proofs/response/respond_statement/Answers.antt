@@ -1,9 +1,10 @@
-use Rattle.std.proofs.Common.{◌≡◌, refl, sym, subst, List, ℕ, []}
-use Rattle.std.specs.Prelude.{Some, None}
+use Rattle.std.proofs.Common.{◌≡◌, refl, sym, subst, ◌∙◌, List, ℕ, []}
+use Rattle.std.specs.Prelude.{Some, None, OnOk}
 use Rattle.smo_ops_spec.specs.Checks.{Fault}
 use Rattle.piece_ir_spec.specs.Rules.{Book}
 use Rattle.temporal_lang_types.specs.Queries.{query_of}
 use Rattle.temporal_lang_spec.specs.Accepted.{version_fault, fault_of_query}
+use Rattle.sessions.specs.Meaning.{sessions_of}
 use Rattle.script_parse.specs.Statements.{statement_of}
 use Rattle.script_cli_statement.specs.Replies.{Recorded, query_reply, explain_reply, versions_reply}
 use Rattle.script_cli_statement.specs.Replies.{schema_reply, sizes_reply, statement_reply}
@@ -13,6 +14,8 @@ use Rattle.temporal_lang_spec.specs.AggregateFaults.{fault_of_aggregate}
 use Rattle.script_cli_statement.specs.Replies.{refused_or}
 use Rattle.script_cli_statement.specs.Replies.{answered}
 use Rattle.script_cli_statement.specs.Responses.{Says, Responds}
+use Rattle.script_cli_statement.specs.Replies.{cursors_reply}
+use Rattle.script_cli_statement.proofs.SessionSteps.{IsOfNoSession, others_same}
 use Rattle.script_cli_statement.proofs.Responding.{says_responds, reason_said, on_ok}
 use Rattle.script_cli_statement.proofs.response.respond_statement.Goals as goal
 
@@ -27,7 +30,7 @@ same_after None now text = refl
 same_after (Some r) now text = refl
 
 pub returns-in-Ask-clause-replies : goal.returns-in-Ask-clause-replies
-returns-in-Ask-clause-replies g c = λ limit same now represents.
+returns-in-Ask-clause-replies g c = λ limit same now represents kept.
     let a = c.args.archive.now in
     let query = query_of c.in-Ask.query in
     subst (λ s. Responds limit (statement_reply limit (statement_of s) now) c.respond_ask.result a a
@@ -40,7 +43,7 @@ returns-in-Ask-clause-replies g c = λ limit same now represents.
     (c.respond_ask.ensures.says now represents.past))
 
 pub returns-in-Explain-clause-replies : goal.returns-in-Explain-clause-replies
-returns-in-Explain-clause-replies g c = λ limit same now represents.
+returns-in-Explain-clause-replies g c = λ limit same now represents kept.
     let a = c.args.archive.now in
     let query = query_of c.in-Explain.query in
     subst (λ s. Responds limit (statement_reply limit (statement_of s) now) c.respond_explain.result
@@ -55,7 +58,7 @@ returns-in-Explain-clause-replies g c = λ limit same now represents.
     (c.respond_explain.ensures.says now represents.past)))
 
 pub returns-in-Pairs-clause-replies : goal.returns-in-Pairs-clause-replies
-returns-in-Pairs-clause-replies g c = λ limit same now represents.
+returns-in-Pairs-clause-replies g c = λ limit same now represents kept.
     let a = c.args.archive.now in
     let left = query_of c.in-Pairs.left in
     let right = query_of c.in-Pairs.right in
@@ -69,7 +72,7 @@ returns-in-Pairs-clause-replies g c = λ limit same now represents.
     (c.respond_pairs.ensures.says now represents.past))
 
 pub returns-in-Aggregate-clause-replies : goal.returns-in-Aggregate-clause-replies
-returns-in-Aggregate-clause-replies g c = λ limit same now represents.
+returns-in-Aggregate-clause-replies g c = λ limit same now represents kept.
     let a = c.args.archive.now in
     let query = query_of c.in-Aggregate.query in
     let items = c.in-Aggregate.items.items in
@@ -84,7 +87,7 @@ returns-in-Aggregate-clause-replies g c = λ limit same now represents.
     (rw c.deref.ensures.value at (c.respond_aggregate.ensures.says now represents.past)))
 
 pub returns-in-ShowVersions-clause-replies : goal.returns-in-ShowVersions-clause-replies
-returns-in-ShowVersions-clause-replies g c = λ limit same now represents.
+returns-in-ShowVersions-clause-replies g c = λ limit same now represents kept.
     let a = c.args.archive.now in
     subst (λ s. Responds limit (statement_reply limit (statement_of s) now)
     c.respond_versions.result a a (g.K.Sink.written c.args.sink.now)
@@ -94,7 +97,7 @@ returns-in-ShowVersions-clause-replies g c = λ limit same now represents.
     (c.respond_versions.ensures.says now represents.past))
 
 pub returns-in-ShowSchema-clause-replies : goal.returns-in-ShowSchema-clause-replies
-returns-in-ShowSchema-clause-replies g c = λ limit same now represents.
+returns-in-ShowSchema-clause-replies g c = λ limit same now represents kept.
     let a = c.args.archive.now in
     let version = c.in-ShowSchema.version in
     subst (λ s. Responds limit (statement_reply limit (statement_of s) now) c.respond_schema.result
@@ -107,7 +110,7 @@ returns-in-ShowSchema-clause-replies g c = λ limit same now represents.
     (c.respond_schema.ensures.says now represents.past))
 
 pub returns-in-ShowSizes-clause-replies : goal.returns-in-ShowSizes-clause-replies
-returns-in-ShowSizes-clause-replies g c = λ limit same now represents.
+returns-in-ShowSizes-clause-replies g c = λ limit same now represents kept.
     let a = c.args.archive.now in
     subst (λ s. Responds limit (statement_reply limit (statement_of s) now) c.respond_sizes.result a
     a (g.K.Sink.written c.args.sink.now) (g.K.Sink.written c.respond_sizes.new.sink))
@@ -164,3 +167,107 @@ returns-in-Aggregate-clause-counts g c = reason_said c.respond_aggregate.result 
 
 pub returns-in-Aggregate-clause-takes : goal.returns-in-Aggregate-clause-takes
 returns-in-Aggregate-clause-takes g c = on_ok _ _ c.requires.takes
+
+-- ---- commands, checkpoints and sessions
+
+pub returns-in-Write-clause-replies : goal.returns-in-Write-clause-replies
+returns-in-Write-clause-replies g c = λ limit same now represents kept.
+    subst (λ s. Responds limit (statement_reply limit (statement_of s) now) c.respond_write.result
+    c.args.archive.now c.respond_write.new.archive (g.K.Sink.written c.args.sink.now)
+    (g.K.Sink.written c.respond_write.new.sink)) (sym c.in-Write.is)
+    (c.respond_write.ensures.replies limit now represents)
+
+pub returns-in-Checkpoint-clause-replies : goal.returns-in-Checkpoint-clause-replies
+returns-in-Checkpoint-clause-replies g c = λ limit same now represents kept.
+    subst (λ s. Responds limit (statement_reply limit (statement_of s) now)
+    c.respond_checkpoint.result c.args.archive.now c.respond_checkpoint.new.archive
+    (g.K.Sink.written c.args.sink.now) (g.K.Sink.written c.respond_checkpoint.new.sink))
+    (sym c.in-Checkpoint.is) (c.respond_checkpoint.ensures.replies limit now represents)
+
+pub returns-in-Session-clause-replies : goal.returns-in-Session-clause-replies
+returns-in-Session-clause-replies g c = λ limit same now represents kept.
+    subst (λ s. Responds limit (statement_reply limit (statement_of s) now) c.respond_session.result
+    c.args.archive.now c.respond_session.new.archive (g.K.Sink.written c.args.sink.now)
+    (g.K.Sink.written c.respond_session.new.sink)) (sym c.in-Session.is)
+    (c.respond_session.ensures.replies limit now represents kept)
+
+pub respond_session-requires : goal.respond_session-requires
+respond_session-requires g c = record {
+  takes = c.requires.takes;
+  timely = rw c.in-Session.is at c.requires.timely;
+}
+
+pub returns-in-ShowCursors-clause-replies : goal.returns-in-ShowCursors-clause-replies
+returns-in-ShowCursors-clause-replies g c = λ limit same now represents kept.
+    let a = c.args.archive.now in
+    subst (λ s. Responds limit (statement_reply limit (statement_of s) now)
+    c.respond_cursors.result a a (g.K.Sink.written c.args.sink.now)
+    (g.K.Sink.written c.respond_cursors.new.sink)) (sym c.in-ShowCursors.is)
+    (says_responds _ _ limit now a a (cursors_reply now) c.respond_cursors.result
+    (g.met.D.Disk.valid a.journal.disk) represents refl refl
+    (c.respond_cursors.ensures.says now kept))
+
+pub returns-in-ShowCursors-clause-counts : goal.returns-in-ShowCursors-clause-counts
+returns-in-ShowCursors-clause-counts g c = reason_said c.respond_cursors.result _ _ _
+    c.respond_cursors.ensures.counts
+
+pub returns-in-ShowCursors-clause-takes : goal.returns-in-ShowCursors-clause-takes
+returns-in-ShowCursors-clause-takes g c = on_ok _ _ c.requires.takes
+
+-- ---- what the sessions then have
+
+pub returns-in-Session-clause-sessions : goal.returns-in-Session-clause-sessions
+returns-in-Session-clause-sessions g c = λ limit now represents kept.
+    subst (λ s. OnOk c.respond_session.result (sessions_of c.respond_session.new.sessions
+    ≡ (statement_reply limit (statement_of s) now).after.sessions)) (sym c.in-Session.is)
+    (c.respond_session.ensures.sessions limit now represents kept)
+
+pub returns-in-Write-clause-sessions : goal.returns-in-Write-clause-sessions
+returns-in-Write-clause-sessions g c = λ limit now represents kept.
+    on_ok _ _ (kept ∙ sym (others_same limit now (statement_of c.args.statement)
+    (subst (λ s. IsOfNoSession (statement_of s)) (sym c.in-Write.is) tt)))
+
+pub returns-in-Ask-clause-sessions : goal.returns-in-Ask-clause-sessions
+returns-in-Ask-clause-sessions g c = λ limit now represents kept.
+    on_ok _ _ (kept ∙ sym (others_same limit now (statement_of c.args.statement)
+    (subst (λ s. IsOfNoSession (statement_of s)) (sym c.in-Ask.is) tt)))
+
+pub returns-in-Explain-clause-sessions : goal.returns-in-Explain-clause-sessions
+returns-in-Explain-clause-sessions g c = λ limit now represents kept.
+    on_ok _ _ (kept ∙ sym (others_same limit now (statement_of c.args.statement)
+    (subst (λ s. IsOfNoSession (statement_of s)) (sym c.in-Explain.is) tt)))
+
+pub returns-in-Pairs-clause-sessions : goal.returns-in-Pairs-clause-sessions
+returns-in-Pairs-clause-sessions g c = λ limit now represents kept.
+    on_ok _ _ (kept ∙ sym (others_same limit now (statement_of c.args.statement)
+    (subst (λ s. IsOfNoSession (statement_of s)) (sym c.in-Pairs.is) tt)))
+
+pub returns-in-Aggregate-clause-sessions : goal.returns-in-Aggregate-clause-sessions
+returns-in-Aggregate-clause-sessions g c = λ limit now represents kept.
+    on_ok _ _ (kept ∙ sym (others_same limit now (statement_of c.args.statement)
+    (subst (λ s. IsOfNoSession (statement_of s)) (sym c.in-Aggregate.is) tt)))
+
+pub returns-in-ShowVersions-clause-sessions : goal.returns-in-ShowVersions-clause-sessions
+returns-in-ShowVersions-clause-sessions g c = λ limit now represents kept.
+    on_ok _ _ (kept ∙ sym (others_same limit now (statement_of c.args.statement)
+    (subst (λ s. IsOfNoSession (statement_of s)) (sym c.in-ShowVersions.is) tt)))
+
+pub returns-in-ShowSchema-clause-sessions : goal.returns-in-ShowSchema-clause-sessions
+returns-in-ShowSchema-clause-sessions g c = λ limit now represents kept.
+    on_ok _ _ (kept ∙ sym (others_same limit now (statement_of c.args.statement)
+    (subst (λ s. IsOfNoSession (statement_of s)) (sym c.in-ShowSchema.is) tt)))
+
+pub returns-in-ShowSizes-clause-sessions : goal.returns-in-ShowSizes-clause-sessions
+returns-in-ShowSizes-clause-sessions g c = λ limit now represents kept.
+    on_ok _ _ (kept ∙ sym (others_same limit now (statement_of c.args.statement)
+    (subst (λ s. IsOfNoSession (statement_of s)) (sym c.in-ShowSizes.is) tt)))
+
+pub returns-in-ShowCursors-clause-sessions : goal.returns-in-ShowCursors-clause-sessions
+returns-in-ShowCursors-clause-sessions g c = λ limit now represents kept.
+    on_ok _ _ (kept ∙ sym (others_same limit now (statement_of c.args.statement)
+    (subst (λ s. IsOfNoSession (statement_of s)) (sym c.in-ShowCursors.is) tt)))
+
+pub returns-in-Checkpoint-clause-sessions : goal.returns-in-Checkpoint-clause-sessions
+returns-in-Checkpoint-clause-sessions g c = λ limit now represents kept.
+    on_ok _ _ (kept ∙ sym (others_same limit now (statement_of c.args.statement)
+    (subst (λ s. IsOfNoSession (statement_of s)) (sym c.in-Checkpoint.is) tt)))

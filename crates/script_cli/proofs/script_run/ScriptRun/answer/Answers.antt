@@ -9,12 +9,15 @@ use Rattle.script_cli.proofs.script_run.ScriptRun.answer.Goals as goal
 pub returns-then-is_command-clause-answered : goal.returns-then-is_command-clause-answered
 returns-then-is_command-clause-answered g c = λ limit same now represents.
     let r = reply limit now c.args.text.now in
-    let replied = c.in-Ok.ensures.replies limit same now represents in
+    let replied = c.in-Ok.ensures.replies limit same now represents.archive represents.sessions in
     let one = one_put limit now c.args.text.now c.in-Ok.put replied.is
     (sym c.is_command.ensures ∙ c.if-is_command.true) in
     record {
       splitter = refl;
-      represents = replied.represents;
+      represents = record {
+        archive = replied.represents;
+        sessions = c.in-Ok.ensures.sessions limit now represents.archive represents.sessions;
+      };
       refused = elim c.if-self.branch [
         | then-self w ↦ w.self-is ∙ w.if-self.true ∙ ap (λ x. x || r.is_error) (sym w.if-self.true)
         | else-self w ↦ w.self-is ∙ w.is_error-self.ensures
@@ -29,12 +32,15 @@ returns-then-is_command-clause-answered g c = λ limit same now represents.
 pub returns-else-is_command-clause-answered : goal.returns-else-is_command-clause-answered
 returns-else-is_command-clause-answered g c = λ limit same now represents.
     let r = reply limit now c.args.text.now in
-    let replied = c.in-Ok.ensures.replies limit same now represents in
+    let replied = c.in-Ok.ensures.replies limit same now represents.archive represents.sessions in
     let none = none_put limit now c.args.text.now c.in-Ok.put replied.is
     (sym c.is_command.ensures ∙ c.if-is_command.false) in
     record {
       splitter = refl;
-      represents = replied.represents;
+      represents = record {
+        archive = replied.represents;
+        sessions = c.in-Ok.ensures.sessions limit now represents.archive represents.sessions;
+      };
       refused = elim c.if-self.branch [
         | then-self w ↦ w.self-is ∙ w.if-self.true ∙ ap (λ x. x || r.is_error) (sym w.if-self.true)
         | else-self w ↦ w.self-is ∙ w.is_error-self.ensures

@@ -1,5 +1,6 @@
 use Rattle.std.proofs.Common.{◌≡◌, ◌+◌, ℕ, Bool, true, false, ap, refl, sym, ◌∙◌, arith}
 use Rattle.std.specs.Prelude.{◌||◌}
+use Rattle.sessions.specs.Meaning.{sessions_of}
 use Rattle.script_parse.specs.Script.{Whole, Skipped}
 use Rattle.script_parse.specs.Splitting.{found}
 use Rattle.script_cli_statement.specs.declared.stop_reason.StopReason.TheVariants.{WriteFault}
@@ -21,11 +22,13 @@ returns-in-More-clause-fed g c = λ limit same now represents.
     (g.K.Sink.written c.args.sink.now) c.in-Ok.cut c.in-Ok.ensures.statements
     c.in-Ok.ensures.tail refl
     c.in-More.is (all_taken _ _ _ c.in-More.is c.in-Ok.ensures.settled)
-    (g.met.D.Disk.valid c.args.archive.now.journal.disk) represents refl refl
+    (g.met.D.Disk.valid c.args.archive.now.journal.disk)
+    (record { archive = represents.archive; sessions = represents.sessions }) refl refl
 
 pub returns-in-Ok-answer-clause-fed : goal.returns-in-Ok-answer-clause-fed
 returns-in-Ok-answer-clause-fed g c = λ limit same now represents.
-    let answered = c.in-Ok-answer.ensures.answered limit same now represents in
+    let answered = c.in-Ok-answer.ensures.answered limit same now
+    (record { archive = represents.archive; sessions = represents.sessions }) in
     let text = c.deref.ensures.value in
     took_answer limit now c.args.self.now c.answer.new.self c.feed.new.self c.args.archive.now
     c.answer.new.archive c.args.bytes.now c.in-Ok.rest.now _ _ c.in-Ok.cut
@@ -41,7 +44,8 @@ returns-in-Text-clause-halted g c = λ limit same now represents.
     c.in-Ok.ensures.statements c.in-Ok.ensures.tail c.answer.ensures.splitter
     c.in-Err-answer.reason (Whole c.in-Text.text.items) (ap found c.in-Text.is)
     (g.met.D.Disk.valid c.args.archive.now.journal.disk)
-    (rw c.deref.ensures.value at (c.in-Err-answer.ensures.stopped limit same now represents))
+    (rw c.deref.ensures.value at (c.in-Err-answer.ensures.stopped limit same now
+    (record { archive = represents.archive; sessions = represents.sessions })))
 
 pub returns-in-Ok-refuse_long-clause-fed : goal.returns-in-Ok-refuse_long-clause-fed
 returns-in-Ok-refuse_long-clause-fed g c = λ limit same now represents.
@@ -49,7 +53,10 @@ returns-in-Ok-refuse_long-clause-fed g c = λ limit same now represents.
     took_answer limit now c.args.self.now c.refuse_long.new.self c.feed.new.self a a
     c.args.bytes.now c.in-Ok.rest.now _ _ c.in-Ok.cut c.in-Ok.ensures.statements
     c.in-Ok.ensures.tail c.refuse_long.ensures.splitter
-    Skipped (ap found c.in-TooLong.is) represents
+    Skipped (ap found c.in-TooLong.is) (record {
+      archive = represents.archive;
+      sessions = ap sessions_of c.refuse_long.ensures.sessions ∙ represents.sessions;
+    })
     (c.in-Ok-refuse_long.ensures.refused ∙ sym (or_true c.args.self.now.refused))
     (nothing_between a (g.met.D.Disk.valid a.journal.disk))
     (c.refuse_long.ensures.puts ∙ plus_none c.args.self.now.puts)

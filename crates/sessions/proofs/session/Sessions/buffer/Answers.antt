@@ -1,6 +1,7 @@
 use Rattle.std.proofs.Common.{◌∙◌, ap, sym, is_some}
 use Rattle.std.specs.Option.{option_copied_mut}
 use Rattle.sessions.proofs.Buffered.{buffered_serves}
+use Rattle.sessions.proofs.NoDisks.{buffers_no_disk}
 use Rattle.sessions.proofs.session.Sessions.buffer.Goals as goal
 
 pub returns-in-Some : goal.returns-in-Some
@@ -10,4 +11,5 @@ returns-in-Some c =
     record {
       serves = λ needs shared. buffered_serves needs shared _ _ _ _ _ _ _ was is _
           c.buffer.ensures;
+      no_disk = buffers_no_disk _ _ _ _ c.buffer.ensures;
     }

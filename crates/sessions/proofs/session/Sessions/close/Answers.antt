@@ -4,6 +4,7 @@ use Rattle.sessions.specs.Meaning.{plain_cursor, sessions_of, cursors_of, transa
 use Rattle.sessions.specs.Steps.{closed}
 use Rattle.sessions.proofs.Places.{none_at, some_at, removed_at}
 use Rattle.sessions.proofs.Served.{missing_closing, there_fault}
+use Rattle.sessions.proofs.NoDisks.{no_cursor_no_disk}
 use Rattle.sessions.proofs.session.Sessions.close.Goals as goal
 
 pub returns-in-None-clause-serves : goal.returns-in-None-clause-serves
@@ -31,3 +32,7 @@ returns-in-Some-clause-serves c = λ needs shared.
           ((ap cursors_of c.shift_remove_index.ensures.entries
           ∙ removed_at plain_cursor test c.args.self.now.cursors.entries c.in-Some.place p) i),
     )
+
+pub returns-in-None-clause-no_disk : goal.returns-in-None-clause-no_disk
+returns-in-None-clause-no_disk c = no_cursor_no_disk c.args.session c.args.cursor.now
+    c.no_cursor.result c.no_cursor.ensures

@@ -6,6 +6,7 @@ use Rattle.sessions.specs.Meaning.{plain_cursor, sessions_of, cursors_of, transa
 use Rattle.sessions.proofs.Keyed.{push-seen}
 use Rattle.sessions.proofs.Places.{some_at, absent_at}
 use Rattle.sessions.proofs.Served.{open_already, none_open, listing_refused, listing_opened}
+use Rattle.sessions.proofs.NoDisks.{listing_no_disk}
 use Rattle.sessions.proofs.session.Sessions.open.Goals as goal
 
 pub returns-then-is_some : goal.returns-then-is_some
@@ -17,6 +18,7 @@ returns-then-is_some g c = record {
         refl ∙ ap is_some (sym c.place_of.ensures) ∙ (sym c.is_some.ensures ∙ c.if-is_some.true)),
     refl,
   );
+  no_disk = tt;
 }
 
 pub returns-in-Err : goal.returns-in-Err
@@ -28,6 +30,9 @@ returns-in-Err g c = record {
       c.args.self.now.cursors.entries _ refl
       ∙ ap is_some (sym c.place_of.ensures) ∙ (sym c.is_some.ensures ∙ c.if-is_some.false)))
       (query_of c.args.query.now) c.in-Err.fault (c.in-Err.ensures.listed shared sh);
+  no_disk = let known = c.in-Err.ensures.known in
+      listing_no_disk known.0.past (query_of c.args.query.now) c.in-Err.fault
+      (c.in-Err.ensures.listed known.0 known.1);
 }
 
 pub returns : goal.returns
@@ -50,4 +55,5 @@ returns g c = record {
       c.on-opened.result
       (absent_at test es missing))
       ∙ push-seen plain_cursor es (c.args.session, c.args.cursor) c.on-opened.result) i));
+  no_disk = tt;
 }

@@ -1,0 +1,8 @@
+//! An archive as sessions need one: the vault that is shared by all of them.
+#![tactic(auto)]
+
+mod answer;
+mod kept_row;
+mod vault;
+
+pub use vault::{ArchiveVault, ask_counted};
