@@ -42,7 +42,7 @@ use Rattle.script_cli_statement.specs.Given.{Given}
 use Rattle.script_cli_statement.specs.Replies.{Recorded, recorded, StandsAfter, reply}
 use Rattle.script_cli_sample.specs.Summary.{is_error_line}
 use Rattle.script_cli.specs.Output.{all_puts, recorded_after}
-use Rattle.script_cli.specs.Stepping.{StatementsAreSteps}
+use Rattle.script_cli.specs.Stepping.{StatementsAreSteps, CommitsAreCommands}
 use Rattle.script_cli.specs.Runs.{given_by}
 
 -- What the output of a script is made of, where the book's rules take queries from version to
@@ -157,6 +157,8 @@ pub record OutputLaws (book : Book) : Type 0 where
   pub transactions : TransactionsAreWhole need_of
   -- nothing that a session asks for but a COMMIT changes the past
   pub commits : OnlyCommitsChange need_of
+  -- a COMMIT of changes is answered as an AT with all of them is, and puts the same command
+  pub commands : (limit : Given) → CommitsAreCommands limit
   -- a reply counts as an error exactly where its line begins with `error `
   pub errors : (limit : Given) (now : Recorded) (text : List ℕ)
       → (reply limit now text).is_error ≡ is_error_line (reply limit now text).text

@@ -1,11 +1,16 @@
--- The statements of a script as steps of its sessions.
-use Rattle.std.specs.Prelude.{◌≡◌, List, [], ◌∷◌}
+-- The statements of a script as steps of its sessions, and a COMMIT beside an AT.
+use Rattle.std.specs.Prelude.{◌≡◌, ℕ, List, [], ◌∷◌, Some}
+use Rattle.sessions.specs.Shared.{newest}
+use Rattle.sessions.specs.SessionStates.{PlainTransaction}
+use Rattle.sessions.specs.Requests.{committing}
+use Rattle.sessions.specs.Steps.{command_at}
 use Rattle.sessions.specs.Runs.{Step, elsewhere, after_all}
 use Rattle.script_parse.specs.Script.{StatementPart, Whole as Text, Skipped}
 use Rattle.script_parse.specs.Reading.{reading}
 use Rattle.script_cli_vault.specs.Shown.{need_of}
 use Rattle.script_cli_statement.specs.Given.{Given}
-use Rattle.script_cli_statement.specs.Replies.{Recorded, shared_by, world_of, reply}
+use Rattle.script_cli_statement.specs.Replies.{Recorded, Reply, shared_by, world_of, reply}
+use Rattle.script_cli_statement.specs.Replies.{command_reply, session_reply}
 use Rattle.script_cli_statement.specs.Stepping.{step_of}
 use Rattle.script_cli.specs.Output.{part_reply, recorded_after}
 
@@ -26,3 +31,20 @@ abbrev pub StatementsAreSteps : Given → Type 0
 StatementsAreSteps limit = (now : Recorded) (statements : List StatementPart)
     → world_of limit (recorded_after limit now statements)
     ≡ after_all need_of (world_of limit now) (steps_of limit now statements)
+
+-- it has the same bytes and puts the same, and the same past and gate stand after it
+pub record IsAnsweredAs (reply other : Reply) : Type 0 where
+  pub text : reply.text ≡ other.text
+  pub puts : reply.puts ≡ other.puts
+  pub past : reply.after.past ≡ other.after.past
+  pub at : reply.after.at ≡ other.after.at
+  pub is_error : reply.is_error ≡ other.is_error
+
+-- A COMMIT in whose transaction something is changed is answered as an AT with all its changes,
+-- where the newest version is the one at its beginning.
+abbrev pub CommitsAreCommands : Given → Type 0
+CommitsAreCommands limit = (now : Recorded) (s stamp : ℕ) (t : PlainTransaction)
+    → now.sessions.transaction s ≡ Some t → (t.changes ≡ [] → ⊥)
+    → t.began ≡ newest (shared_by limit now)
+    → IsAnsweredAs (session_reply limit s (committing stamp) now)
+    (command_reply limit (command_at stamp t.changes) now)

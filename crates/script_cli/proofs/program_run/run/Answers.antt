@@ -18,7 +18,7 @@ use Rattle.script_cli.proofs.ValidPasts.{of_script, still_made}
 use Rattle.script_cli_statement.proofs.ExplainedQueries.{tells_pieces}
 use Rattle.script_cli_statement.proofs.Errors.{error_told}
 use Rattle.script_cli_vault.specs.Shown.{need_of}
-use Rattle.script_cli.proofs.SessionStatements.{statements_are_steps}
+use Rattle.script_cli.proofs.SessionStatements.{statements_are_steps, commits_are_commands}
 use Rattle.script_cli.proofs.Recording.{recorded_is, put_sound, put_accepted, still_sound}
 use Rattle.script_cli.proofs.OnDisks.{sound_opens}
 use Rattle.script_cli.proofs.Answered.{answered_over, answered_untouched}
@@ -284,5 +284,6 @@ returns-clause-laws g c = record {
   cursors = c.cursors_keep_their_answers.ensures need_of;
   transactions = c.transactions_are_whole.ensures need_of;
   commits = c.only_commits_change.ensures need_of;
+  commands = commits_are_commands;
   errors = error_told;
 }
