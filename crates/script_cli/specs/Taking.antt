@@ -31,9 +31,9 @@ next_reply limit now (p ∷ parts) = part_reply limit now p
 
 module _ {D : Type 0} {g : Ghosts D} where
   -- the archive and the run's sessions are those that stand
-  pub record RepresentsRun (archive : Archive D g) (script_run : ScriptRun) (limit : Given)
+  pub record RepresentsRun (a : Archive D g) (script_run : ScriptRun) (limit : Given)
       (now : Recorded) : Type 0 where
-    pub archive : RepresentsAt archive limit now
+    pub archive : RepresentsAt a limit now
     pub sessions : sessions_of script_run.sessions ≡ now.sessions
 
   -- one more statement ended
