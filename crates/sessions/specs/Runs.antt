@@ -69,6 +69,26 @@ abbrev pub refused_where_moved : Bool → ℕ → ℕ → Fault → Fault
 refused_where_moved true began now fault = fault
 refused_where_moved false began now fault = Some (SchemaMoved began now)
 
+-- it is about this session's transaction
+abbrev pub is_of_transaction : ℕ → ℕ → Request → Bool
+is_of_transaction s q beginning = nat_eq s q
+is_of_transaction s q (buffering changes) = nat_eq s q
+is_of_transaction s q (committing stamp) = nat_eq s q
+is_of_transaction s q aborting = nat_eq s q
+is_of_transaction s q (opening name query) = false
+is_of_transaction s q (fetching name count) = false
+is_of_transaction s q (closing name) = false
+
+-- it is about this session's cursor of this name
+abbrev pub is_of_cursor : ℕ → List ℕ → ℕ → Request → Bool
+is_of_cursor s name q beginning = false
+is_of_cursor s name q (buffering changes) = false
+is_of_cursor s name q (committing stamp) = false
+is_of_cursor s name q aborting = false
+is_of_cursor s name q (opening n query) = nat_eq s q && same name n
+is_of_cursor s name q (fetching n count) = nat_eq s q && same name n
+is_of_cursor s name q (closing n) = nat_eq s q && same name n
+
 -- only a COMMIT changes what is shared
 abbrev pub is_commit : Request → Bool
 is_commit (committing stamp) = true
@@ -191,3 +211,17 @@ module _ (needs : PlainCommand → ℕ) where
   abbrev pub OnlyCommitsChange : Type 0
   OnlyCommitsChange = (w : World) → (s : ℕ) → (request : Request) → is_commit request ≡ false
       → (after w (asked s request)).shared ≡ w.shared
+
+  -- ---- what a request is not about
+
+  -- What a session asks for leaves each transaction and each cursor that it is not about: what
+  -- another session has, and what else the session has itself.
+  pub record IsApart (w : World) (q : ℕ) (request : Request) (s : ℕ) : Type 0 where
+    pub transaction : is_of_transaction s q request ≡ false
+        → (after w (asked q request)).sessions.transaction s ≡ w.sessions.transaction s
+    pub cursors : (name : List ℕ) → is_of_cursor s name q request ≡ false
+        → cursor_of (after w (asked q request)).sessions s name ≡ cursor_of w.sessions s name
+
+  abbrev pub SessionsAreApart : Type 0
+  SessionsAreApart = (w : World) → (q : ℕ) → (request : Request) → (s : ℕ)
+      → IsApart w q request s
