@@ -33,7 +33,7 @@ abbrev pub shared_unless : Fault → Shared → Shared → Shared
 shared_unless None then now = then
 shared_unless (Some r) then now = now
 
--- the entries that an answer gives
+-- the next entries of an open cursor
 abbrev pub entries_given : Option PlainCursor → ℕ → List (Entry Row)
 entries_given None count = []
 entries_given (Some c) count = next_entries count c
@@ -53,12 +53,11 @@ abbrev pub leave_open : ℕ → List ℕ → List Step → Bool
 leave_open s name [] = true
 leave_open s name (step ∷ steps) = leaves_open s name step && leave_open s name steps
 
--- the changes that a step adds to the session's transaction
+-- where it is refused none are added
 abbrev pub added_unless : Fault → List PlainChange → List PlainChange
 added_unless None changes = changes
 added_unless (Some r) changes = []
 
--- a step is no COMMIT of the session that is accepted, and no ABORT of it
 abbrev pub is_refused : Fault → Bool
 is_refused None = false
 is_refused (Some r) = true
@@ -152,6 +151,7 @@ module _ (needs : PlainCommand → ℕ) where
 
   -- ---- a transaction
 
+  -- the changes that a step adds to the session's transaction
   abbrev pub added_at : World → ℕ → Step → List PlainChange
   added_at w s (asked q (buffering changes)) = cond (nat_eq s q)
       (added_unless (fault_of needs w q (buffering changes)) changes) []
@@ -167,6 +167,7 @@ module _ (needs : PlainCommand → ℕ) where
   added w s [] = []
   added w s (step ∷ steps) = added_at w s step ++ added (after w step) s steps
 
+  -- a step is no COMMIT of the session that is accepted, and no ABORT of it
   abbrev pub leaves_begun : World → ℕ → Step → Bool
   leaves_begun w s (asked q (committing stamp)) = cond (nat_eq s q)
       (is_refused (fault_of needs w q (committing stamp))) true

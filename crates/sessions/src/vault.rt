@@ -28,7 +28,8 @@ pub struct KeptRow {
     pub period: Period,
 }
 
-/// Why a call gives no answer. All is then as it was.
+/// Why a call gives no answer. The sessions are then as they were, and so is the vault, but after
+/// `Disk`: then it is broken, and the record may stand in its file.
 #[derive(Drop)]
 pub enum VaultFault {
     /// The first refusal in order of precedence.
