@@ -1,5 +1,5 @@
 -- What an archive answers to a command of changes is what a vault answers to it.
-use Rattle.std.proofs.Common.{◌≡◌, ◌+◌, ◌∷◌, [], refl, sym, subst, ◌∙◌}
+use Rattle.std.proofs.Common.{◌≡◌, ℕ, ◌+◌, ◌∷◌, [], refl, sym, subst, ◌∙◌}
 use Rattle.std.proofs.Common.{arith, Result, Ok, Err, ap, length}
 use Rattle.std.proofs.lemmas.List.{length-map}
 use Rattle.std.specs.Prelude.{Some, None, IfErr, OnOk}

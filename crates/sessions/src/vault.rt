@@ -87,7 +87,8 @@ pub trait Vault {
     /// The newest version. It takes no memory.
     fn newest(&self) -> u32
         ensures newest { (shared : Shared) → shows self.now shared
-            → result ≡ length shared.past.versions };
+            → result ≡ length shared.past.versions }
+        ensures known { (shared : Shared) × shows self.now shared };
 
     /// Commits a command of changes whole, or leaves all as it was. `Broken` comes first, exactly
     /// where an earlier call has answered `Disk`; `Refused` exactly by the first refusal; `Disk`
