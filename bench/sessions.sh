@@ -4,11 +4,13 @@
 #   commit   m changes, an INSERT each, for each m (1,000, 10,000 and 50,000 unless told otherwise,
 #            ascending): by one AT; and by BEGIN, one DO of them all, and COMMIT
 #   open     a query of so many rows told; and a cursor opened on it, fetched whole and closed
-#   fetch    10,000 FETCHes of one entry, with one cursor open; and with 10,000 of 10,000 sessions
+#   fetch    10,000 FETCHes, each of one entry of as many, with one cursor open; and with 10,000 of
+#            10,000 sessions, of which the others have one entry each
 #   close    these 10,000 closed, the first one first
 # PROGRAM names another build to be timed in place of this one. Ends with 1 where a transaction
-# takes more than twice as long as one AT, a FETCH more than 0.1 ms longer beside 10,000 open cursors
-# than alone, or closing all of them more than a second.
+# takes more than twice as long as one AT, or a cursor from its OPEN to its CLOSE more than twice as
+# long as its query, each with 0.05 s more, a FETCH more than 0.1 ms longer beside 10,000 open
+# cursors than alone, or closing all of them more than a second.
 set -eu
 top=$(cd "$(dirname "$0")/.." && pwd)
 if [ -z "${PROGRAM:-}" ]; then
@@ -80,17 +82,21 @@ for m in sizes:
     (query, opened), (listed, fetched) = seconds_of(rows, cursor)
     lines = [line for line in fetched.splitlines() if line.startswith((b"row", b"end"))]
     assert lines == [line for line in listed.splitlines() if line.startswith((b"row", b"end"))]
-    print(f"open {m}: QUERY {query - by_session:.3f} s, OPEN, FETCH and CLOSE"
-        f" {opened - by_session:.3f} s", flush=True)
+    told(f"open {m}: QUERY {query - by_session:.3f} s, OPEN, FETCH and CLOSE"
+        f" {opened - by_session:.3f} s", opened - by_session <= 2 * (query - by_session) + 0.05)
 
-row = TABLE + "AT 2 INSERT INTO t (a) VALUES (1);"
-ask = "VERSION 1 SELECT a FROM t;"
-all_open = row + "".join(f"SESSION {s} OPEN c {ask}" for s in range(CURSORS))
-fetches = "".join(f"SESSION {CURSORS - 1} FETCH c 1;" for _ in range(CURSORS))
-alone = row + f"SESSION {CURSORS - 1} OPEN c {ask}"
+# each FETCH has an entry to tell; the cursor that is fetched is the one that is found last
+LAST = CURSORS - 1
+tables = TABLE + f"AT 2 {inserts(CURSORS)};AT 3 EVOLVE CREATE TABLE u (a INT);" \
+    + "AT 4 INSERT INTO u (a) VALUES (1);"
+alone = tables + f"SESSION {LAST} OPEN c VERSION 2 SELECT a FROM t;"
+all_open = tables + "".join(f"SESSION {s} OPEN c VERSION 2 SELECT a FROM u;" for s in range(LAST)) \
+    + f"SESSION {LAST} OPEN c VERSION 2 SELECT a FROM t;"
+fetches = f"SESSION {LAST} FETCH c 1;" * CURSORS
 closes = "".join(f"SESSION {s} CLOSE c;" for s in range(CURSORS))
-(few, few_fetched, many, many_fetched, closed), _ = seconds_of(alone, alone + fetches, all_open,
-    all_open + fetches, all_open + closes)
+(few, few_fetched, many, many_fetched, closed), replies = seconds_of(alone, alone + fetches,
+    all_open, all_open + fetches, all_open + closes)
+assert all(replies[i].count(b"row ") == CURSORS for i in (1, 3))
 beside = ((many_fetched - many) - (few_fetched - few)) / CURSORS
 told(f"fetch: {(few_fetched - few) / CURSORS * 1e6:.1f} us alone, {beside * 1e6:+.1f} us beside"
     f" {CURSORS} open cursors", beside <= 1e-4)

@@ -4,6 +4,7 @@ pub mod OneReading
 pub mod PutsAfter
 pub mod Recording
 pub mod SessionStatements
+pub mod FetchedEntries
 pub mod Taking
 pub mod Reaching
 pub mod OnDisks

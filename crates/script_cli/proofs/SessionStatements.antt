@@ -1,24 +1,25 @@
 -- The statements of a script are steps of its sessions, and a COMMIT is answered as an AT is.
 use Rattle.std.proofs.Common.{◌≡◌, ◌+◌, ◌-◌, ℕ, Bool, List, [], ◌∷◌, refl, ap}
-use Rattle.std.proofs.Common.{◌∙◌, subst, arith}
+use Rattle.std.proofs.Common.{sym, ◌∙◌, subst, arith}
 use Rattle.std.specs.Prelude.{Some, None}
 use Rattle.std.proofs.lemmas.Bool.{eq-eqb}
 use Rattle.smo_ops_types.specs.Changes.{PlainChange}
-use Rattle.smo_ops_spec.specs.First.{unless, first_refusal}
+use Rattle.smo_ops_types.specs.Commands.{changing}
+use Rattle.smo_ops_spec.specs.First.{unless}
 use Rattle.smo_ops_spec.proofs.Firsts.{first_later, first_alone}
 use Rattle.smo_ops_spec.specs.Checks.{Fault}
-use Rattle.smo_ops_spec.specs.Accepts.{command_fault}
 use Rattle.archive_core.specs.Committing as archive
 use Rattle.prima_base.specs.declared.refusal.Refusal.TheVariants.{SchemaMoved}
 use Rattle.sessions.specs.Shared.{newest}
 use Rattle.sessions.specs.SessionStates.{PlainTransaction}
 use Rattle.sessions.specs.Requests.{committing}
 use Rattle.sessions.specs.Steps.{command_at, changes_so_far, commit_answer, commit_fault}
-use Rattle.sessions.specs.Steps.{changes_fault, fault_of_command, room_fault, schema_fault}
+use Rattle.sessions.specs.Steps.{changes_fault, fault_of_command, schema_fault}
 use Rattle.sessions.specs.Steps.{shared_after}
 use Rattle.sessions.specs.Runs.{after, after_all}
 use Rattle.script_parse.specs.Script.{StatementPart, Whole as Text, Skipped}
 use Rattle.script_cli_vault.specs.Shown.{need_of}
+use Rattle.script_cli_vault.proofs.Committed.{refused_alike}
 use Rattle.script_cli_statement.specs.Due.{command_due, due_length}
 use Rattle.script_cli_statement.specs.Given.{Given}
 use Rattle.script_cli_statement.specs.SessionLines.{said_text}
@@ -45,9 +46,9 @@ statements_are_steps limit now (p ∷ parts) =
 -- ---- a COMMIT beside an AT
 
 -- what is refused alike is answered alike
-refused_alike : (now : Recorded) (f g : Fault) (x y : Reply) → f ≡ g → IsAnsweredAs x y
+answered_alike : (now : Recorded) (f g : Fault) (x y : Reply) → f ≡ g → IsAnsweredAs x y
     → IsAnsweredAs (refused_or f now x) (refused_or g now y)
-refused_alike now f g x y same alike = subst
+answered_alike now f g x y same alike = subst
     (λ h. IsAnsweredAs (refused_or f now x) (refused_or h now y)) same (by f)
   where
     by : (h : Fault) → IsAnsweredAs (refused_or h now x) (refused_or h now y)
@@ -55,19 +56,12 @@ refused_alike now f g x y same alike = subst
     by (Some r) = record { text = refl; puts = refl; past = refl; at = refl; is_error = refl }
 
 module _ (limit : Given) (now : Recorded) (s stamp : ℕ) where
-  -- changes make no version, so that none is too wide
+  -- what the sessions say of a command of changes is what the archive says of it
   command_alike : (changes : List PlainChange)
       → fault_of_command need_of (shared_by limit now) (command_at stamp changes)
       ≡ archive.commit_fault now.past now.at limit.limit (command_at stamp changes)
-  command_alike changes = by (command_fault now.past (command_at stamp changes))
-    where
-      room : Fault
-      room = room_fault (shared_by limit now) (need_of (command_at stamp changes))
-
-      by : (f : Fault) → first_refusal (f ∷ room ∷ [])
-          ≡ first_refusal (first_refusal (f ∷ None ∷ []) ∷ room ∷ [])
-      by None = refl
-      by (Some r) = refl
+  command_alike changes = sym
+      (refused_alike now.past now.at limit.limit stamp (changing changes) tt)
 
   -- where the version did not move it is refused as the command is
   commit_alike : (t : PlainTransaction) → t.began ≡ newest (shared_by limit now)
@@ -114,7 +108,7 @@ module _ (limit : Given) (now : Recorded) (s stamp : ℕ) where
   some_alike (c ∷ changes) some = command_alike (c ∷ changes)
 
 pub commits_are_commands : (limit : Given) → CommitsAreCommands limit
-commits_are_commands limit now s stamp t is some still = refused_alike now
+commits_are_commands limit now s stamp t is some still = answered_alike now
     (commit_fault need_of (shared_by limit now) s stamp (now.sessions.transaction s))
     (archive.commit_fault now.past now.at limit.limit (command_at stamp t.changes))
     (request_reply limit s (committing stamp) now) (put_command (command_at stamp t.changes) now)

@@ -28,6 +28,7 @@ use Rattle.piece_ir_spec.specs.Rules.{Book}
 use Rattle.archive_core_file_spec.specs.LogRecords.{LogRecord, AreEncoded, AreAccepted, AreSound}
 use Rattle.archive_core_file_spec.specs.LogRecords.{past_recorded}
 use Rattle.sessions.specs.Runs.{CursorsKeepTheirAnswers, TransactionsAreWhole, OnlyCommitsChange}
+use Rattle.sessions.specs.Runs.{SessionsAreApart}
 use Rattle.script_parse.specs.Script.{StatementPart, statements_of, tail_of}
 use Rattle.script_parse.specs.Joining.{Each}
 use Rattle.script_parse.specs.Lexing.{TextsAreLexed}
@@ -42,7 +43,8 @@ use Rattle.script_cli_statement.specs.Given.{Given}
 use Rattle.script_cli_statement.specs.Replies.{Recorded, recorded, StandsAfter, reply}
 use Rattle.script_cli_sample.specs.Summary.{is_error_line}
 use Rattle.script_cli.specs.Output.{all_puts, recorded_after}
-use Rattle.script_cli.specs.Stepping.{StatementsAreSteps, CommitsAreCommands}
+use Rattle.script_cli.specs.Stepping.{StatementsAreSteps, FetchesAreOfTheAnswer}
+use Rattle.script_cli.specs.Stepping.{CommitsAreCommands}
 use Rattle.script_cli.specs.Runs.{given_by}
 
 -- What the output of a script is made of, where the book's rules take queries from version to
@@ -154,7 +156,11 @@ pub record OutputLaws (book : Book) : Type 0 where
   -- is committed whole, as the one command of all its changes, or changes nothing.
   pub steps : (limit : Given) → StatementsAreSteps limit
   pub cursors : CursorsKeepTheirAnswers need_of
+  -- so has the reply to a FETCH the bytes of these entries
+  pub fetches : (limit : Given) → FetchesAreOfTheAnswer limit
   pub transactions : TransactionsAreWhole need_of
+  -- what one session asks for leaves what another has, and what it is not about of its own
+  pub apart : SessionsAreApart need_of
   -- nothing that a session asks for but a COMMIT changes the past
   pub commits : OnlyCommitsChange need_of
   -- a COMMIT of changes is answered as an AT with all of them is, and puts the same command

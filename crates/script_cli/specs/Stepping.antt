@@ -1,12 +1,18 @@
--- The statements of a script as steps of its sessions, and a COMMIT beside an AT.
-use Rattle.std.specs.Prelude.{◌≡◌, ℕ, List, [], ◌∷◌, Some}
+-- The statements of a script as steps of its sessions, what a FETCH tells, and a COMMIT beside an
+-- AT.
+use Rattle.std.specs.Prelude.{◌≡◌, ℕ, Bool, true, false, List, [], ◌∷◌, length, take, drop, Some}
+use Rattle.temporal_lang_types.specs.Queries.{PlainQuery}
+use Rattle.temporal_lang_spec.specs.Answers.{answer}
 use Rattle.sessions.specs.Shared.{newest}
 use Rattle.sessions.specs.SessionStates.{PlainTransaction}
-use Rattle.sessions.specs.Requests.{committing}
+use Rattle.sessions.specs.Requests.{committing, opening, fetching}
 use Rattle.sessions.specs.Steps.{command_at}
-use Rattle.sessions.specs.Runs.{Step, elsewhere, after_all}
+use Rattle.sessions.specs.Runs.{Step, elsewhere, after_all, given, leave_open}
 use Rattle.script_parse.specs.Script.{StatementPart, Whole as Text, Skipped}
-use Rattle.script_parse.specs.Reading.{reading}
+use Rattle.script_parse.specs.Statements.{session}
+use Rattle.script_parse.specs.Reading.{Whole, reading}
+use Rattle.archive_core.specs.State.{tells_periods}
+use Rattle.answer_text.specs.Texts.{listing_text}
 use Rattle.script_cli_vault.specs.Shown.{need_of}
 use Rattle.script_cli_statement.specs.Given.{Given}
 use Rattle.script_cli_statement.specs.Replies.{Recorded, Reply, shared_by, world_of, reply}
@@ -48,3 +54,18 @@ CommitsAreCommands limit = (now : Recorded) (s stamp : ℕ) (t : PlainTransactio
     → t.began ≡ newest (shared_by limit now)
     → IsAnsweredAs (session_reply limit s (committing stamp) now)
     (command_reply limit (command_at stamp t.changes) now)
+
+-- A FETCH after an OPEN that is no error and statements that do not close the cursor, whatever they
+-- are: its reply has the lines of a query for the next entries of the answer at the OPEN, behind
+-- all that these statements fetched of it.
+abbrev pub FetchesAreOfTheAnswer : Given → Type 0
+FetchesAreOfTheAnswer limit = (now : Recorded) (open_text fetch_text : List ℕ)
+    (statements : List StatementPart) (s : ℕ) (name : List ℕ) (query : PlainQuery) (count : ℕ)
+    → let opened = (reply limit now open_text).after in
+    let steps = steps_of limit opened statements in
+    reading open_text ≡ Whole (session s (opening name query))
+    → (reply limit now open_text).is_error ≡ false → leave_open s name steps ≡ true
+    → reading fetch_text ≡ Whole (session s (fetching name count))
+    → (reply limit (recorded_after limit opened statements) fetch_text).text
+    ≡ listing_text (tells_periods query.when) (take count
+    (drop (length (given need_of (world_of limit opened) s name steps)) (answer now.past query)))

@@ -35,7 +35,9 @@ use script_parse::{
     texts_are_lexed,
 };
 use script_parse_laws::{a_script_is_read_in_one_way, a_statement_has_no_open_text};
-use sessions::{cursors_keep_their_answers, only_commits_change, transactions_are_whole};
+use sessions::{
+    cursors_keep_their_answers, only_commits_change, sessions_are_apart, transactions_are_whole,
+};
 use smo_ops::a_command_is_seen_from_its_stamp_on;
 use std::alloc::Global;
 use store_image_spec::an_image_shows_a_past;
@@ -254,6 +256,7 @@ pub fn run<S: Source, K: Sink, D: Disk, R: Rule>(
     cursors_keep_their_answers();
     transactions_are_whole();
     only_commits_change();
+    sessions_are_apart();
     a_file_opens_or_is_damaged();
     an_image_shows_a_past();
     book.known();

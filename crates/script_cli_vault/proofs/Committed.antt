@@ -1,5 +1,5 @@
 -- What an archive answers to a command of changes is what a vault answers to it.
-use Rattle.std.proofs.Common.{◌≡◌, ◌+◌, ◌∷◌, [], refl, sym, subst, ◌∙◌}
+use Rattle.std.proofs.Common.{◌≡◌, ℕ, ◌+◌, ◌∷◌, [], refl, sym, subst, ◌∙◌}
 use Rattle.std.proofs.Common.{arith, Result, Ok, Err, ap, length}
 use Rattle.std.proofs.lemmas.List.{length-map}
 use Rattle.std.specs.Prelude.{Some, None, IfErr, OnOk}
@@ -37,7 +37,7 @@ all_lost past (changing changes) h = refl
 all_lost past (evolving op inverse) h = absurd h
 
 -- changes make no version, so that none is too wide: they are refused by the past and by the room
-refused_alike : (past : Past) (at limit stamp : ℕ) (body : PlainBody) → vault.IsOfChanges body
+pub refused_alike : (past : Past) (at limit stamp : ℕ) (body : PlainBody) → vault.IsOfChanges body
     → commit_fault past at limit (record { stamp = stamp; body = body })
     ≡ first_refusal (command_fault past (record { stamp = stamp; body = body })
     ∷ need_fault at limit (need_of (record { stamp = stamp; body = body })) ∷ [])

@@ -17,14 +17,14 @@ use Rattle.smo_ops_spec.specs.OneRow.{Row}
 use Rattle.smo_ops_spec.specs.Checks.{Fault}
 use Rattle.sessions.specs.SessionStates.{PlainCursor, a_cursor, CursorKey, is_cursor, cursor_of}
 use Rattle.sessions.specs.SessionStates.{advanced}
-use Rattle.sessions.specs.Requests.{beginning, buffering, committing, aborting, opening, fetching}
-use Rattle.sessions.specs.Requests.{closing}
+use Rattle.sessions.specs.Requests.{Request, beginning, buffering, committing, aborting, opening}
+use Rattle.sessions.specs.Requests.{fetching, closing}
 use Rattle.sessions.specs.Steps.{World}
 use Rattle.sessions.specs.Steps.{fault_of, world_then, cursor_fault}
 use Rattle.sessions.specs.Steps.{with_fetched}
 use Rattle.sessions.specs.Steps.{a_world, open_fault, cursor_on, fetch_answer, fetched}
 use Rattle.sessions.specs.Runs.{Step, asked, elsewhere, after, after_all, given_at, given}
-use Rattle.sessions.specs.Runs.{leaves_open}
+use Rattle.sessions.specs.Runs.{leaves_open, is_of_cursor}
 use Rattle.sessions.specs.Runs.{leave_open, entries_given, unless_refused, IsServed}
 
 -- ---- look-ups under a test, where the entries change under another
@@ -40,6 +40,11 @@ module _ {K X : Type 0} (test : K → Bool) where
           → cond b (Some d.1) (lookup test (es ++ e ∷ [])) ≡ Some x
       by true h rest = h
       by false h rest = rest h
+
+  pub lookup_pushed_apart : (es : List (K × X)) (e : K × X) → test e.0 ≡ false
+      → lookup test (es ++ e ∷ []) ≡ lookup test es
+  lookup_pushed_apart [] e f = ap (λ b. cond b (Some e.1) None) f
+  lookup_pushed_apart (d ∷ es) e f = ap (cond (test d.0) (Some d.1)) (lookup_pushed_apart es e f)
 
   pub lookup_last : (es : List (K × X)) (e : K × X) → lookup test es ≡ None → test e.0 ≡ true
       → lookup test (es ++ e ∷ []) ≡ Some e.1
@@ -245,3 +250,26 @@ module _ (needs : PlainCommand → ℕ) (s : ℕ) (name : List ℕ) where
         next = λ count. ap (fetch_answer count) all.now
             ∙ ap (λ n. fetched c.periods (take count (drop n c.answer))) (omega arith);
       }
+
+  -- a request that is not about the cursor leaves it
+  pub cursor_apart : (w : World) (q : ℕ) (request : Request)
+      → is_of_cursor s name q request ≡ false
+      → cursor_of (after needs w (asked q request)).sessions s name ≡ cursor_of w.sessions s name
+  cursor_apart w q beginning e = unless_same (fault_of needs w q beginning)
+      (world_then needs w q beginning) w refl
+  cursor_apart w q (buffering cs) e = unless_same (fault_of needs w q (buffering cs))
+      (world_then needs w q (buffering cs)) w refl
+  cursor_apart w q (committing m) e = unless_same (fault_of needs w q (committing m))
+      (world_then needs w q (committing m)) w refl
+  cursor_apart w q aborting e = unless_same (fault_of needs w q aborting)
+      (world_then needs w q aborting) w refl
+  cursor_apart w q (opening n query) e = unless_same (fault_of needs w q (opening n query))
+      (world_then needs w q (opening n query)) w
+      (lookup_pushed_apart (is_cursor s name) w.sessions.cursors _ e)
+  cursor_apart w q (fetching n count) e = unless_same (fault_of needs w q (fetching n count))
+      (world_then needs w q (fetching n count)) w
+      (others w q n count (cursor_of w.sessions q n) e)
+  cursor_apart w q (closing n) e = unless_same (fault_of needs w q (closing n))
+      (world_then needs w q (closing n)) w
+      (lookup_removed_apart (is_cursor s name) (is_cursor q n) (keys_apart s q name n e)
+      w.sessions.cursors)

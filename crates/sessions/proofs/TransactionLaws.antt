@@ -22,7 +22,7 @@ use Rattle.sessions.specs.Steps.{commit_answer, changes_so_far, shared_after}
 use Rattle.sessions.specs.Runs.{shared_unless}
 use Rattle.sessions.specs.Runs.{Step, asked, elsewhere, after, after_all, unless_refused, added_at}
 use Rattle.sessions.specs.Runs.{added, added_unless, leaves_begun, leave_begun, is_refused, IsWhole}
-use Rattle.sessions.specs.Runs.{refused_where_moved, is_commit}
+use Rattle.sessions.specs.Runs.{refused_where_moved, is_commit, is_of_transaction}
 use Rattle.sessions.proofs.Committed.{only_one}
 
 both : (a b : Bool) → (a && b) ≡ true → (a ≡ true) × (b ≡ true)
@@ -196,3 +196,22 @@ module _ (needs : PlainCommand → ℕ) (s : ℕ) where
   only_commits w (opening n query) e = same_shared (fault_of needs w s (opening n query)) w _
   only_commits w (fetching n count) e = same_shared (fault_of needs w s (fetching n count)) w _
   only_commits w (closing n) e = same_shared (fault_of needs w s (closing n)) w _
+
+  -- a request that is not about the session's transaction leaves it
+  pub transaction_apart : (w : World) (q : ℕ) (request : Request)
+      → is_of_transaction s q request ≡ false
+      → (after needs w (asked q request)).sessions.transaction s ≡ w.sessions.transaction s
+  transaction_apart w q beginning e = unless_same (fault_of needs w q beginning)
+      (world_then needs w q beginning) w (apart q _ (w.sessions.transaction s) e)
+  transaction_apart w q (buffering cs) e = unless_same (fault_of needs w q (buffering cs))
+      (world_then needs w q (buffering cs)) w (apart q _ (w.sessions.transaction s) e)
+  transaction_apart w q (committing m) e = unless_same (fault_of needs w q (committing m))
+      (world_then needs w q (committing m)) w (apart q None (w.sessions.transaction s) e)
+  transaction_apart w q aborting e = unless_same (fault_of needs w q aborting)
+      (world_then needs w q aborting) w (apart q None (w.sessions.transaction s) e)
+  transaction_apart w q (opening n query) e = unless_same (fault_of needs w q (opening n query))
+      (world_then needs w q (opening n query)) w refl
+  transaction_apart w q (fetching n count) e = unless_same (fault_of needs w q (fetching n count))
+      (world_then needs w q (fetching n count)) w (fetched_same q n count _ w.sessions)
+  transaction_apart w q (closing n) e = unless_same (fault_of needs w q (closing n))
+      (world_then needs w q (closing n)) w refl

@@ -5,8 +5,7 @@ use Rattle.prima_base.specs.declared.value.Value.TheVariants.{Int}
 use Rattle.prima_base.specs.declared.refusal.Refusal.TheVariants.{SchemaMoved, Begun, NotBegun}
 use Rattle.prima_base.specs.declared.refusal.Refusal.TheVariants.{NoCursor}
 use Rattle.smo_ops_types.specs.Operators.{nop}
-use Rattle.smo_ops_types.specs.Changes.{PlainChange, deletion}
-use Rattle.cond_expr.specs.Trees.{always}
+use Rattle.smo_ops_types.specs.Changes.{PlainChange, insertion}
 use Rattle.smo_ops_types.specs.Commands.{PlainCommand, evolving}
 use Rattle.smo_ops_spec.specs.OneRow.{Row}
 use Rattle.smo_ops_spec.specs.Past as past
@@ -33,7 +32,7 @@ evolved = elsewhere (shown (past.past_with past.beginning
     (record { stamp = 7; body = evolving nop [] })))
 
 abbrev change : PlainChange
-change = deletion (codes "t") always
+change = insertion (codes "t") ((codes "a", Int (pos 1)) ∷ [])
 
 abbrev after_these : List Step → World
 after_these steps = after_all needs fresh steps

@@ -33,7 +33,7 @@ abbrev pub shared_unless : Fault → Shared → Shared → Shared
 shared_unless None then now = then
 shared_unless (Some r) then now = now
 
--- the entries that an answer gives
+-- the next entries of an open cursor
 abbrev pub entries_given : Option PlainCursor → ℕ → List (Entry Row)
 entries_given None count = []
 entries_given (Some c) count = next_entries count c
@@ -53,12 +53,11 @@ abbrev pub leave_open : ℕ → List ℕ → List Step → Bool
 leave_open s name [] = true
 leave_open s name (step ∷ steps) = leaves_open s name step && leave_open s name steps
 
--- the changes that a step adds to the session's transaction
+-- where it is refused none are added
 abbrev pub added_unless : Fault → List PlainChange → List PlainChange
 added_unless None changes = changes
 added_unless (Some r) changes = []
 
--- a step is no COMMIT of the session that is accepted, and no ABORT of it
 abbrev pub is_refused : Fault → Bool
 is_refused None = false
 is_refused (Some r) = true
@@ -68,6 +67,26 @@ is_refused (Some r) = true
 abbrev pub refused_where_moved : Bool → ℕ → ℕ → Fault → Fault
 refused_where_moved true began now fault = fault
 refused_where_moved false began now fault = Some (SchemaMoved began now)
+
+-- it is about this session's transaction
+abbrev pub is_of_transaction : ℕ → ℕ → Request → Bool
+is_of_transaction s q beginning = nat_eq s q
+is_of_transaction s q (buffering changes) = nat_eq s q
+is_of_transaction s q (committing stamp) = nat_eq s q
+is_of_transaction s q aborting = nat_eq s q
+is_of_transaction s q (opening name query) = false
+is_of_transaction s q (fetching name count) = false
+is_of_transaction s q (closing name) = false
+
+-- it is about this session's cursor of this name
+abbrev pub is_of_cursor : ℕ → List ℕ → ℕ → Request → Bool
+is_of_cursor s name q beginning = false
+is_of_cursor s name q (buffering changes) = false
+is_of_cursor s name q (committing stamp) = false
+is_of_cursor s name q aborting = false
+is_of_cursor s name q (opening n query) = nat_eq s q && same name n
+is_of_cursor s name q (fetching n count) = nat_eq s q && same name n
+is_of_cursor s name q (closing n) = nat_eq s q && same name n
 
 -- only a COMMIT changes what is shared
 abbrev pub is_commit : Request → Bool
@@ -132,6 +151,7 @@ module _ (needs : PlainCommand → ℕ) where
 
   -- ---- a transaction
 
+  -- the changes that a step adds to the session's transaction
   abbrev pub added_at : World → ℕ → Step → List PlainChange
   added_at w s (asked q (buffering changes)) = cond (nat_eq s q)
       (added_unless (fault_of needs w q (buffering changes)) changes) []
@@ -147,6 +167,7 @@ module _ (needs : PlainCommand → ℕ) where
   added w s [] = []
   added w s (step ∷ steps) = added_at w s step ++ added (after w step) s steps
 
+  -- a step is no COMMIT of the session that is accepted, and no ABORT of it
   abbrev pub leaves_begun : World → ℕ → Step → Bool
   leaves_begun w s (asked q (committing stamp)) = cond (nat_eq s q)
       (is_refused (fault_of needs w q (committing stamp))) true
@@ -191,3 +212,17 @@ module _ (needs : PlainCommand → ℕ) where
   abbrev pub OnlyCommitsChange : Type 0
   OnlyCommitsChange = (w : World) → (s : ℕ) → (request : Request) → is_commit request ≡ false
       → (after w (asked s request)).shared ≡ w.shared
+
+  -- ---- what a request is not about
+
+  -- What a session asks for leaves each transaction and each cursor that it is not about: what
+  -- another session has, and what else the session has itself.
+  pub record IsApart (w : World) (q : ℕ) (request : Request) (s : ℕ) : Type 0 where
+    pub transaction : is_of_transaction s q request ≡ false
+        → (after w (asked q request)).sessions.transaction s ≡ w.sessions.transaction s
+    pub cursors : (name : List ℕ) → is_of_cursor s name q request ≡ false
+        → cursor_of (after w (asked q request)).sessions s name ≡ cursor_of w.sessions s name
+
+  abbrev pub SessionsAreApart : Type 0
+  SessionsAreApart = (w : World) → (q : ℕ) → (request : Request) → (s : ℕ)
+      → IsApart w q request s

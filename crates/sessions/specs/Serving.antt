@@ -32,7 +32,8 @@ module _ (needs : PlainCommand → ℕ) where
   said_of_commit (Some done) = committed done.stamp done.gained done.lost
 
   -- The same for a COMMIT. Where the vault is broken or its disk fails the sessions have what they
-  -- had, too; the first is no refusal's place, the second that of a command that is accepted.
+  -- had, too. A broken vault does not tell whether the command would be refused; where the disk
+  -- failed it was not.
   abbrev pub ServesCommit : World → ℕ → ℕ → Result (Option VaultDone) VaultFault → PlainSessions
       → (Shared → Type 0) → Type 0
   ServesCommit w s stamp (Ok done) new shows = (fault_of needs w s (committing stamp) ≡ None)

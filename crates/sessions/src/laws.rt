@@ -3,7 +3,7 @@
 ghost use Rattle.std.specs.Prelude.{ℕ};
 ghost use Rattle.smo_ops_types.specs.Commands.{PlainCommand};
 ghost use Rattle.sessions.specs.Runs.{CursorsKeepTheirAnswers, TransactionsAreWhole};
-ghost use Rattle.sessions.specs.Runs.{OnlyCommitsChange};
+ghost use Rattle.sessions.specs.Runs.{OnlyCommitsChange, SessionsAreApart};
 
 /// A fetch gives the next entries of the answer at the cursor's opening, and all that was fetched
 /// is the beginning of that answer, whatever is done between.
@@ -20,4 +20,10 @@ pub fn transactions_are_whole()
 /// Nothing that a session asks for but a COMMIT changes what is shared.
 pub fn only_commits_change()
     ensures { (needs : PlainCommand → ℕ) → OnlyCommitsChange needs }
+{}
+
+/// What a session asks for leaves each transaction and each cursor that it is not about: what
+/// another session has, and what else the session has itself.
+pub fn sessions_are_apart()
+    ensures { (needs : PlainCommand → ℕ) → SessionsAreApart needs }
 {}

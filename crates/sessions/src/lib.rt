@@ -14,7 +14,9 @@ mod transaction;
 mod vault;
 
 pub use cursor::CursorLine;
-pub use laws::{cursors_keep_their_answers, only_commits_change, transactions_are_whole};
+pub use laws::{
+    cursors_keep_their_answers, only_commits_change, sessions_are_apart, transactions_are_whole,
+};
 pub use request::SessionRequest;
 pub use session::Sessions;
 pub use vault::{KeptRow, Vault, VaultDone, VaultFault};

@@ -101,7 +101,7 @@ impl Sessions {
         ensures no_memory { result ≡ Err fault.NoMemory → ⊥ }
         ensures no_disk { IfErr result IsNoDisks }
     {
-        match self.transactions.shift_remove(&session) {
+        match self.transactions.swap_remove(&session) {
             None => Err(VaultFault::Refused(Refusal::NotBegun(session))),
             Some(_) => Ok(()),
         }
@@ -166,12 +166,12 @@ impl Sessions {
         let newest = vault.newest();
         match self.command_of(session, stamp, newest)? {
             None => {
-                self.transactions.shift_remove(&session);
+                self.transactions.swap_remove(&session);
                 Ok(None)
             }
             Some(command) => match vault.commit(command) {
                 Ok(done) => {
-                    self.transactions.shift_remove(&session);
+                    self.transactions.swap_remove(&session);
                     Ok(Some(done))
                 }
                 Err(fault) => Err(fault),

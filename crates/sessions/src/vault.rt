@@ -28,7 +28,8 @@ pub struct KeptRow {
     pub period: Period,
 }
 
-/// Why a call gives no answer. All is then as it was.
+/// Why a call gives no answer. The sessions are then as they were, and so is the vault, but after
+/// `Disk`: then it is broken, and the record may stand in its file.
 #[derive(Drop)]
 pub enum VaultFault {
     /// The first refusal in order of precedence.
@@ -86,7 +87,8 @@ pub trait Vault {
     /// The newest version. It takes no memory.
     fn newest(&self) -> u32
         ensures newest { (shared : Shared) → shows self.now shared
-            → result ≡ length shared.past.versions };
+            → result ≡ length shared.past.versions }
+        ensures known { (shared : Shared) × shows self.now shared };
 
     /// Commits a command of changes whole, or leaves all as it was. `Broken` comes first, exactly
     /// where an earlier call has answered `Disk`; `Refused` exactly by the first refusal; `Disk`

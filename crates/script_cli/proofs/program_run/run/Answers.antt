@@ -19,6 +19,7 @@ use Rattle.script_cli_statement.proofs.ExplainedQueries.{tells_pieces}
 use Rattle.script_cli_statement.proofs.Errors.{error_told}
 use Rattle.script_cli_vault.specs.Shown.{need_of}
 use Rattle.script_cli.proofs.SessionStatements.{statements_are_steps, commits_are_commands}
+use Rattle.script_cli.proofs.FetchedEntries.{fetches_are_of_the_answer}
 use Rattle.script_cli.proofs.Recording.{recorded_is, put_sound, put_accepted, still_sound}
 use Rattle.script_cli.proofs.OnDisks.{sound_opens}
 use Rattle.script_cli.proofs.Answered.{answered_over, answered_untouched}
@@ -282,6 +283,8 @@ returns-clause-laws g c = record {
       (recorded_after limit (recorded opening) statements).past query accepted) from to;
   steps = statements_are_steps;
   cursors = c.cursors_keep_their_answers.ensures need_of;
+  fetches = fetches_are_of_the_answer (c.cursors_keep_their_answers.ensures need_of);
+  apart = c.sessions_are_apart.ensures need_of;
   transactions = c.transactions_are_whole.ensures need_of;
   commits = c.only_commits_change.ensures need_of;
   commands = commits_are_commands;

@@ -11,7 +11,7 @@ use Rattle.tests_archive.proofs.version.may_be_asked.Goals as goal
 
 pub schema_of-schema-requires : goal.schema_of-schema-requires
 schema_of-schema-requires c =
-    let groups = ap (λ (k : Kept). length k.versions) c.groups.ensures in
+    let groups = ap (λ (k : Kept). length k.versions) c.groups.ensures.groups in
     let same = ap length c.requires.same in
     omega (arith, groups, same, c.requires.there)
 
@@ -20,7 +20,8 @@ returns c = λ found.
     let versions = versions_of c.args.versions.now in
     let table = c.args.table.now in
     let same : versions_in c.groups.result.now ≡ versions =
-    ap (λ (k : Kept). versions_in k) c.groups.ensures ∙ ap (map version_of) (sym c.requires.same) in
+    ap (λ (k : Kept). versions_in k) c.groups.ensures.groups
+        ∙ ap (map version_of) (sym c.requires.same) in
     let schema : c.schema_of-schema.result.now ≡ tables_from no_tables versions c.args.asked =
     c.schema_of-schema.ensures
     ∙ ap (λ (vs : List PlainVersion). tables_from no_tables vs c.args.asked) same in

@@ -21,7 +21,7 @@ returns-in-Ok-clause-serves g c = λ shared sh.
     done_serves g.V.Vault.needs shared c.args.stamp (sessions_of c.args.self.now) c.args.session
     (g.V.Vault.shows c.commit.new.self) comes c.in-Ok.done _
     (ended c.args.self.now.transactions.entries _ c.args.session _
-    c.shift_remove-in-Ok.ensures.updates.0) b
+    c.swap_remove-in-Ok.ensures.updates.0) b
 
 pub returns-in-Err-clause-serves : goal.returns-in-Err-clause-serves
 returns-in-Err-clause-serves g c = λ shared sh.
