@@ -198,8 +198,8 @@ asked :
     × Reads (codes "SESSION 1 COMMIT AT now") (Refused (Syntax 20))
     × Reads (codes "SESSION 1 FETCH c") (Refused (Syntax 17))
     × Reads (codes "SESSION 1 DO EVOLVE NOP") (Refused (Syntax 13))
-unfolding reading lexed_from gap_len gap_dash scanned_from is_name name small moment more statement
-    session_rest request do_rest commit_rest open_rest fetch_rest close_rest changes change
+unfolding reading lexed_from gap_len gap_dash scanned_from is_name name small moment as_many more
+    statement session_rest request do_rest commit_rest open_rest fetch_rest close_rest changes change
     delete_rest query.ask query.branches query.branch query.outputs query.output query.items
     query.item query.alias fresh_where expr ref_rest outermost query.when_part query.as_of
     query.range query.during query.keeping
