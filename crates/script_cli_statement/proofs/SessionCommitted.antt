@@ -203,10 +203,10 @@ module _ (given : Given) (now : Recorded) (s stamp : ℕ) (shows : Shared → Ty
   commit_served old new same r h = subst (λ o.
       ServesCommit need_of (a_world (shared_by given now) o) s stamp r new shows) same h
 
-  pub commit_leaves : (new : PlainSessions) (done : Option VaultDone)
-      → ServesCommit need_of (world_of given now) s stamp (Ok done) new shows
+  pub commit_leaves : (new : PlainSessions) (answer : Option VaultDone)
+      → ServesCommit need_of (world_of given now) s stamp (Ok answer) new shows
       → new ≡ (session_reply given s (committing stamp) now).after.sessions
-  commit_leaves new done h = h.2 ∙ ap (λ (f : Fault). (refused_or f now
+  commit_leaves new answer h = h.2 ∙ ap (λ (f : Fault). (refused_or f now
       (request_reply given s (committing stamp) now)).after.sessions) (sym h.0)
 
   pub refusal_leaves : (new : PlainSessions) (r : Refusal)
