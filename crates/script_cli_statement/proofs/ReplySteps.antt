@@ -8,7 +8,8 @@ use Rattle.std.proofs.lemmas.List.{append-nil, map-append}
 use Rattle.smo_ops_types.specs.Commands.{PlainCommand}
 use Rattle.smo_ops_spec.specs.Checks.{Fault}
 use Rattle.smo_ops_spec.specs.Accepts.{command_fault}
-use Rattle.smo_ops_spec.specs.Past.{Past, beginning, past_with}
+use Rattle.smo_ops_spec.specs.Past as pasts
+use Rattle.smo_ops_spec.specs.Past.{Past, past_with}
 use Rattle.smo_ops_spec.proofs.Firsts.{none_of_first}
 use Rattle.temporal_lang_spec.specs.Accepted.{version_fault, fault_of_query}
 use Rattle.journal.specs.Records.{Record, before_gate, body}
@@ -105,7 +106,7 @@ stands_push : (opening : List LogRecord) (now : Recorded) (due : Due) (r : LogRe
     → StandsAfter (opening ++ r ∷ []) (recorded_with now due)
 stands_push opening now due r stands here is = record {
   past = sym (here.leads r is) ∙ ap (λ past. after_record past r) stands.past
-      ∙ sym (after_append beginning opening (r ∷ []));
+      ∙ sym (after_append pasts.beginning opening (r ∷ []));
   at = ap (λ n. n + 10 + due_length due) stands.at
       ∙ sym (gate_push opening r ∙ ap (λ n. gate_after opening + 10 + n) (its_length due r is));
 }

@@ -27,6 +27,7 @@ use Rattle.sessions.specs.Shared.{Shared}
 use Rattle.sessions.specs.Steps.{a_world, fault_of, command_at, changes_so_far, shared_after}
 use Rattle.sessions.specs.Steps.{committed_nothing}
 use Rattle.sessions.specs.Serving.{ServesCommit}
+use Rattle.script_cli_vault.specs.Answered as answered
 use Rattle.script_cli_vault.specs.Answered.{answer_of}
 use Rattle.script_cli_vault.specs.Shown.{Shows, IsPutBy, IsGiven, need_of}
 use Rattle.script_cli_vault.proofs.Answers.{had_failed}
@@ -77,7 +78,8 @@ module _ {D : Type 0} {g : Ghosts D} (a b : Archive D g) (law : IsValid (below a
       → PutBetween a b []
   given_none command e no_disk (Ok d) same h = absurd (cc)
   given_none command e no_disk (Err f) same h =
-      let untouched = h.untouched (λ is. no_disk (cc (same, is))) in
+      let it : e ≡ answered.fault_of f = cc in
+      let untouched = h.untouched (λ is. no_disk (it ∙ ap answered.fault_of is)) in
       untouched_between a b law untouched.0 untouched.1
 
   pub none_given : (command : PlainCommand) (e : VaultFault) → (e ≡ vault.Disk → ⊥)
@@ -201,10 +203,10 @@ module _ (given : Given) (now : Recorded) (s stamp : ℕ) (shows : Shared → Ty
   commit_served old new same r h = subst (λ o.
       ServesCommit need_of (a_world (shared_by given now) o) s stamp r new shows) same h
 
-  pub commit_leaves : (new : PlainSessions) (done : Option VaultDone)
-      → ServesCommit need_of (world_of given now) s stamp (Ok done) new shows
+  pub commit_leaves : (new : PlainSessions) (answer : Option VaultDone)
+      → ServesCommit need_of (world_of given now) s stamp (Ok answer) new shows
       → new ≡ (session_reply given s (committing stamp) now).after.sessions
-  commit_leaves new done h = h.2 ∙ ap (λ (f : Fault). (refused_or f now
+  commit_leaves new answer h = h.2 ∙ ap (λ (f : Fault). (refused_or f now
       (request_reply given s (committing stamp) now)).after.sessions) (sym h.0)
 
   pub refusal_leaves : (new : PlainSessions) (r : Refusal)

@@ -1,4 +1,5 @@
-use Rattle.std.proofs.Common.{refl, ap, sym, subst, ◌∙◌, ⊎_elim, Some, None, Err, inl, inr}
+use Rattle.std.proofs.Common.{◌≡◌, refl, ap, sym, subst, ◌∙◌, ◌⊎◌, ⊎_elim, Some, None, Err, inl}
+use Rattle.std.proofs.Common.{inr}
 use Rattle.archive_core.specs.Fields.{below}
 use Rattle.sessions.specs.Meaning.{sessions_of}
 use Rattle.sessions.specs.Requests.{committing}
@@ -14,8 +15,11 @@ use Rattle.script_cli_statement.proofs.SessionCommitted.{commit_served, commit_l
 use Rattle.script_cli_statement.proofs.SessionCommitted.{refusal_leaves}
 use Rattle.script_cli_statement.proofs.session_response.respond_commit.Goals as goal
 
--- The archive after the call is the one that the vault has borrowed; `here` is what is served, of
--- what stands.
+either : {A B C : Type 0} → A ⊎ B → (A → C) → (B → C) → C
+either it f g = ⊎_elim f g it
+
+-- What comes back is the reference that the vault borrowed (`back`), so that the archive after the
+-- call is the vault's; `here` is what is served, of what stands.
 pub returns-in-Ok-Some-clause-replies : goal.returns-in-Ok-Some-clause-replies
 returns-in-Ok-Some-clause-replies g c = λ given now represents kept.
     let a = c.args.archive.now in
@@ -26,13 +30,15 @@ returns-in-Ok-Some-clause-replies g c = λ given now represents kept.
     (rw c.in-Ok-Some.field-0-is at (c.in-Ok-Some.ensures.serves (shared_by given now)
     (shows_at a given now represents))) in
     let gives = rw c.in-Ok-Some.field-0-is at c.in-Ok-Some.ensures.gives in
-    subst (λ r. Responds given (session_reply given c.args.session (committing c.args.stamp) now) r
-    a b (g.K.Sink.written c.args.sink.now) (g.K.Sink.written c.put_committed.new.sink))
+    let back : c.archive-1.given.0 ≡ b = c.archive-1.given.1 (sym gives.1.1) in
+    rw back (subst (λ r. Responds given
+    (session_reply given c.args.session (committing c.args.stamp) now) r a b
+    (g.K.Sink.written c.args.sink.now) (g.K.Sink.written c.put_committed.new.sink))
     (sym c.or_write_fault.ensures)
     (done_responds a b given now c.args.session c.args.stamp had new kept _ _
     (g.met.D.Disk.valid a.journal.disk) c.in-Ok-Some.done here gives.0 gives.1.0
     c.put_committed.result c.put_committed.ensures.ok c.put_committed.ensures.all
-    c.put_committed.ensures.part)
+    c.put_committed.ensures.part))
 
 pub returns-in-Ok-None-clause-replies : goal.returns-in-Ok-None-clause-replies
 returns-in-Ok-None-clause-replies g c = λ given now represents kept.
@@ -44,12 +50,15 @@ returns-in-Ok-None-clause-replies g c = λ given now represents kept.
     (rw c.in-Ok-None.field-0-is at (c.in-Ok-None.ensures.serves (shared_by given now)
     (shows_at a given now represents))) in
     let gives = rw c.in-Ok-None.field-0-is at c.in-Ok-None.ensures.gives in
-    subst (λ r. Responds given (session_reply given c.args.session (committing c.args.stamp) now) r
-    a b (g.K.Sink.written c.args.sink.now) (g.K.Sink.written c.put_empty.new.sink))
+    let back : c.archive-1.given.0 ≡ b =
+    c.archive-1.given.1 (λ i. ((sym gives.1) i).archive.ghost_name) in
+    rw back (subst (λ r. Responds given
+    (session_reply given c.args.session (committing c.args.stamp) now) r a b
+    (g.K.Sink.written c.args.sink.now) (g.K.Sink.written c.put_empty.new.sink))
     (sym c.without_error.ensures)
     (empty_responds a b given now c.args.session c.args.stamp had new kept _ _
-    (g.met.D.Disk.valid a.journal.disk) c.put_empty.result (ap (λ v. v.archive.now) gives.1) here
-    gives.0 c.put_empty.ensures.all c.put_empty.ensures.part)
+    (g.met.D.Disk.valid a.journal.disk) c.put_empty.result (λ i. (gives.1 i).archive.now) here
+    gives.0 c.put_empty.ensures.all c.put_empty.ensures.part))
 
 pub returns-in-Err-Refused-clause-replies : goal.returns-in-Err-Refused-clause-replies
 returns-in-Err-Refused-clause-replies g c = λ given now represents kept.
@@ -61,13 +70,17 @@ returns-in-Err-Refused-clause-replies g c = λ given now represents kept.
     (rw c.in-Err-Refused.field-0-is at (c.in-Err-Refused.ensures.serves (shared_by given now)
     (shows_at a given now represents))) in
     let gives = rw c.in-Err-Refused.field-0-is at c.in-Err-Refused.ensures.gives in
-    subst (λ r. Responds given (session_reply given c.args.session (committing c.args.stamp) now) r
-    a b (g.K.Sink.written c.args.sink.now) (g.K.Sink.written c.refuse.new.sink))
+    let back : c.archive-1.given.0 ≡ b = either gives
+    (λ same. c.archive-1.given.1 (λ i. ((sym same) i).archive.ghost_name))
+    (λ it. c.archive-1.given.1 (sym it.1.1)) in
+    rw back (subst (λ r. Responds given
+    (session_reply given c.args.session (committing c.args.stamp) now) r a b
+    (g.K.Sink.written c.args.sink.now) (g.K.Sink.written c.refuse.new.sink))
     (sym c.or_write_fault-in-Err-Refused.ensures)
     (refusal_responds a b given now c.args.session c.args.stamp had new kept _ _
     (g.met.D.Disk.valid a.journal.disk) c.in-Err-Refused.refusal c.refuse.result here
-    (⊎_elim (λ same. inl (ap (λ v. v.archive.now) same)) (λ it. inr it.1.0) gives)
-    c.refuse.ensures.ok c.refuse.ensures.all c.refuse.ensures.part)
+    (either gives (λ same. inl (λ i. (same i).archive.now)) (λ it. inr it.1.0))
+    c.refuse.ensures.ok c.refuse.ensures.all c.refuse.ensures.part))
 
 pub returns-in-Err-Broken-clause-replies : goal.returns-in-Err-Broken-clause-replies
 returns-in-Err-Broken-clause-replies g c = λ given now represents kept.
@@ -83,7 +96,9 @@ returns-in-Err-Disk-clause-replies g c = λ given now represents kept.
     let here = commit_served given now c.args.session c.args.stamp (Shows b) had new kept _
     (rw c.in-Err-Disk.field-0-is at (c.in-Err-Disk.ensures.serves (shared_by given now)
     (shows_at a given now represents))) in
-    let gives = rw c.in-Err-Disk.field-0-is at c.in-Err-Disk.ensures.gives in (
+    let gives = rw c.in-Err-Disk.field-0-is at c.in-Err-Disk.ensures.gives in
+    let back : c.archive-1.given.0 ≡ b = c.archive-1.given.1 (sym gives.1.1) in
+    rw back (
       refl,
       failed_responds a b given now c.args.session c.args.stamp had new kept _ _
           (g.met.D.Disk.valid a.journal.disk) here gives.0 gives.1.0,
@@ -93,39 +108,53 @@ pub returns-in-Err-NoMemory-clause-replies : goal.returns-in-Err-NoMemory-clause
 returns-in-Err-NoMemory-clause-replies g c = λ given now represents kept.
     let a = c.args.archive.now in
     let b = c.commit.new.vault.archive.now in
-    let gives = rw c.in-Err-NoMemory.field-0-is at c.in-Err-NoMemory.ensures.gives in (
+    let gives = rw c.in-Err-NoMemory.field-0-is at c.in-Err-NoMemory.ensures.gives in
+    let back : c.archive-1.given.0 ≡ b = either gives
+    (λ same. c.archive-1.given.1 (λ i. ((sym same) i).archive.ghost_name))
+    (λ it. c.archive-1.given.1 (sym it.1.1)) in
+    rw back (
       refl,
       none_given a b (g.met.D.Disk.valid a.journal.disk) _ _ (λ e. cc)
-          (⊎_elim (λ same. inl (ap (λ v. v.archive.now) same)) (λ it. inr it.1.0) gives),
+          (either gives (λ same. inl (λ i. (same i).archive.now)) (λ it. inr it.1.0)),
     )
 
 -- ---- the counts of faults
 
 pub returns-in-Ok-Some-clause-counts : goal.returns-in-Ok-Some-clause-counts
 returns-in-Ok-Some-clause-counts g c =
-    subst (λ r. StopCounted r (g.K.Sink.faults c.args.sink.now)
-    (g.K.Sink.faults c.put_committed.new.sink) (below c.args.archive.now).faults
-    (below c.commit.new.vault.archive.now).faults) (sym c.or_write_fault.ensures)
+    let b = c.commit.new.vault.archive.now in
+    let gives = rw c.in-Ok-Some.field-0-is at c.in-Ok-Some.ensures.gives in
+    let back : c.archive-1.given.0 ≡ b = c.archive-1.given.1 (sym gives.1.1) in
+    rw back (subst (λ r. StopCounted r (g.K.Sink.faults c.args.sink.now)
+    (g.K.Sink.faults c.put_committed.new.sink) (below c.args.archive.now).faults (below b).faults)
+    (sym c.or_write_fault.ensures)
     (reason_counted c.put_committed.result _ _ _ _ c.put_committed.ensures.cause
-    (c.commit.ensures.unfailed (λ e. cc (e, c.in-Ok-Some.is))))
+    (c.commit.ensures.unfailed (λ e. cc (e, c.in-Ok-Some.is)))))
 
 pub returns-in-Ok-None-clause-counts : goal.returns-in-Ok-None-clause-counts
 returns-in-Ok-None-clause-counts g c =
+    let a = c.args.archive.now in
+    let b = c.commit.new.vault.archive.now in
     let gives = rw c.in-Ok-None.field-0-is at c.in-Ok-None.ensures.gives in
-    subst (λ v. StopCounted c.without_error.result (g.K.Sink.faults c.args.sink.now)
-    (g.K.Sink.faults c.put_empty.new.sink) (below c.args.archive.now).faults (below v).faults)
-    (sym (ap (λ v. v.archive.now) gives.1))
-    (reason_said c.without_error.result _ _ _
+    let back : c.archive-1.given.0 ≡ b =
+    c.archive-1.given.1 (λ i. ((sym gives.1) i).archive.ghost_name) in
+    let still : b ≡ a = λ i. (gives.1 i).archive.now in
+    rw (back ∙ still) (reason_said c.without_error.result _ _ _
     (rw (← c.without_error.ensures) at (line_counted c.put_empty.result _ _
     c.put_empty.ensures.cause)))
 
 pub returns-in-Err-Refused-clause-counts : goal.returns-in-Err-Refused-clause-counts
 returns-in-Err-Refused-clause-counts g c =
-    subst (λ r. StopCounted r (g.K.Sink.faults c.args.sink.now) (g.K.Sink.faults c.refuse.new.sink)
-    (below c.args.archive.now).faults (below c.commit.new.vault.archive.now).faults)
+    let b = c.commit.new.vault.archive.now in
+    let gives = rw c.in-Err-Refused.field-0-is at c.in-Err-Refused.ensures.gives in
+    let back : c.archive-1.given.0 ≡ b = either gives
+    (λ same. c.archive-1.given.1 (λ i. ((sym same) i).archive.ghost_name))
+    (λ it. c.archive-1.given.1 (sym it.1.1)) in
+    rw back (subst (λ r. StopCounted r (g.K.Sink.faults c.args.sink.now)
+    (g.K.Sink.faults c.refuse.new.sink) (below c.args.archive.now).faults (below b).faults)
     (sym c.or_write_fault-in-Err-Refused.ensures)
     (reason_counted c.refuse.result _ _ _ _ c.refuse.ensures.cause
-    (c.commit.ensures.unfailed (λ e. cc (e, c.in-Err-Refused.is, c.in-Err-Refused.field-0-is))))
+    (c.commit.ensures.unfailed (λ e. cc (e, c.in-Err-Refused.is, c.in-Err-Refused.field-0-is)))))
 
 pub returns-in-Err-Broken-clause-counts : goal.returns-in-Err-Broken-clause-counts
 returns-in-Err-Broken-clause-counts g c =
@@ -134,7 +163,10 @@ returns-in-Err-Broken-clause-counts g c =
 
 pub returns-in-Err-Disk-clause-counts : goal.returns-in-Err-Disk-clause-counts
 returns-in-Err-Disk-clause-counts g c =
-    let gives = rw c.in-Err-Disk.field-0-is at c.in-Err-Disk.ensures.gives in (
+    let b = c.commit.new.vault.archive.now in
+    let gives = rw c.in-Err-Disk.field-0-is at c.in-Err-Disk.ensures.gives in
+    let back : c.archive-1.given.0 ≡ b = c.archive-1.given.1 (sym gives.1.1) in
+    rw back (
       refl,
       (
         gives.1.0.put.puts.goes.counts,
@@ -143,10 +175,16 @@ returns-in-Err-Disk-clause-counts g c =
     )
 
 pub returns-in-Err-NoMemory-clause-counts : goal.returns-in-Err-NoMemory-clause-counts
-returns-in-Err-NoMemory-clause-counts g c = (
-  refl,
-  c.commit.ensures.unfailed (λ e. cc (e, c.in-Err-NoMemory.is, c.in-Err-NoMemory.field-0-is)),
-)
+returns-in-Err-NoMemory-clause-counts g c =
+    let b = c.commit.new.vault.archive.now in
+    let gives = rw c.in-Err-NoMemory.field-0-is at c.in-Err-NoMemory.ensures.gives in
+    let back : c.archive-1.given.0 ≡ b = either gives
+    (λ same. c.archive-1.given.1 (λ i. ((sym same) i).archive.ghost_name))
+    (λ it. c.archive-1.given.1 (sym it.1.1)) in
+    rw back (
+      refl,
+      c.commit.ensures.unfailed (λ e. cc (e, c.in-Err-NoMemory.is, c.in-Err-NoMemory.field-0-is)),
+    )
 
 -- ---- what the sessions then have
 
@@ -184,19 +222,33 @@ returns-in-Err-Refused-clause-sessions g c = λ given now represents kept.
 
 pub returns-in-Ok-Some-clause-takes : goal.returns-in-Ok-Some-clause-takes
 returns-in-Ok-Some-clause-takes g c =
-    on_ok _ _ (still_takes c.commit.new.vault.archive.now
-    (λ e. ⊎_elim (λ before. cc (before, c.requires.takes)) (λ failed. cc (failed, c.in-Ok-Some.is))
-    (c.commit.ensures.breaks.0 e)))
+    let b = c.commit.new.vault.archive.now in
+    let gives = rw c.in-Ok-Some.field-0-is at c.in-Ok-Some.ensures.gives in
+    let back : c.archive-1.given.0 ≡ b = c.archive-1.given.1 (sym gives.1.1) in
+    rw back (on_ok _ _ (still_takes b
+    (λ e. ⊎_elim (λ before. cc (before, c.requires.takes))
+    (λ failed. cc (failed, c.in-Ok-Some.is))
+    (c.commit.ensures.breaks.0 e))))
 
 pub returns-in-Ok-None-clause-takes : goal.returns-in-Ok-None-clause-takes
 returns-in-Ok-None-clause-takes g c =
-    on_ok _ _ (still_takes c.commit.new.vault.archive.now
-    (λ e. ⊎_elim (λ before. cc (before, c.requires.takes)) (λ failed. cc (failed, c.in-Ok-None.is))
-    (c.commit.ensures.breaks.0 e)))
+    let b = c.commit.new.vault.archive.now in
+    let gives = rw c.in-Ok-None.field-0-is at c.in-Ok-None.ensures.gives in
+    let back : c.archive-1.given.0 ≡ b =
+    c.archive-1.given.1 (λ i. ((sym gives.1) i).archive.ghost_name) in
+    rw back (on_ok _ _ (still_takes b
+    (λ e. ⊎_elim (λ before. cc (before, c.requires.takes))
+    (λ failed. cc (failed, c.in-Ok-None.is))
+    (c.commit.ensures.breaks.0 e))))
 
 pub returns-in-Err-Refused-clause-takes : goal.returns-in-Err-Refused-clause-takes
 returns-in-Err-Refused-clause-takes g c =
-    on_ok _ _ (still_takes c.commit.new.vault.archive.now
+    let b = c.commit.new.vault.archive.now in
+    let gives = rw c.in-Err-Refused.field-0-is at c.in-Err-Refused.ensures.gives in
+    let back : c.archive-1.given.0 ≡ b = either gives
+    (λ same. c.archive-1.given.1 (λ i. ((sym same) i).archive.ghost_name))
+    (λ it. c.archive-1.given.1 (sym it.1.1)) in
+    rw back (on_ok _ _ (still_takes b
     (λ e. ⊎_elim (λ before. cc (before, c.requires.takes))
     (λ failed. cc (failed, c.in-Err-Refused.is, c.in-Err-Refused.field-0-is))
-    (c.commit.ensures.breaks.0 e)))
+    (c.commit.ensures.breaks.0 e))))
