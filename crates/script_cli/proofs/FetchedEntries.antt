@@ -1,17 +1,15 @@
 -- What a FETCH tells of a cursor, as the bytes of its reply.
-use Rattle.std.proofs.Common.{◌≡◌, ℕ, Bool, true, false, List, length, take, drop, refl, sym, ap}
-use Rattle.std.proofs.Common.{◌∙◌, subst, true≢false}
+use Rattle.std.proofs.Common.{◌≡◌, ℕ, false, List, length, take, drop, refl, sym, ap}
+use Rattle.std.proofs.Common.{◌∙◌, true≢false}
 use Rattle.std.specs.Prelude.{Some, None}
 use Rattle.smo_ops_spec.specs.Checks.{Fault}
 use Rattle.temporal_lang_types.specs.declared.when.When.{When}
 use Rattle.temporal_lang_types.specs.declared.when.When.TheVariants.{Always, AsOf, During}
-use Rattle.temporal_lang_types.specs.Queries.{PlainQuery}
 use Rattle.temporal_lang_spec.specs.Answers.{answer}
 use Rattle.sessions.specs.Requests.{Request, opening, fetching}
 use Rattle.sessions.specs.Steps.{World, fault_of, answer_of, tells_periods as cursor_periods}
-use Rattle.sessions.specs.Runs.{asked, after, after_all, given, leave_open}
+use Rattle.sessions.specs.Runs.{asked, after, after_all, given}
 use Rattle.sessions.specs.Runs.{CursorsKeepTheirAnswers}
-use Rattle.script_parse.specs.Script.{StatementPart}
 use Rattle.script_parse.specs.Statements.{session}
 use Rattle.script_parse.specs.Reading.{Reading, Whole, reading}
 use Rattle.archive_core.specs.State.{tells_periods}

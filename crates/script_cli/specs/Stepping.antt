@@ -1,6 +1,6 @@
 -- The statements of a script as steps of its sessions, what a FETCH tells, and a COMMIT beside an
 -- AT.
-use Rattle.std.specs.Prelude.{◌≡◌, ℕ, Bool, true, false, List, [], ◌∷◌, length, take, drop, Some}
+use Rattle.std.specs.Prelude.{◌≡◌, ℕ, true, false, List, [], ◌∷◌, length, take, drop, Some}
 use Rattle.temporal_lang_types.specs.Queries.{PlainQuery}
 use Rattle.temporal_lang_spec.specs.Answers.{answer}
 use Rattle.sessions.specs.Shared.{newest}
