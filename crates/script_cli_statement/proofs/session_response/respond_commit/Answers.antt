@@ -1,6 +1,7 @@
 use Rattle.std.proofs.Common.{◌≡◌, refl, ap, sym, subst, ◌∙◌, ◌⊎◌, ⊎_elim, Some, None, Err, inl}
-use Rattle.std.proofs.Common.{inr}
+use Rattle.std.proofs.Common.{inr, Ok}
 use Rattle.archive_core.specs.Fields.{below}
+use Rattle.sessions.specs.declared.vault.VaultFault.TheVariants as vault
 use Rattle.sessions.specs.Meaning.{sessions_of}
 use Rattle.sessions.specs.Requests.{committing}
 use Rattle.script_cli_vault.specs.Shown.{Shows}
@@ -26,8 +27,9 @@ returns-in-Ok-Some-clause-replies g c = λ given now represents kept.
     let b = c.commit.new.vault.archive.now in
     let had = sessions_of c.args.sessions.now in
     let new = sessions_of c.commit.new.self in
-    let here = commit_served given now c.args.session c.args.stamp (Shows b) had new kept _
-    (rw c.in-Ok-Some.field-0-is at (c.in-Ok-Some.ensures.serves (shared_by given now)
+    let here = commit_served given now c.args.session c.args.stamp (Shows b) had new kept
+    (Ok (Some c.in-Ok-Some.done)) (rw c.in-Ok-Some.field-0-is at
+        (c.in-Ok-Some.ensures.serves (shared_by given now)
     (shows_at a given now represents))) in
     let gives = rw c.in-Ok-Some.field-0-is at c.in-Ok-Some.ensures.gives in
     let back : c.archive-1.given.0 ≡ b = c.archive-1.given.1 (sym gives.1.1) in
@@ -46,8 +48,8 @@ returns-in-Ok-None-clause-replies g c = λ given now represents kept.
     let b = c.commit.new.vault.archive.now in
     let had = sessions_of c.args.sessions.now in
     let new = sessions_of c.commit.new.self in
-    let here = commit_served given now c.args.session c.args.stamp (Shows b) had new kept _
-    (rw c.in-Ok-None.field-0-is at (c.in-Ok-None.ensures.serves (shared_by given now)
+    let here = commit_served given now c.args.session c.args.stamp (Shows b) had new kept
+    (Ok None) (rw c.in-Ok-None.field-0-is at (c.in-Ok-None.ensures.serves (shared_by given now)
     (shows_at a given now represents))) in
     let gives = rw c.in-Ok-None.field-0-is at c.in-Ok-None.ensures.gives in
     let back : c.archive-1.given.0 ≡ b =
@@ -66,8 +68,9 @@ returns-in-Err-Refused-clause-replies g c = λ given now represents kept.
     let b = c.commit.new.vault.archive.now in
     let had = sessions_of c.args.sessions.now in
     let new = sessions_of c.commit.new.self in
-    let here = commit_served given now c.args.session c.args.stamp (Shows b) had new kept _
-    (rw c.in-Err-Refused.field-0-is at (c.in-Err-Refused.ensures.serves (shared_by given now)
+    let here = commit_served given now c.args.session c.args.stamp (Shows b) had new kept
+    (Err (vault.Refused c.in-Err-Refused.refusal))
+        (rw c.in-Err-Refused.field-0-is at (c.in-Err-Refused.ensures.serves (shared_by given now)
     (shows_at a given now represents))) in
     let gives = rw c.in-Err-Refused.field-0-is at c.in-Err-Refused.ensures.gives in
     let back : c.archive-1.given.0 ≡ b = either gives
@@ -93,8 +96,9 @@ returns-in-Err-Disk-clause-replies g c = λ given now represents kept.
     let b = c.commit.new.vault.archive.now in
     let had = sessions_of c.args.sessions.now in
     let new = sessions_of c.commit.new.self in
-    let here = commit_served given now c.args.session c.args.stamp (Shows b) had new kept _
-    (rw c.in-Err-Disk.field-0-is at (c.in-Err-Disk.ensures.serves (shared_by given now)
+    let here = commit_served given now c.args.session c.args.stamp (Shows b) had new kept
+    (Err vault.Disk) (rw c.in-Err-Disk.field-0-is at
+        (c.in-Err-Disk.ensures.serves (shared_by given now)
     (shows_at a given now represents))) in
     let gives = rw c.in-Err-Disk.field-0-is at c.in-Err-Disk.ensures.gives in
     let back : c.archive-1.given.0 ≡ b = c.archive-1.given.1 (sym gives.1.1) in
@@ -194,8 +198,9 @@ returns-in-Ok-Some-clause-sessions g c = λ given now represents kept.
     let new = sessions_of c.commit.new.self in
     on_ok _ _ (commit_leaves given now c.args.session c.args.stamp (Shows b) new
     (Some c.in-Ok-Some.done) (commit_served given now c.args.session c.args.stamp (Shows b)
-    (sessions_of c.args.sessions.now) new kept _
-    (rw c.in-Ok-Some.field-0-is at (c.in-Ok-Some.ensures.serves (shared_by given now)
+    (sessions_of c.args.sessions.now) new kept
+    (Ok (Some c.in-Ok-Some.done)) (rw c.in-Ok-Some.field-0-is at
+        (c.in-Ok-Some.ensures.serves (shared_by given now)
     (shows_at c.args.archive.now given now represents)))))
 
 pub returns-in-Ok-None-clause-sessions : goal.returns-in-Ok-None-clause-sessions
@@ -204,8 +209,8 @@ returns-in-Ok-None-clause-sessions g c = λ given now represents kept.
     let new = sessions_of c.commit.new.self in
     on_ok _ _ (commit_leaves given now c.args.session c.args.stamp (Shows b) new None
     (commit_served given now c.args.session c.args.stamp (Shows b)
-    (sessions_of c.args.sessions.now) new kept _
-    (rw c.in-Ok-None.field-0-is at (c.in-Ok-None.ensures.serves (shared_by given now)
+    (sessions_of c.args.sessions.now) new kept
+    (Ok None) (rw c.in-Ok-None.field-0-is at (c.in-Ok-None.ensures.serves (shared_by given now)
     (shows_at c.args.archive.now given now represents)))))
 
 pub returns-in-Err-Refused-clause-sessions : goal.returns-in-Err-Refused-clause-sessions
@@ -214,8 +219,9 @@ returns-in-Err-Refused-clause-sessions g c = λ given now represents kept.
     let new = sessions_of c.commit.new.self in
     on_ok _ _ (refusal_leaves given now c.args.session c.args.stamp (Shows b) new
     c.in-Err-Refused.refusal (commit_served given now c.args.session c.args.stamp (Shows b)
-    (sessions_of c.args.sessions.now) new kept _
-    (rw c.in-Err-Refused.field-0-is at (c.in-Err-Refused.ensures.serves (shared_by given now)
+    (sessions_of c.args.sessions.now) new kept
+    (Err (vault.Refused c.in-Err-Refused.refusal))
+        (rw c.in-Err-Refused.field-0-is at (c.in-Err-Refused.ensures.serves (shared_by given now)
     (shows_at c.args.archive.now given now represents)))))
 
 -- ---- it takes records still
