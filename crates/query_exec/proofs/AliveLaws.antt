@@ -13,7 +13,7 @@ use Rattle.version_groups.specs.Groups.{Kept}
 use Rattle.piece_ir_spec.specs.Pieces.{PlainPiece}
 use Rattle.piece_ir_spec.specs.Rules.{Book}
 use Rattle.piece_ir.specs.Shown.{shown_pieces}
-use Rattle.piece_prune.specs.DeadPieces.{IsDeadPiece, AreLiving, none_left, a_dead_one}
+use Rattle.piece_prune.specs.DeadPieces.{IsDeadPiece, LeavesLiving, none_left, a_dead_one}
 use Rattle.piece_prune.specs.DeadPieces.{a_living_one, lives}
 use Rattle.piece_ir.specs.ExplainedPieces.{PlainExplained}
 use Rattle.piece_ir_spec.specs.Beginnings.{first_piece}
@@ -120,7 +120,7 @@ module _ (versions : List PlainVersion) where
 
   -- pieces over the version of one part
   pub living_alive : (branch atom : ℕ) (p : Part) (ps living : List PlainPiece)
-      → AreLiving (tables_from no_tables versions p.1) ps living
+      → LeavesLiving (tables_from no_tables versions p.1) ps living
       → AreAlive versions (map (explained_in branch atom p) ps)
       (map (explained_in branch atom p) living)
   living_alive branch atom p ps living none_left = none_alive
@@ -266,7 +266,8 @@ module _ (kept : Kept) where
       subst (λ (es : List PlainExplained). In e es)
       (sym (plan_told versions book q table r branch atom parts plan h)) a in
       let x = from_flat_map (own_pieces branch atom) e plan among in
-      let p = from_map (explained_in branch atom x.0.part) e (shown_pieces x.0.pieces.items) x.2 in (
+      let p = from_map (explained_in branch atom x.0.part) e (shown_pieces x.0.pieces.items) x.2 in
+          (
         x.0,
         x.1,
         subst (λ (y : PlainExplained). explained_read kept y ≤ part_read kept x.0) p.2
