@@ -300,7 +300,8 @@ impl<D: Disk> Archive<D> {
 
     /// The versions with their stored tables. It takes no memory.
     pub fn groups(&self) -> &Groups
-        ensures { result.now ≡ (standing_of self.now).groups }
+        ensures groups { result.now ≡ (standing_of self.now).groups }
+        ensures represents { RepresentsSome (standing_of self.now) }
     {
         self.state.groups()
     }

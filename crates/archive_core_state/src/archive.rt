@@ -117,7 +117,8 @@ impl ArchiveState {
 
     /// The versions with their stored tables. It takes no memory.
     pub fn groups(&self) -> &Groups
-        ensures { result.now ≡ self.now.groups }
+        ensures groups { result.now ≡ self.now.groups }
+        ensures represents { RepresentsSome self.now }
     {
         &self.groups
     }

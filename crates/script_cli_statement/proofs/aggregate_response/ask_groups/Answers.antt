@@ -9,14 +9,14 @@ use Rattle.script_cli_statement.proofs.aggregate_response.ask_groups.Goals as go
 pub returns-in-Ok-clause-asked : goal.returns-in-Ok-clause-asked
 returns-in-Ok-clause-asked g c = λ past represents.
     let shown : Represents c.groups.result.now past =
-    subst (λ (k : Kept). Represents k past) (sym c.groups.ensures) represents.groups in
+    subst (λ (k : Kept). Represents k past) (sym c.groups.ensures.groups) represents.groups in
     asked_whole past (query_of c.args.query.now) c.args.items.now c.args.group c.ask_counted.result
     (c.in-Ok.ensures.tested past shown) (c.ask_counted.ensures.asked past represents)
 
 pub returns-in-Err-clause-asked : goal.returns-in-Err-clause-asked
 returns-in-Err-clause-asked g c = λ past represents.
     let shown : Represents c.groups.result.now past =
-    subst (λ (k : Kept). Represents k past) (sym c.groups.ensures) represents.groups in
+    subst (λ (k : Kept). Represents k past) (sym c.groups.ensures.groups) represents.groups in
     checks_wrong past (query_of c.args.query.now) c.args.items.now c.args.group c.in-Err.fault
     (c.in-Err.ensures.tested past shown)
 

@@ -14,7 +14,7 @@ returns-clause-says g c = λ now represents.
     let past = now.past in
     let text = sizes_text (length past.versions) past.sizes in
     let shown : Represents c.groups-groups.result.now past =
-    subst (λ (k : Kept). Represents k past) (sym c.groups-groups.ensures) represents.groups in
+    subst (λ (k : Kept). Represents k past) (sym c.groups-groups.ensures.groups) represents.groups in
     let counted = c.count_lifelines-count.ensures past shown in
     subst (λ r. Says (sizes_reply now) r (g.K.Sink.written c.args.sink.now)
     (g.K.Sink.written c.put_lifelines.new.sink)) (sym c.or_write_fault.ensures)
