@@ -7,7 +7,7 @@ use Rattle.version_groups.specs.Groups.{Kept}
 use Rattle.cases_widths.proofs.version.evolved.Goals as goal
 
 pub returns-clause-same : goal.returns-clause-same
-returns-clause-same c = c.versions.ensures ∙ ap (λ (k : Kept). k.versions) c.groups.ensures
+returns-clause-same c = c.versions.ensures ∙ ap (λ (k : Kept). k.versions) c.groups.ensures.groups
 
 pub returns-clause-valid : goal.returns-clause-valid
 returns-clause-valid c =
