@@ -22,3 +22,17 @@ pub sent_text : {A X : Type 0} (f : X → List ℕ) (g : A → X) (xs : List A) 
 sent_text f g xs i x sent lt is e =
     next_text f g xs i x sent lt is e ∙ sym (append_assoc sent (f (g x))
     (flat_map f (map g (drop (i + 1) xs))))
+
+-- the same of a list as it is
+pub next_own : {X : Type 0} (f : X → List ℕ) (xs : List X) (i : ℕ) (x : X) (sent : List ℕ)
+    → i < length xs → x ≡ get_or xs i x → flat_map f xs ≡ sent ++ flat_map f (drop i xs)
+    → flat_map f xs ≡ sent ++ (f x ++ flat_map f (drop (i + 1) xs))
+next_own f xs i x sent lt is e =
+    e ∙ ap (λ l. sent ++ flat_map f l) (drop_more xs i x lt)
+    ∙ ap (λ y. sent ++ (f y ++ flat_map f (drop (i + 1) xs))) (sym is)
+
+pub sent_own : {X : Type 0} (f : X → List ℕ) (xs : List X) (i : ℕ) (x : X) (sent : List ℕ)
+    → i < length xs → x ≡ get_or xs i x → flat_map f xs ≡ sent ++ flat_map f (drop i xs)
+    → flat_map f xs ≡ (sent ++ f x) ++ flat_map f (drop (i + 1) xs)
+sent_own f xs i x sent lt is e =
+    next_own f xs i x sent lt is e ∙ sym (append_assoc sent (f x) (flat_map f (drop (i + 1) xs)))
