@@ -74,7 +74,7 @@ module _ {F : Type 0} (R : F → Piece → Bool → F → Type 0) (tables : Tabl
       → IsTyped tables (piece_of x)
       → LeavesLiving tables (shown_pieces xs) (shown_pieces (items_where_true bs xs))
       → LeavesLiving tables (shown_pieces (x ∷ xs))
-          (shown_pieces (items_where_true (b ∷ bs) (x ∷ xs)))
+      (shown_pieces (items_where_true (b ∷ bs) (x ∷ xs)))
   one_kept x xs bs true d t a = a_living_one (piece_of x) (shown_pieces xs)
       (shown_pieces (items_where_true bs xs)) (d tables t) a
   one_kept x xs bs false d t a = a_dead_one (piece_of x) (shown_pieces xs)

@@ -39,8 +39,7 @@ fn lives(piece: &Piece) -> bool
 // The pieces that live, in their order.
 fn left(pieces: Vec<Piece>, before: &Schema) -> Vec<Piece>
     requires { AllTyped before.now (shown_pieces pieces.items) }
-    ensures living { LeavesLiving before.now (shown_pieces pieces.items) (shown_pieces result.items)
-        }
+    ensures living { LeavesLiving before.now (shown_pieces pieces.items) (shown_pieces result.items) }
     ensures told { shown_pieces result.items ≡ filter lives (shown_pieces pieces.items) }
 {
     let _typed_over = before;
@@ -54,8 +53,7 @@ fn left(pieces: Vec<Piece>, before: &Schema) -> Vec<Piece>
 /// the union that all of them mean. It takes no memory.
 pub fn living(pieces: Vec<Piece>, before: &Schema) -> Vec<Piece>
     requires { AllTyped before.now (shown_pieces pieces.items) }
-    ensures living { LeavesLiving before.now (shown_pieces pieces.items) (shown_pieces result.items)
-        }
+    ensures living { LeavesLiving before.now (shown_pieces pieces.items) (shown_pieces result.items) }
     ensures told { shown_pieces result.items ≡ filter lives (shown_pieces pieces.items) }
     ensures means { (db : Database) → IsValidDatabase before.now db
         → all_mean before.now db (shown_pieces result.items)

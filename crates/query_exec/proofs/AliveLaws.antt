@@ -266,8 +266,7 @@ module _ (kept : Kept) where
       subst (λ (es : List PlainExplained). In e es)
       (sym (plan_told versions book q table r branch atom parts plan h)) a in
       let x = from_flat_map (own_pieces branch atom) e plan among in
-      let p = from_map (explained_in branch atom x.0.part) e (shown_pieces x.0.pieces.items) x.2 in
-          (
+      let p = from_map (explained_in branch atom x.0.part) e (shown_pieces x.0.pieces.items) x.2 in (
         x.0,
         x.1,
         subst (λ (y : PlainExplained). explained_read kept y ≤ part_read kept x.0) p.2
