@@ -2,9 +2,10 @@
 
 ghost use Rattle.std.specs.Prelude.{◌≡◌, ◌<◌, ◌≤◌, true, length, MatchOption};
 ghost use Rattle.std.specs.FinMap.{contains_key};
+ghost use Rattle.relations_spec.specs.Spans.{forever};
 ghost use Rattle.smo_ops_spec.specs.Past.{Past as SeenPast, tables_of};
 ghost use Rattle.smo_ops_spec.specs.InForce.{begins_at};
-ghost use Rattle.smo_ops_spec.specs.ValidPast.{IsPast};
+ghost use Rattle.smo_ops_spec.specs.ValidPast.{IsPast, last_or_nought};
 ghost use Rattle.version_export.specs.Seen.{table_in, IsListed};
 
 use prima_base::{Name, OpKind, TimedRow};
@@ -27,10 +28,11 @@ pub trait Seen {
     /// The past that it shows.
     ghost past: { Self → SeenPast };
 
-    /// The newest version.
+    /// The newest version. Each stamp is before the end of time.
     fn newest(&self) -> u32
         ensures count { result ≡ length (past self.now).versions }
-        ensures valid { IsPast (past self.now) };
+        ensures valid { IsPast (past self.now) }
+        ensures ends { last_or_nought (past self.now).last < forever };
 
     /// The stamp of a version, which is 0 for version 0: `None` exactly where it is not there. It
     /// takes no memory.
