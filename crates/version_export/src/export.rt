@@ -1,6 +1,7 @@
 //! The export of a version.
 
 ghost use Rattle.std.specs.Prelude.{◌≡◌, ◌∷◌, [], map};
+ghost use Rattle.smo_ops_spec.specs.Past.{Past};
 ghost use Rattle.version_export_past_spec.specs.Showing.{first_stamp};
 ghost use Rattle.version_export.specs.ByListings.{all_listed_of, commands_listed};
 ghost use Rattle.version_export.specs.Statements.{creation, statement_of};
@@ -18,7 +19,7 @@ use std::alloc::Global;
 
 // The stamp of version 1; the end of time where there is none.
 fn stamp_of_first<S: Seen>(seen: &S) -> u64
-    ensures { result ≡ first_stamp (S.past seen.now) }
+    ensures { (past : Past) → S.shows seen.now past → result ≡ first_stamp past }
 {
     match seen.stamp_of(1) {
         Some(stamp) => stamp,
@@ -96,7 +97,7 @@ fn lines_of_tables(
 /// with its `;`. The first creates the tables; each further one ends and begins rows at a moment.
 /// `NoVersion`, `NoInverse` and `TooLong`, in this order, exactly where the definition says so.
 pub fn export<S: Seen>(alloc: Global, seen: &S, version: u32) -> Result<Vec<Line>, ExportFault>
-    ensures is { IsExport (S.past seen.now) version result }
+    ensures is { (past : Past) → S.shows seen.now past → IsExport past version result }
 {
     let newest = seen.newest();
     match seen.schema(version) {
