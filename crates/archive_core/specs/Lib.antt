@@ -5,3 +5,4 @@ pub mod Putting
 pub mod Committing
 pub mod Checkpointing
 pub mod Mounting
+pub mod State

@@ -23,8 +23,8 @@ ghost use Rattle.archive_core_state.specs.Asking.{IsAsked, IsExplained, TellsWay
 ghost use Rattle.archive_core_state.specs.Asking.{query_asked, pieces_told, IsKeptOfList};
 ghost use Rattle.archive_core_state.specs.Asking.{IsNotRefused};
 ghost use Rattle.piece_ir.specs.ExplainedPieces.{PlainExplained};
-ghost use Rattle.query_exec.specs.Borrowed.{BorrowedByBranch, AreSpared, AreBorrowedBy};
-ghost use Rattle.query_exec.specs.Reads.{explained_read, reads_of};
+ghost use Rattle.archive_core_state.specs.Queries.{BorrowedByBranch, AreSpared, AreBorrowedBy};
+ghost use Rattle.archive_core_state.specs.Queries.{explained_read, reads_of};
 ghost use Rattle.archive_core.specs.NextRecord.{HasGateUnless, gate_once};
 ghost use Rattle.archive_core.specs.declared.fault.CommitFault.TheVariants as fault;
 ghost use Rattle.archive_core.specs.declared.fault.MountFault.TheVariants as mounting;

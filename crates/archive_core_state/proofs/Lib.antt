@@ -2,3 +2,4 @@ pub mod QueryFaults
 pub mod Checking
 pub mod Applied
 pub mod AcceptedWidths
+pub mod Queries

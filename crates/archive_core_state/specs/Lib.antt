@@ -3,3 +3,4 @@ pub mod AcceptedCommands
 pub mod NewCommands
 pub mod Committing
 pub mod Asking
+pub mod Queries

@@ -13,7 +13,8 @@ ghost use Rattle.archive_core_state.specs.AcceptedCommands.{accepted_command};
 
 use crate::{AcceptedCommand, CommandFault};
 use prima_base::Refusal;
-use smo_ops::{MAX_MEASURE, Version, widest};
+use smo_ops::Version;
+use smo_ops_widths::{MAX_MEASURE, widest};
 use std::alloc::Global;
 use version_groups::Groups;
 

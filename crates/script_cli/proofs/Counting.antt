@@ -6,9 +6,9 @@ use Rattle.std.specs.Io.KnownBytes.{Consumes, IsAtEnd}
 use Rattle.disk_model.specs.Meaning.{IfKnown}
 use Rattle.disk_model.specs.declared.disk.Disk.{Ghosts}
 use Rattle.archive_core_file_spec.specs.LogRecords.{LogRecord, commands_in}
-use Rattle.archive_core_state.specs.ArchiveContents.{ArchiveContent}
+use Rattle.archive_core.specs.State.{ArchiveContent}
 use Rattle.archive_core.specs.declared.archive.Archive.{Archive}
-use Rattle.archive_core_replay.specs.declared.opened.Opened.{Opened}
+use Rattle.archive_core.specs.State.{Opened}
 use Rattle.archive_core.specs.Mounting.{IsMounted}
 use Rattle.script_parse.specs.Script.{Whole as Text}
 use Rattle.script_cli_statement.specs.Given.{Given}

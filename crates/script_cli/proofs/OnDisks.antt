@@ -22,7 +22,7 @@ use Rattle.archive_core_file_spec.proofs.Records.{accepted_append, sound_accepte
 use Rattle.archive_core_file_spec.proofs.Records.{sound_append}
 use Rattle.piece_ir_spec.specs.Rules.{Book}
 use Rattle.archive_core.specs.declared.archive.Archive.{Archive}
-use Rattle.archive_core_replay.specs.declared.opened.Opened.{Opened}
+use Rattle.archive_core.specs.State.{Opened}
 use Rattle.archive_core.specs.Fields.{standing_of, below, place_of}
 use Rattle.archive_core.specs.DiskReads.{HoldsAt}
 use Rattle.archive_core.specs.Mounting.{IsMounted}

@@ -13,9 +13,9 @@ use Rattle.journal.specs.Puts.{HoldsPrefix}
 use Rattle.journal.specs.Records.{Holds}
 use Rattle.archive_core_file_spec.specs.LogRecords.{LogRecord, records_of, commands_in, AreEncoded}
 use Rattle.archive_core_file_spec.specs.Opening.{Opens, Damages}
-use Rattle.archive_core_state.specs.ArchiveContents.{RepresentsSome}
+use Rattle.archive_core.specs.State.{RepresentsSome}
 use Rattle.archive_core.specs.declared.archive.Archive.{Archive}
-use Rattle.archive_core_replay.specs.declared.opened.Opened.{Opened}
+use Rattle.archive_core.specs.State.{Opened}
 use Rattle.archive_core.specs.declared.fault.MountFault.{MountFault}
 use Rattle.archive_core.specs.declared.fault.MountFault.TheVariants as mounting
 use Rattle.archive_core.specs.Fields.{standing_of, below, place_of, limit_of}

@@ -25,7 +25,7 @@ use Rattle.period_join.specs.RelatedEntries.{related_entries}
 use Rattle.time_aggregate.specs.Aggregated.{aggregated}
 use Rattle.answer_text.specs.Texts.{pair_text, pairs_text, aggregate_text, aggregates_text}
 use Rattle.script_parse.specs.Reading.{Reading, Blank, Refused, Whole, reading}
-use Rattle.archive_core_state.specs.Asking.{tells_periods, pieces_told}
+use Rattle.archive_core.specs.State.{tells_periods, pieces_told}
 use Rattle.answer_text.specs.Texts.{changed_text, evolved_text, checkpoint_text, listing_text}
 use Rattle.answer_text.specs.Texts.{piece_head, explain_text, tables_text, count_text, version_head}
 use Rattle.answer_text.specs.Texts.{versions_text, schema_text, size_text, sizes_text}

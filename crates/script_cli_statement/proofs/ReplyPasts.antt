@@ -21,7 +21,7 @@ use Rattle.period_join.specs.RelatedEntries.{related_entries}
 use Rattle.time_aggregate.specs.Aggregated.{aggregated}
 use Rattle.answer_text.specs.Texts.{pairs_text, aggregates_text}
 use Rattle.script_parse.specs.Reading.{Reading, Blank, Refused, Whole, reading}
-use Rattle.archive_core_state.specs.Asking.{tells_periods, pieces_told}
+use Rattle.archive_core.specs.State.{tells_periods, pieces_told}
 use Rattle.archive_core.specs.Committing.{commit_fault}
 use Rattle.archive_core.proofs.Committed.{committed_by_past}
 use Rattle.archive_core.specs.Checkpointing.{checkpoint_fault}

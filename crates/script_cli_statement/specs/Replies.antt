@@ -22,8 +22,8 @@ use Rattle.script_parse.specs.Statements.{show_schema, show_sizes, checkpoint, p
 use Rattle.period_join.specs.RelatedEntries.{related_entries}
 use Rattle.time_aggregate.specs.Aggregated.{aggregated}
 use Rattle.script_parse.specs.Reading.{Reading, Blank, Refused, Whole, reading}
-use Rattle.archive_core_state.specs.declared.archive.Done.{Done}
-use Rattle.archive_core_state.specs.Asking.{tells_periods, pieces_told}
+use Rattle.archive_core.specs.State.{Done}
+use Rattle.archive_core.specs.State.{tells_periods, pieces_told}
 use Rattle.answer_text.specs.RefusalTexts.{refusal_text}
 use Rattle.answer_text.specs.Texts.{made_text, changed_text, evolved_text, checkpoint_text}
 use Rattle.answer_text.specs.Texts.{listing_text, explain_text, versions_text, schema_text}

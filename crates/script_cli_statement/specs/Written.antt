@@ -2,7 +2,7 @@
 use Rattle.std.specs.Prelude.{◌<◌, ⊤}
 use Rattle.relations_spec.specs.Spans.{forever}
 use Rattle.piece_ir_spec.specs.Constants.{ValidInEvolution}
-use Rattle.query_exec.specs.Constants.{ValidInQuery}
+use Rattle.archive_core.specs.State.{ValidInQuery}
 use Rattle.script_parse.specs.Reading.{Reading, Blank, Refused, Whole}
 use Rattle.script_parse.specs.Statements.{PlainStatement, write, ask, explain, show_versions}
 use Rattle.script_parse.specs.Statements.{show_schema, show_sizes, checkpoint, pairs, aggregate}

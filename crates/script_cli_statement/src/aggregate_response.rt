@@ -16,8 +16,8 @@ ghost use Rattle.temporal_lang_types.specs.Queries.{query_of, slice_of, IsLastin
 ghost use Rattle.temporal_lang_spec.specs.AggregateFaults.{aggregate_checks};
 ghost use Rattle.version_groups.specs.Representation.{Represents};
 ghost use Rattle.time_aggregate.specs.Aggregated.{aggregated};
-ghost use Rattle.archive_core_state.specs.ArchiveContents.{RepresentsPast};
-ghost use Rattle.archive_core_state.specs.Asking.{IsAskedSchema};
+ghost use Rattle.archive_core.specs.State.{RepresentsPast};
+ghost use Rattle.archive_core.specs.State.{IsAskedSchema};
 ghost use Rattle.archive_core.specs.Fields.{standing_of};
 ghost use Rattle.answer_text.specs.Texts.{aggregates_text};
 ghost use Rattle.script_cli_statement.specs.Replies.{Recorded, answered, aggregate_reply};

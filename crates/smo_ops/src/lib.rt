@@ -3,7 +3,7 @@
 //!
 //! The types stand in `smo_ops_types`, with their plain mirrors that contracts see; what they mean
 //! in `smo_ops_spec`, and the ways from version to version in `smo_ops_versions_spec`; the schema
-//! after an operator in `smo_ops_operators`, and how wide its version is in `smo_ops_widths`. The checks and the effects of changes stand here, and
+//! after an operator in `smo_ops_operators`. The checks and the effects of changes stand here, and
 //! all is exported again.
 #![tactic(auto)]
 
@@ -49,5 +49,4 @@ pub use smo_ops_versions_spec::{
     the_way_keeps_valid_values, what_is_derived_leads_back, what_is_lost_has_no_inverse,
     what_is_lost_is_lost_from_later_versions,
 };
-pub use smo_ops_widths::{MAX_MEASURE, widest};
 pub use version::begins_at;

@@ -48,7 +48,7 @@ use Rattle.version_groups.specs.Sizes.{HasSize, AreWritten}
 use Rattle.version_groups.specs.Covering.{line_of, AreCovered}
 use Rattle.version_groups.specs.Lifelines.{lifelines_of}
 use Rattle.version_groups.specs.Groups.{Kept, newest_places, group_of, newest_group, table_in}
-use Rattle.version_groups_changes.proofs.Becoming.{same_relation, same_before, same_columns}
+use Rattle.version_groups_tables.proofs.ChangeLaws.{same_relation, same_before, same_columns}
 use Rattle.version_groups.specs.Representation.{RepresentsTable, RepresentsEntry, AreUpTo}
 use Rattle.version_groups.specs.Representation.{Represents}
 use Rattle.version_groups.specs.Room.{IsSame}

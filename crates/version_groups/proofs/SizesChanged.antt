@@ -32,7 +32,7 @@ use Rattle.version_groups.specs.Installing.{HasChanges}
 use Rattle.version_groups.specs.Representation.{AreUpTo, Represents}
 use Rattle.version_groups.specs.Sizes.{HasSize, HaveSizes}
 use Rattle.version_groups.proofs.Covered.{newest_living}
-use Rattle.version_groups_changes.proofs.Becoming.{along_length}
+use Rattle.version_groups_tables.proofs.ChangeLaws.{along_length}
 use Rattle.version_groups.specs.Steps.{a_command, AreChanges}
 use Rattle.version_groups.proofs.Installed.{all_later}
 use Rattle.version_groups.proofs.Newest.{Stands, stands, stands_at}

@@ -16,3 +16,4 @@ pub mod ChangeGroups
 pub mod TablesChanged
 pub mod TablesCounted
 pub mod ColumnCounts
+pub mod ChangeLaws

@@ -4,7 +4,7 @@ use Rattle.archive_core.specs.Fields.{standing_of, below, place_of}
 use Rattle.archive_core.specs.Checkpointing.{checkpoint_fault, image_of_archive, checkpoint_of}
 use Rattle.script_cli_statement.specs.Due.{image_due}
 use Rattle.script_cli_statement.specs.Replies.{checkpoint_reply, put_image}
-use Rattle.archive_core_state.specs.ArchiveContents.{RepresentsPast}
+use Rattle.archive_core.specs.State.{RepresentsPast}
 use Rattle.script_cli_statement.specs.StopReasons.{StopCounted}
 use Rattle.script_cli_statement.specs.Responses.{Responds}
 use Rattle.script_cli_statement.proofs.OnePut.{put_one}
