@@ -14,7 +14,6 @@ use Rattle.smo_ops_types.specs.Commands.{PlainCommand}
 use Rattle.smo_ops_spec.specs.First.{unless, first_refusal}
 use Rattle.smo_ops_spec.specs.Past.{Past, tables_of as schema_of}
 use Rattle.smo_ops_spec.specs.ValidPast.{IsPast, last_or_nought}
-use Rattle.smo_ops_spec.specs.Losses.{Loss}
 use Rattle.smo_ops_spec.proofs.Firsts.{first_after, first_before, first_at, first_later}
 use Rattle.temporal_lang_spec.specs.Losing.{first_lost}
 use Rattle.version_export_past_spec.specs.Showing.{first_stamp, shown_by, tables_in}
@@ -26,7 +25,7 @@ use Rattle.version_export.specs.declared.seen_table.SeenTable.{SeenTable}
 use Rattle.version_export.specs.Exported.{whole_query, NoTableLost, rows_exported}
 use Rattle.version_export.specs.Seen.{rows_listed}
 use Rattle.version_export.specs.SeenTables.{AllShow}
-use Rattle.version_export.specs.ByListings.{Listed, all_listed, all_listed_of, commands_listed}
+use Rattle.version_export.specs.ByListings.{all_listed_of, commands_listed}
 use Rattle.version_export.specs.Statements.{Statement, statement_of, after_creates, statements}
 use Rattle.version_export.specs.Refused.{Fault, no_version, no_inverse, by_loss, version_test}
 use Rattle.version_export.specs.Refused.{table_test, length_test, export_fault}

@@ -1,15 +1,15 @@
 -- Lines that are added after one another.
-use Rattle.std.specs.Prelude.{◌≡◌, ◌++◌, ◌∷◌, [], ℕ, List, map, None, Result, Ok, Err, ⊤}
-use Rattle.std.proofs.Common.{refl, sym, ap, ◌∙◌}
+use Rattle.std.specs.Prelude.{◌≡◌, ◌++◌, ◌∷◌, [], ℕ, List, map, None, Result, Ok, Err}
+use Rattle.std.proofs.Common.{sym, ap, ◌∙◌}
 use Rattle.std.proofs.lemmas.List.{append_assoc}
 use Rattle.std.specs.Global.{Vec}
 use Rattle.smo_ops_spec.specs.First.{first_refusal}
-use Rattle.smo_ops_spec.proofs.Firsts.{none_of_first, first_at, first_later, first_alone}
+use Rattle.smo_ops_spec.proofs.Firsts.{first_at, first_later, first_alone}
 use Rattle.version_export.specs.declared.fault.ExportFault.{ExportFault}
 use Rattle.version_export.specs.declared.fault.ExportFault.TheVariants.{NoVersion, NoInverse}
 use Rattle.version_export.specs.declared.fault.ExportFault.TheVariants.{TooLong, NoMemory}
 use Rattle.version_export.specs.Statements.{Statement}
-use Rattle.version_export.specs.Refused.{Fault, too_long, length_test, line_of}
+use Rattle.version_export.specs.Refused.{too_long, length_test, line_of}
 use Rattle.version_export.specs.Written.{texts_of, AddsLines, AreLines}
 
 -- a line more, and those after it
@@ -45,7 +45,7 @@ fails_from ss old new other more (TooLong stamp size) a = a
 fails_from ss old new other more NoMemory a = tt
 
 pub more_lines : (s : Statement) (ss : List Statement) (old mid new : List (Vec ℕ))
-    (r : Result ⊤ ExportFault) → first_refusal (map length_test (s ∷ [])) ≡ None
+    (r : Result (Unit {0}) ExportFault) → first_refusal (map length_test (s ∷ [])) ≡ None
     → texts_of mid ≡ texts_of old ++ map line_of (s ∷ [])
     → AddsLines ss mid new r → AddsLines (s ∷ ss) old new r
 more_lines s ss old mid new (Ok u) e f a =

@@ -1,7 +1,6 @@
 -- Turns of rows in the order of their moments: what a stable sort leaves, and how they are cut.
 use Rattle.std.specs.Prelude.{◌≡◌, ◌==◌, ◌≤◌, ◌<◌, ◌+◌, ◌++◌, ◌&&◌, ℕ, zero, suc, Bool, true, false}
 use Rattle.std.specs.Prelude.{cond, not, List, [], ◌∷◌, map, take, drop, length, slice_index_or}
-use Rattle.std.specs.Prelude.{codes, decimal}
 use Rattle.std.proofs.Common.{refl, sym, ap, subst, ◌∙◌, inl, inr, arith}
 use Rattle.std.proofs.lemmas.List.{take-append-drop, map-append, length-drop}
 use Rattle.std.proofs.lemmas.Bool.Decides.{nat_tests}
@@ -12,13 +11,11 @@ use Rattle.relations_spec.specs.Sets.{In, Same, set_of}
 use Rattle.relations_spec.proofs.SetLaws.{in_map, from_map, in_filter, from_filter, from_set}
 use Rattle.relations_spec.proofs.SetLaws.{set_same}
 use Rattle.smo_ops_types.specs.Changes.{PlainChange}
-use Rattle.smo_ops_types.specs.Commands.{PlainCommand}
 use Rattle.version_export_past_spec.specs.Commands.{if_any}
-use Rattle.version_export_lines_spec.specs.Lines.{changes_text}
 use Rattle.version_export.specs.declared.row_turn.RowTurn.{RowTurn}
 use Rattle.version_export.specs.Turns.{Turn, moments_of, changes_at, commands_of, turn_of, change_of}
 use Rattle.version_export.specs.Turns.{moment_of, Rises, is_of}
-use Rattle.version_export.specs.Statements.{Statement, statement_of}
+use Rattle.version_export.specs.Statements.{statement_of}
 use Rattle.version_export.specs.Written.{text_at, row_statements, IsFirstRun}
 use Rattle.version_export.proofs.ByListings.{nat_exact}
 use Rattle.version_export.proofs.Turned.{same_on, same_moment, first_command}

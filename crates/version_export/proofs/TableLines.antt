@@ -1,5 +1,5 @@
 -- The lines of tables: the statement that creates them, and those on their rows.
-use Rattle.std.specs.Prelude.{◌≡◌, ◌++◌, ◌<◌, ◌∷◌, [], ℕ, List, map, length, None, Result, Ok, Err, ⊤}
+use Rattle.std.specs.Prelude.{◌≡◌, ◌++◌, ◌<◌, ◌∷◌, [], ℕ, List, map, length, None, Result, Ok, Err}
 use Rattle.std.proofs.Common.{refl, sym, ap, ◌∙◌, arith, append-nil}
 use Rattle.std.specs.Global.{Vec}
 use Rattle.smo_ops_spec.specs.First.{first_refusal}
@@ -20,7 +20,7 @@ no_tables first [] old e = (refl, sym (append-nil (texts_of old)))
 no_tables first (t ∷ tables) old e = absurd (cc)
 
 pub tables_added : (first : ℕ) (tables : List SeenTable) (old mid new : List (Vec ℕ))
-    (r : Result ⊤ ExportFault) → 0 < length tables
+    (r : Result (Unit {0}) ExportFault) → 0 < length tables
     → AddsLines (creation first (tables_of tables) ∷ []) old mid (Ok tt)
     → AddsLines (rows_of first tables) mid new r
     → AddsLines (table_statements first tables) old new r

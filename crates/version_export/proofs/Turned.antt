@@ -1,12 +1,12 @@
 -- The commands of the turns of all tables are those of their listings.
-use Rattle.std.specs.Prelude.{◌≡◌, ◌==◌, ◌++◌, ◌&&◌, ◌<◌, ℕ, Bool, true, false, cond, List, []}
-use Rattle.std.specs.Prelude.{◌∷◌, map, nat_lt}
+use Rattle.std.specs.Prelude.{◌≡◌, ◌==◌, ◌++◌, ◌<◌, ℕ, Bool, true, false, cond, List, []}
+use Rattle.std.specs.Prelude.{◌∷◌, map}
 use Rattle.std.proofs.Common.{refl, sym, ap, subst, ◌∙◌, inl, inr, arith}
-use Rattle.std.proofs.lemmas.List.{append_assoc, append-nil}
+use Rattle.std.proofs.lemmas.List.{append-nil}
 use Rattle.std.proofs.lemmas.Bool.Decides.{nat_tests}
 use Rattle.std.specs.List.{filter, flat_map}
 use Rattle.std.specs.Ordering.{nat_cmp}
-use Rattle.relations_spec.specs.Sets.{In, Same, Ascends, set_of}
+use Rattle.relations_spec.specs.Sets.{In, Same, set_of}
 use Rattle.relations_spec.specs.Timed.{Entry}
 use Rattle.relations_spec.proofs.SetLaws.{in_left, in_right, in_append, in_map, from_map}
 use Rattle.relations_spec.proofs.SetLaws.{in_filter, from_filter, in_flat_map, from_flat_map}
@@ -14,15 +14,13 @@ use Rattle.relations_spec.proofs.SetLaws.{below_each, one_list, in_set, from_set
 use Rattle.relations_spec.proofs.SetLaws.{set_same}
 use Rattle.relations_spec.proofs.ListingLaws.{nat_less}
 use Rattle.smo_ops_types.specs.Changes.{PlainChange}
-use Rattle.smo_ops_types.specs.Commands.{PlainCommand}
 use Rattle.smo_ops_spec.specs.OneRow.{Row}
 use Rattle.version_export_past_spec.specs.Rows.{ending, beginning}
 use Rattle.version_export_past_spec.specs.Commands.{if_any}
-use Rattle.version_export_past_spec.specs.Listed.{begun_at, ended_at}
 use Rattle.version_export.specs.ByListings.{Listed, listed_at, entry_moments, listed_moments}
 use Rattle.version_export.specs.ByListings.{moments_after, commands_listed, is_later}
 use Rattle.version_export.specs.Turns.{Turn, moments_of, changes_at, commands_of, end_turns}
-use Rattle.version_export.specs.Turns.{start_turns, table_turns, later_turns, turns_of}
+use Rattle.version_export.specs.Turns.{start_turns, table_turns, turns_of}
 use Rattle.version_export.proofs.ByListings.{nat_exact}
 
 -- ---- lists

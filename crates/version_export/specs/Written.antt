@@ -1,5 +1,5 @@
 -- What the code of an export writes: lines, or the first fault in their place.
-use Rattle.std.specs.Prelude.{◌≡◌, ◌<◌, ◌≤◌, ◌++◌, ℕ, List, [], ◌∷◌, map, length, codes, decimal}
+use Rattle.std.specs.Prelude.{◌≡◌, ◌<◌, ◌++◌, ℕ, List, ◌∷◌, map, length, codes, decimal}
 use Rattle.std.specs.Prelude.{None, Some, Result, Ok, Err, ⊤}
 use Rattle.std.specs.Global.{Vec}
 use Rattle.schema_catalog.specs.Places.{NamedColumns}
@@ -21,7 +21,8 @@ abbrev pub texts_of : List (Vec ℕ) → List (List ℕ)
 texts_of lines = map (λ (l : Vec ℕ). l.items) lines
 
 -- after these lines come those of the statements, or the first statement that is too long is told
-abbrev pub AddsLines : List Statement → List (Vec ℕ) → List (Vec ℕ) → Result ⊤ ExportFault → Type 0
+abbrev pub AddsLines : List Statement → List (Vec ℕ) → List (Vec ℕ)
+    → Result (Unit {0}) ExportFault → Type 0
 AddsLines ss old new (Ok u) = (first_refusal (map length_test ss) ≡ None)
     × (texts_of new ≡ texts_of old ++ map line_of ss)
 AddsLines ss old new (Err (NoVersion version newest)) = ⊥

@@ -1,6 +1,6 @@
 //! The first statement of an export: the EVOLVE that creates the tables.
 
-ghost use Rattle.std.specs.Prelude.{◌≡◌, ◌++◌, map, OnOk, IfOk};
+ghost use Rattle.std.specs.Prelude.{◌≡◌, ◌++◌, OnOk, IfOk};
 ghost use Rattle.version_export.specs.Statements.{create_text, then_creates, creates_text};
 ghost use Rattle.version_export.specs.Statements.{creation};
 ghost use Rattle.version_export.specs.Written.{tables_of};
