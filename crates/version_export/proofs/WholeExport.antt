@@ -167,7 +167,7 @@ module _ (history : List PlainCommand) (version : ℕ) (h : IsExportable history
 
   -- ---- a version of one table
 
-  one_creates : (t : NamedColumns) → tables_in past version ≡ t ∷ []
+  pub one_creates : (t : NamedColumns) → tables_in past version ≡ t ∷ []
       → Creates creating_one past version
   one_creates t e = record {
     accepted = subst (λ (ts : List NamedColumns). command_fault

@@ -98,6 +98,17 @@ fn lines_of_tables(
 /// `NoVersion`, `NoInverse` and `TooLong`, in this order, exactly where the definition says so.
 pub fn export<S: Seen>(alloc: Global, seen: &S, version: u32) -> Result<Vec<Line>, ExportFault>
     ensures is { (past : Past) → S.shows seen.now past → IsExport past version result }
+    ensures good { (history : List PlainCommand) → S.shows seen.now (past_of history)
+        → IsExportable history version → (creating : List NamedColumns → PlainBody)
+        → 1 ≤ length (tables_in (past_of history) version)
+        → Creates creating (past_of history) version → IfOk result (λ lines.
+        IsGoodScript (exported creating (past_of history) version) (past_of history) version
+        (texts_of lines.items)) }
+    ensures one { (history : List PlainCommand) → S.shows seen.now (past_of history)
+        → IsExportable history version → (t : NamedColumns)
+        → tables_in (past_of history) version ≡ t ∷ [] → IfOk result (λ lines.
+        IsGoodScript (exported creating_one (past_of history) version) (past_of history) version
+        (texts_of lines.items)) }
 {
     let newest = seen.newest();
     match seen.schema(version) {
