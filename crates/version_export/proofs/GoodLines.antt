@@ -1,11 +1,13 @@
 -- The lines of an export that is not refused are the script of good commands.
-use Rattle.std.specs.Prelude.{◌≡◌, ◌≤◌, ◌++◌, ℕ, List, [], ◌∷◌, map, length, Ok}
+use Rattle.std.specs.Prelude.{◌≡◌, ◌≤◌, ◌++◌, ℕ, List, [], ◌∷◌, map, length, Result}
+use Rattle.std.specs.Prelude.{Ok, Err, IfOk}
 use Rattle.std.proofs.Common.{refl, sym, ap, subst, ◌∙◌, arith}
 use Rattle.std.specs.Global.{Vec}
 use Rattle.schema_catalog.specs.Places.{NamedColumns}
 use Rattle.smo_ops_types.specs.Commands.{PlainBody, PlainCommand}
 use Rattle.smo_ops_spec.specs.History.{past_of}
 use Rattle.version_export_past_spec.specs.Showing.{tables_in}
+use Rattle.version_export.specs.declared.fault.ExportFault.{ExportFault}
 use Rattle.version_export_lines_spec.specs.Lines.{script}
 use Rattle.version_export.specs.Exported.{exported, creating_one}
 use Rattle.version_export.specs.Statements.{Statement, statement_of}
@@ -43,3 +45,22 @@ module _ (history : List PlainCommand) (version : ℕ) (h : IsExportable history
   one_good_lines t q lines e = good_lines creating_one
       (subst (λ (ts : List NamedColumns). 1 ≤ length ts) (sym q) (omega arith))
       (one_creates history version h t q) lines e
+
+  -- of whatever is answered
+  pub where_lines : (creating : List NamedColumns → PlainBody)
+      → 1 ≤ length (tables_in (past_of history) version)
+      → Creates creating (past_of history) version → (r : Result (Vec (Vec ℕ)) ExportFault)
+      → IsExport (past_of history) version r
+      → IfOk r (λ (lines : Vec (Vec ℕ)). IsGoodScript
+      (exported creating (past_of history) version) (past_of history) version
+      (texts_of lines.items))
+  where_lines creating some c (Ok lines) e = good_lines creating some c lines e
+  where_lines creating some c (Err fault) e = tt
+
+  pub where_lines_of_one : (t : NamedColumns) → tables_in (past_of history) version ≡ t ∷ []
+      → (r : Result (Vec (Vec ℕ)) ExportFault) → IsExport (past_of history) version r
+      → IfOk r (λ (lines : Vec (Vec ℕ)). IsGoodScript
+      (exported creating_one (past_of history) version) (past_of history) version
+      (texts_of lines.items))
+  where_lines_of_one t q (Ok lines) e = one_good_lines t q lines e
+  where_lines_of_one t q (Err fault) e = tt

@@ -1,12 +1,18 @@
 //! The export of a version.
 
-ghost use Rattle.std.specs.Prelude.{◌≡◌, ◌∷◌, [], map};
+ghost use Rattle.std.specs.Prelude.{◌≡◌, ◌≤◌, List, ◌∷◌, [], map, length, IfOk};
+ghost use Rattle.schema_catalog.specs.Places.{NamedColumns};
+ghost use Rattle.smo_ops_types.specs.Commands.{PlainBody, PlainCommand};
+ghost use Rattle.smo_ops_spec.specs.History.{past_of};
 ghost use Rattle.smo_ops_spec.specs.Past.{Past};
-ghost use Rattle.version_export_past_spec.specs.Showing.{first_stamp};
+ghost use Rattle.version_export_past_spec.specs.Showing.{first_stamp, tables_in};
 ghost use Rattle.version_export.specs.ByListings.{all_listed_of, commands_listed};
+ghost use Rattle.version_export.specs.Exported.{exported, creating_one};
 ghost use Rattle.version_export.specs.Statements.{creation, statement_of};
+ghost use Rattle.version_export.specs.Whole.{IsExportable, Creates};
 ghost use Rattle.version_export.specs.Written.{table_statements, tables_of, AddsLines, AreLines};
-ghost use Rattle.version_export.specs.Written.{IsExport};
+ghost use Rattle.version_export.specs.Written.{IsExport, texts_of};
+ghost use Rattle.version_export.specs.GoodLines.{IsGoodScript};
 
 use crate::creation::creation_text;
 use crate::fault::ExportFault;
@@ -93,9 +99,30 @@ fn lines_of_tables(
     }
 }
 
+// The lines of a version.
+fn lines_of_version<S: Seen>(
+    alloc: Global,
+    seen: &S,
+    version: u32,
+) -> Result<Vec<Line>, ExportFault>
+    ensures is { (past : Past) → S.shows seen.now past → IsExport past version result }
+{
+    let newest = seen.newest();
+    match seen.schema(version) {
+        Some(schema) => match seen_tables(alloc, seen, version, schema) {
+            Ok(tables) => lines_of_tables(alloc, stamp_of_first(seen), &tables),
+            Err(SeenFault::NoInverse(lost, kind)) => Err(ExportFault::NoInverse(lost, kind)),
+            Err(SeenFault::NoMemory) => Err(ExportFault::NoMemory),
+        },
+        None => Err(ExportFault::NoVersion(version, newest)),
+    }
+}
+
 /// The script that rebuilds the whole history as this version shows it: its lines, each a statement
 /// with its `;`. The first creates the tables; each further one ends and begins rows at a moment.
-/// `NoVersion`, `NoInverse` and `TooLong`, in this order, exactly where the definition says so.
+/// `NoVersion`, `NoInverse` and `TooLong`, in this order, exactly where the definition says so. The
+/// script, read and run on an empty archive, answers each query on its version 1 as the archive
+/// does on this version.
 pub fn export<S: Seen>(alloc: Global, seen: &S, version: u32) -> Result<Vec<Line>, ExportFault>
     ensures is { (past : Past) → S.shows seen.now past → IsExport past version result }
     ensures good { (history : List PlainCommand) → S.shows seen.now (past_of history)
@@ -110,13 +137,5 @@ pub fn export<S: Seen>(alloc: Global, seen: &S, version: u32) -> Result<Vec<Line
         IsGoodScript (exported creating_one (past_of history) version) (past_of history) version
         (texts_of lines.items)) }
 {
-    let newest = seen.newest();
-    match seen.schema(version) {
-        Some(schema) => match seen_tables(alloc, seen, version, schema) {
-            Ok(tables) => lines_of_tables(alloc, stamp_of_first(seen), &tables),
-            Err(SeenFault::NoInverse(lost, kind)) => Err(ExportFault::NoInverse(lost, kind)),
-            Err(SeenFault::NoMemory) => Err(ExportFault::NoMemory),
-        },
-        None => Err(ExportFault::NoVersion(version, newest)),
-    }
+    lines_of_version(alloc, seen, version)
 }

@@ -1,22 +1,12 @@
-use Rattle.version_export.proofs.ExportLaws.{no_version_fault, lost_fault, is_export}
+use Rattle.smo_ops_spec.specs.History.{past_of}
+use Rattle.version_export.proofs.GoodLines.{where_lines, where_lines_of_one}
 use Rattle.version_export.proofs.export.export.Goals as goal
 
-pub returns-in-None : goal.returns-in-None
-returns-in-None g c = record {
-  is = λ past shows. no_version_fault past c.args.version c.newest-newest.result
-      (c.newest-newest.ensures.count past shows) (c.in-None.ensures past shows);
-}
+pub returns-clause-good : goal.returns-clause-good
+returns-clause-good g c = λ history shows h creating some creates. where_lines history
+    c.args.version h creating some creates c.lines_of_version.result
+    (c.lines_of_version.ensures.is (past_of history) shows)
 
-pub returns-in-Ok : goal.returns-in-Ok
-returns-in-Ok g c = record {
-  is = λ past shows. is_export past c.args.version (c.in-Some.ensures past shows).0
-      (c.newest-newest.ensures.valid past shows) (c.newest-newest.ensures.ends past shows)
-      c.in-Ok.tables.items (c.in-Ok.ensures.are past shows) c.stamp_of_first.result
-      c.lines_of_tables.result (c.stamp_of_first.ensures past shows) c.lines_of_tables.ensures;
-}
-
-pub returns-in-NoInverse : goal.returns-in-NoInverse
-returns-in-NoInverse g c = record {
-  is = λ past shows. lost_fault past c.args.version (c.in-Some.ensures past shows).0
-      c.in-NoInverse.lost c.in-NoInverse.kind (c.in-Err.ensures.are past shows);
-}
+pub returns-clause-one : goal.returns-clause-one
+returns-clause-one g c = λ history shows h t e. where_lines_of_one history c.args.version h t e
+    c.lines_of_version.result (c.lines_of_version.ensures.is (past_of history) shows)

@@ -1,0 +1,22 @@
+use Rattle.version_export.proofs.ExportLaws.{no_version_fault, lost_fault, is_export}
+use Rattle.version_export.proofs.export.lines_of_version.Goals as goal
+
+pub returns-in-None : goal.returns-in-None
+returns-in-None g c = record {
+  is = λ past shows. no_version_fault past c.args.version c.newest-newest.result
+      (c.newest-newest.ensures.count past shows) (c.in-None.ensures past shows);
+}
+
+pub returns-in-Ok : goal.returns-in-Ok
+returns-in-Ok g c = record {
+  is = λ past shows. is_export past c.args.version (c.in-Some.ensures past shows).0
+      (c.newest-newest.ensures.valid past shows) (c.newest-newest.ensures.ends past shows)
+      c.in-Ok.tables.items (c.in-Ok.ensures.are past shows) c.stamp_of_first.result
+      c.lines_of_tables.result (c.stamp_of_first.ensures past shows) c.lines_of_tables.ensures;
+}
+
+pub returns-in-NoInverse : goal.returns-in-NoInverse
+returns-in-NoInverse g c = record {
+  is = λ past shows. lost_fault past c.args.version (c.in-Some.ensures past shows).0
+      c.in-NoInverse.lost c.in-NoInverse.kind (c.in-Err.ensures.are past shows);
+}
