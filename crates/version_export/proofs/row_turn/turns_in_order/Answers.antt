@@ -11,6 +11,6 @@ returns-clause-order c = rises c.put_in_order.new.turns.items c.in_ok-put_in_ord
 pub returns-clause-commands : goal.returns-clause-commands
 returns-clause-commands c =
     commands_stay c.in_ok-turns.turns.items c.put_in_order.new.turns.items
-    c.put_in_order.ensures.stable
+    c.in_ok-put_in_order.ensures.stable
     ∙ ap commands_of c.in_ok-turns.ensures
     ∙ sym (by_turns c.args.first (all_listed_of c.args.tables.now))
