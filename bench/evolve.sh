@@ -4,7 +4,7 @@
 # after them, of a PARTITION with a MERGE, and of a DECOMPOSE with a JOIN; and the most memory in
 # KiB of the inserts alone and with the NOPs. An operator costs what it is given and makes: NOPs
 # take as long whatever the rows are, and the others grow as the rows do. Then ten operators behind
-# ten versions, and ten behind 500, over tables of no rows, in milliseconds for one: the measure of
+# ten versions, and ten behind 502, over tables of no rows, in milliseconds for one: the measure of
 # what an operator makes is taken over all versions before it, in one pass back and one forward, and
 # the second is to be at most a few times the first.
 set -eu
@@ -62,6 +62,6 @@ def one_more(count):
     return min(play(versions(count + 10))[0] - play(versions(count))[0] for _ in range(5)) * 100
 
 
-few, many = one_more(10), one_more(500)
-print(f"an operator behind 10 versions {few:.2f} ms, behind 500 versions {many:.2f} ms")
+few, many = one_more(10), one_more(502)
+print(f"an operator behind 10 versions {few:.2f} ms, behind 502 versions {many:.2f} ms")
 PYTHON

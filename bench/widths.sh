@@ -1,9 +1,9 @@
 #!/usr/bin/env bash
-# Holds the pieces that the built program tells against the widths of docs/DEFINITIONS.md, over six
-# histories: for each table of each version, and each version that is read for it,
-# there are no more pieces than the width says, none has more tables or a larger condition, and none
-# has a larger expression for a column. The widths are worked out here once more, from the operators
-# as they are written. PROGRAM names another build.
+# Holds the pieces that the built program tells against the widths of docs/DEFINITIONS.md, over
+# seven histories, the sample's among them: for each table of each version, and each version that is
+# read for it, there are no more pieces than the width says, none has more tables or a larger
+# condition, and none has a larger expression for a column. The widths are worked out here once
+# more, from the operators as they are written. PROGRAM names another build.
 set -eu
 top=$(cd "$(dirname "$0")/.." && pwd)
 if [ -z "${PROGRAM:-}" ]; then
@@ -15,7 +15,18 @@ python3 - "$PROGRAM" <<'PYTHON'
 import os, re, subprocess, sys, tempfile
 
 program = os.path.realpath(sys.argv[1])
+TITLES = ["cold_title"] + [f"title_{j}" for j in range(1, 36)]
+SAMPLE = """AT 1 EVOLVE CREATE TABLE page (id INT, title TEXT, kind INT);
+    AT 2 EVOLVE ADD COLUMN state AS 'new' INTO page INVERSE DROP COLUMN state FROM page;
+    AT 3 EVOLVE PARTITION TABLE page INTO hot WITH kind = 0, cold
+        INVERSE MERGE TABLE hot, cold INTO page;
+    AT 4 EVOLVE RENAME COLUMN title IN hot TO name INVERSE RENAME COLUMN name IN hot TO title;
+    AT 5 EVOLVE DECOMPOSE TABLE cold INTO cold_id (id, kind, state), cold_title (id, title)
+        INVERSE JOIN TABLE cold_id, cold_title INTO cold WHERE TRUE;""" + "".join(
+    f"AT {j + 6} EVOLVE RENAME TABLE {old} INTO {new} INVERSE RENAME TABLE {new} INTO {old};"
+    for j, (old, new) in enumerate(zip(TITLES, TITLES[1:])))
 SCRIPTS = [
+    SAMPLE,
     """AT 1 EVOLVE CREATE TABLE t (a INT, b TEXT);
     AT 5 INSERT INTO t (a, b) VALUES (1, 'x');
     AT 9 EVOLVE RENAME TABLE t INTO u INVERSE RENAME TABLE u INTO t;""",

@@ -51,7 +51,7 @@ impl<R: Rule> Rule for OppositeRule<R> {
         self.rule.kind()
     }
 
-    #[tactic(auto, using(crate::proofs::OppositeLaw::opposite_keeps, crate::proofs::OppositeLaw::shown_opposite))]
+    #[tactic(auto, using(crate::proofs::OppositeLaw::shown_opposite))]
     fn rewrite(
         &self,
         alloc: Global,

@@ -7,5 +7,5 @@ mod law;
 mod pairs;
 mod relation;
 
-pub use law::pairs_are_all;
+pub use law::{pairs_are_all, related_entries_are_all};
 pub use pairs::Pairs;

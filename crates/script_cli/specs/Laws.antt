@@ -14,7 +14,10 @@ use Rattle.smo_ops_spec.specs.Accepts.{command_fault}
 use Rattle.smo_ops_spec.specs.Past.{beginning, database_at, next_database, past_with}
 use Rattle.temporal_lang_types.specs.Queries.{PlainQuery, slice_of}
 use Rattle.temporal_lang_types.specs.declared.agg_item.AggItem.{AggItem}
+use Rattle.temporal_lang_types.specs.declared.relation.Relation.{Relation}
+use Rattle.temporal_lang_spec.specs.PairFaults.{fault_of_pairs}
 use Rattle.temporal_lang_spec.specs.AggregateFaults.{fault_of_aggregate}
+use Rattle.period_join.specs.RelatedEntries.{AreRelated, related_entries}
 use Rattle.time_aggregate.specs.Aggregates.{IsAggregated}
 use Rattle.time_aggregate.specs.Aggregated.{aggregated}
 use Rattle.temporal_lang_spec.specs.Accepted.{fault_of_query, HasNoWayBack}
@@ -94,6 +97,17 @@ pub record OutputLaws (book : Book) : Type 0 where
       fault_of_query past query ≡ None → (slice_of query.when).end ≤ forever
       → IsListing row_cmp (asked_at past query) (slice_of query.when) (listing past query)
       × (answer past query ≡ kept query.keep (listing past query))
+  -- The reply to a PAIRS that is not refused, after some statements: all pairs of an entry of the
+  -- left query's answer and one of the right one's whose periods stand in the relation, and no
+  -- others, each once.
+  pub pairs : (limit : Given) (opening : List LogRecord) (statements : List StatementPart)
+      (left : PlainQuery) (relation : Relation) (right : PlainQuery) → AreEncoded opening
+      → AreAccepted beginning opening
+      → let past = (recorded_after limit (recorded opening) statements).past in
+      fault_of_pairs past left right ≡ None → (slice_of left.when).end ≤ forever
+      → (slice_of right.when).end ≤ forever
+      → AreRelated relation (answer past left) (answer past right)
+      (related_entries relation (answer past left) (answer past right))
   -- The reply to an AGGREGATE that is not refused, after some statements: the one list of what the
   -- aggregates have of the groups of the rows that are asked of each moment of the query's slice,
   -- each group with the longest periods in which that stays the same.

@@ -24,6 +24,7 @@ use crate::status::Status;
 use crate::word::{Word, refuse_words};
 use archive_core_file_spec::a_file_opens_or_is_damaged;
 use disk_model::Disk;
+use period_join::related_entries_are_all;
 use prima_base::NoMemory;
 use prima_io::{Sink, Source};
 use query_pieces_spec::an_accepted_query_asks_questions;
@@ -245,6 +246,7 @@ pub fn run<S: Source, K: Sink, D: Disk, R: Rule>(
     listing_is_the_one_list();
     a_query_is_refused_for_want_of_an_inverse_alone();
     an_accepted_query_asks_questions();
+    related_entries_are_all();
     databases_agree_up_to_losses();
     no_answer_shows_a_filling();
     a_file_opens_or_is_damaged();

@@ -1,12 +1,14 @@
 -- Why paired queries are refused, and aggregates.
-use Rattle.std.specs.Prelude.{◌≡◌, ◌≤◌, ℕ, List, [], ◌∷◌, ◌++◌, min, Some, None, Result, Ok, Err}
+use Rattle.std.specs.Prelude.{◌≡◌, ◌≤◌, ℕ, List, [], ◌∷◌, ◌++◌, map, min, Some, None, Result}
+use Rattle.std.specs.Prelude.{Ok, Err}
 use Rattle.std.specs.Prelude.{MatchResult, IfOk, nat_le, true}
 use Rattle.std.specs.Option.{option_map}
 use Rattle.std.proofs.Common.{refl, sym, ap, subst, ◌∙◌, arith}
 use Rattle.std.proofs.lemmas.Bool.Decides.{nat_tests}
 use Rattle.relations_spec.specs.Spans.{always, forever}
 use Rattle.relations_spec.specs.Timed.{Entry, at}
-use Rattle.relations_spec.specs.Listing.{IsListing}
+use Rattle.relations_spec.specs.Listing.{IsListing, entry_cmp}
+use Rattle.relations_spec.specs.Sets.{Ascends}
 use Rattle.relations_spec.proofs.SetLaws.{set_ascends}
 use Rattle.prima_base.specs.Faults.{IsTested, IsTestedAs}
 use Rattle.prima_base.specs.Keeping.{kept, keeps_all}
@@ -25,7 +27,8 @@ use Rattle.smo_ops_spec.specs.Past.{Past, tables_of}
 use Rattle.smo_ops_spec.proofs.Firsts.{first_before, none_of_both}
 use Rattle.temporal_lang_types.specs.declared.agg_item.AggItem.{AggItem}
 use Rattle.temporal_lang_types.specs.Queries.{PlainQuery, slice_of}
-use Rattle.temporal_lang_spec.specs.Accepted.{version_fault, loss_fault, fault_of_query}
+use Rattle.temporal_lang_spec.specs.Accepted.{version_fault, loss_fault, tests_of_query}
+use Rattle.temporal_lang_spec.specs.Accepted.{fault_of_query}
 use Rattle.temporal_lang_spec.specs.Answers.{asked_at, IsListingOf, listing, answer}
 use Rattle.temporal_lang_spec.specs.Losing.{first_lost}
 use Rattle.temporal_lang_spec.specs.Checking.{excess_of, excess_fault, query_tests}
@@ -153,6 +156,29 @@ lists_kept past query most (Ok listing) h = subst (λ (es : List (Entry Row)).
     (kept_lists row_cmp row_exact (asked_at past query) (slice_of query.when) h.entries h.list
     (λ e. keeps_all query.keep e.period) most)
 lists_kept past query most (Err fault) h = tt
+
+-- ---- pairs of what is listed
+
+module _ (past : Past) (left right : PlainQuery) where
+  -- neither query of a PAIRS that is not refused would be refused by itself
+  pub left_fine : fault_of_pairs past left right ≡ None → fault_of_query past left ≡ None
+  left_fine h = (none_of_both (tests_of_query past left)
+      (map (option_map (behind (branches_nodes left.branches))) (tests_of_query past right)) h).0
+
+  pub right_fine : fault_of_pairs past left right ≡ None → fault_of_query past right ≡ None
+  right_fine h = none_mapped (fault_of_query past right)
+      (sym (right_decides past left right (left_fine h)) ∙ h)
+    where
+      none_mapped : (fault : Fault)
+          → option_map (behind (branches_nodes left.branches)) fault ≡ None → fault ≡ None
+      none_mapped None e = refl
+      none_mapped (Some r) e = absurd (cc)
+
+pub answer_ascends : (past : Past) (query : PlainQuery) → (slice_of query.when).end ≤ forever
+    → IsListingOf past query (listing past query) → Ascends (entry_cmp row_cmp) (answer past query)
+answer_ascends past query most lists = (kept_lists row_cmp row_exact (asked_at past query)
+    (slice_of query.when) (listing past query) lists (λ e. keeps_all query.keep e.period)
+    most).ascending
 
 -- ---- what aggregates have of what is asked at each moment
 

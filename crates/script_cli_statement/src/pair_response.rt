@@ -90,7 +90,7 @@ fn ask_right<'a, D: Disk, R: Rule>(
     right: &Query,
 ) -> Result<(Listing<'a>, Listing<'a>), AskFault>
     ensures { (past : Past) → RepresentsPast (standing_of archive.now) past
-        → IsListed past (query_of left.now) first → MatchResult result
+        → IsListed past (query_of left.now) first.entry → MatchResult result
         (λ both. AreListed past (query_of left.now) (query_of right.now) both.0 both.1)
         (λ fault. IsWrongPair past (query_of left.now) (query_of right.now) fault) }
 {

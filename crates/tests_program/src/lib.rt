@@ -2,7 +2,7 @@
 //! fail at chosen calls, runs over them of texts of more than a megabyte and of scripts that are
 //! cut at every byte, the adapters over files, and the words of a call with ample memory.
 //!
-//! Every other case is a script with its replies, in the crates whose names end in `_cases`.
+//! Every other case is a script with its replies, in the crates whose names begin with `cases_`.
 #![tactic(auto)]
 
 #[cfg(test)]

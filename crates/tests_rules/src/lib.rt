@@ -1,7 +1,7 @@
 //! What is below an archive, with ample memory: the boxed rules and their book, pieces, inverses of
 //! operators, and an expression read from tokens.
 //!
-//! Every other case is a script with its replies, in the crates whose names end in `_cases`.
+//! Every other case is a script with its replies, in the crates whose names begin with `cases_`.
 #![tactic(auto)]
 
 #[cfg(test)]

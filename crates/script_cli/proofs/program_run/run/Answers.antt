@@ -1,6 +1,7 @@
 use Rattle.std.proofs.Common.{◌≡◌, ◌⊎◌, ⊎_elim, inl, inr, ℕ, [], refl, sym, ap, ◌∙◌}
 use Rattle.std.specs.Prelude.{Option, Some, None, map, option_and_then, string_bytes}
 use Rattle.smo_ops_spec.specs.Past.{Past}
+use Rattle.temporal_lang_spec.specs.Answers.{answer}
 use Rattle.piece_ir_spec.specs.Books.{book_of}
 use Rattle.script_cli_arguments.specs.declared.request.Mode.{Mode}
 use Rattle.script_cli_arguments.specs.declared.request.Mode.TheVariants.{Run, Sample}
@@ -26,6 +27,7 @@ use Rattle.script_cli.proofs.Telling.{not_damaged_untouched}
 use Rattle.script_cli.proofs.SampleRuns.{sample_damaged, sample_refuses, sample_whole, sample_held}
 use Rattle.script_cli.proofs.SampleRuns.{sample_crash, sample_sound}
 use Rattle.script_cli_statement.proofs.PairedQueries.{aggregated_is, query_fine}
+use Rattle.script_cli_statement.proofs.PairedQueries.{left_fine, right_fine, answer_ascends}
 use Rattle.script_cli.proofs.program_run.run.Goals as goal
 
 -- nothing is asked for, or a run, or a sample
@@ -240,6 +242,17 @@ returns-clause-laws g c = record {
       let made = still_made c.an_image_shows_a_past.ensures.past limit opening statements are
       history in
       (one past query made.states made.begun (lasting past query accepted) to, refl);
+  pairs = let one = c.listing_is_the_one_list.ensures.is in
+      let lasting = c.an_accepted_query_asks_questions.ensures.lasting in
+      λ limit opening statements left relation right are history accepted to_left to_right.
+      let past : Past = (recorded_after limit (recorded opening) statements).past in
+      let made = still_made c.an_image_shows_a_past.ensures.past limit opening statements are
+      history in
+      c.related_entries_are_all.ensures relation (answer past left) (answer past right)
+      (answer_ascends past left to_left (one past left made.states made.begun
+      (lasting past left (left_fine past left right accepted)) to_left))
+      (answer_ascends past right to_right (one past right made.states made.begun
+      (lasting past right (right_fine past left right accepted)) to_right));
   aggregates = let one = c.listing_is_the_one_list.ensures.is in
       let lasting = c.an_accepted_query_asks_questions.ensures.lasting in
       λ limit opening statements items group query are history accepted full to.
