@@ -15,8 +15,9 @@ returns-in-Ok g c = record {
       c.stamp_of_first.ensures c.lines_of_tables.ensures;
 }
 
-pub returns-in-NoInverse : goal.returns-in-NoInverse
-returns-in-NoInverse g c = record {
+pub returns-in-Err-NoInverse : goal.returns-in-Err-NoInverse
+returns-in-Err-NoInverse g c = record {
   is = lost_fault (g.S.Seen.past c.args.seen.now) c.args.version c.in-Some.ensures.0
-      c.in-NoInverse.lost c.in-NoInverse.kind c.in-Err.ensures.are;
+      c.in-Err-NoInverse.lost c.in-Err-NoInverse.kind
+      (rw c.in-Err-NoInverse.field-0-is at c.in-Err-NoInverse.ensures.are);
 }
