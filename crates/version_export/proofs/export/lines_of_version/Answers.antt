@@ -15,8 +15,9 @@ returns-in-Ok g c = record {
       c.lines_of_tables.result (c.stamp_of_first.ensures past shows) c.lines_of_tables.ensures;
 }
 
-pub returns-in-NoInverse : goal.returns-in-NoInverse
-returns-in-NoInverse g c = record {
+pub returns-in-Err-NoInverse : goal.returns-in-Err-NoInverse
+returns-in-Err-NoInverse g c = record {
   is = λ past shows. lost_fault past c.args.version (c.in-Some.ensures past shows).0
-      c.in-NoInverse.lost c.in-NoInverse.kind (c.in-Err.ensures.are past shows);
+      c.in-Err-NoInverse.lost c.in-Err-NoInverse.kind
+      (rw c.in-Err-NoInverse.field-0-is at (c.in-Err-NoInverse.ensures.are past shows));
 }
