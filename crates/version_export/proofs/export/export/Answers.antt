@@ -12,7 +12,7 @@ returns-in-Ok g c = record {
   is = is_export (g.S.Seen.past c.args.seen.now) c.args.version c.in-Some.ensures.0
       c.newest-newest.ensures.valid c.newest-newest.ensures.ends c.in-Ok.tables.items
       c.in-Ok.ensures.are c.stamp_of_first.result c.lines_of_tables.result
-      c.stamp_of_first.ensures c.lines_of_tables.ensures;
+      c.stamp_of_first.ensures (rw c.deref.ensures.value at c.lines_of_tables.ensures);
 }
 
 pub returns-in-Err-NoInverse : goal.returns-in-Err-NoInverse
