@@ -12,7 +12,8 @@ returns-in-Ok g c = record {
   is = λ past shows. is_export past c.args.version (c.in-Some.ensures past shows).0
       (c.newest-newest.ensures.valid past shows) (c.newest-newest.ensures.ends past shows)
       c.in-Ok.tables.items (c.in-Ok.ensures.are past shows) c.stamp_of_first.result
-      c.lines_of_tables.result (c.stamp_of_first.ensures past shows) c.lines_of_tables.ensures;
+      c.lines_of_tables.result (c.stamp_of_first.ensures past shows)
+      (rw c.deref.ensures.value at c.lines_of_tables.ensures);
 }
 
 pub returns-in-Err-NoInverse : goal.returns-in-Err-NoInverse
