@@ -14,10 +14,10 @@ use Rattle.version_export.proofs.LineLaws.{more_lines, one_fails}
 abbrev rows_of : ℕ → List SeenTable → List Statement
 rows_of first tables = map statement_of (commands_listed first (all_listed_of tables))
 
-pub no_tables : (first : ℕ) (tables : List SeenTable) (old : List (Vec ℕ)) → tables ≡ []
+pub no_tables : (first : ℕ) (tables : List SeenTable) (old : List (Vec ℕ)) → length tables < 1
     → AddsLines (table_statements first tables) old old (Ok tt)
 no_tables first [] old e = (refl, sym (append-nil (texts_of old)))
-no_tables first (t ∷ tables) old e = absurd (cc)
+no_tables first (t ∷ tables) old e = absurd (omega (arith, e))
 
 pub tables_added : (first : ℕ) (tables : List SeenTable) (old mid new : List (Vec ℕ))
     (r : Result (Unit {0}) ExportFault) → 0 < length tables

@@ -1,6 +1,10 @@
 use Rattle.version_export.proofs.TableLines.{no_tables, tables_added, tables_fail}
 use Rattle.version_export.proofs.export.push_tables.Goals as goal
 
+pub returns-in-empty : goal.returns-in-empty
+returns-in-empty c = no_tables c.args.first c.args.tables.now c.args.lines.now.items
+    c.in-empty.len_below
+
 pub returns-in-Ok : goal.returns-in-Ok
 returns-in-Ok c = tables_added c.args.first c.args.tables.now c.args.lines.now.items
     c.push_creation.new.lines.items c.push_rows.new.lines.items c.push_rows.result
