@@ -4,7 +4,7 @@ ghost use Rattle.std.specs.Prelude.{◌≡◌, ◌∷◌, [], map};
 ghost use Rattle.version_export_past_spec.specs.Showing.{first_stamp};
 ghost use Rattle.version_export.specs.ByListings.{all_listed_of, commands_listed};
 ghost use Rattle.version_export.specs.Statements.{creation, statement_of};
-ghost use Rattle.version_export.specs.Written.{table_statements, tables_of, AddsLines, AreLines};
+ghost use Rattle.version_export.specs.Written.{table_statements, tables_seen, AddsLines, AreLines};
 ghost use Rattle.version_export.specs.Written.{IsExport};
 
 use crate::creation::creation_text;
@@ -33,7 +33,7 @@ fn push_creation(
     first: u64,
     tables: &[SeenTable<'_>],
 ) -> Result<(), ExportFault>
-    ensures { AddsLines (creation first (tables_of tables.now) ∷ []) lines.old.items
+    ensures { AddsLines (creation first (tables_seen tables.now) ∷ []) lines.old.items
         lines.new.items result }
 {
     match creation_text(alloc, first, tables) {
