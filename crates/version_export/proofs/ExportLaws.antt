@@ -12,7 +12,7 @@ use Rattle.schema_catalog.specs.Places.{NamedColumns}
 use Rattle.schema_catalog.specs.Databases.{IsDatabase}
 use Rattle.smo_ops_types.specs.Commands.{PlainCommand}
 use Rattle.smo_ops_spec.specs.First.{unless, first_refusal}
-use Rattle.smo_ops_spec.specs.Past.{Past, tables_of as schema_of}
+use Rattle.smo_ops_spec.specs.Past.{Past, tables_of}
 use Rattle.smo_ops_spec.specs.ValidPast.{IsPast, last_or_nought}
 use Rattle.smo_ops_spec.proofs.Firsts.{first_after, first_before, first_at, first_later}
 use Rattle.temporal_lang_spec.specs.Losing.{first_lost}
@@ -29,7 +29,7 @@ use Rattle.version_export.specs.ByListings.{all_listed_of, commands_listed}
 use Rattle.version_export.specs.Statements.{Statement, statement_of, after_creates, statements}
 use Rattle.version_export.specs.Refused.{Fault, no_version, no_inverse, by_loss, version_test}
 use Rattle.version_export.specs.Refused.{table_test, length_test, export_fault}
-use Rattle.version_export.specs.Written.{tables_of, table_statements, AreLines, IsExport}
+use Rattle.version_export.specs.Written.{tables_seen, table_statements, AreLines, IsExport}
 use Rattle.version_export.proofs.ByListings.{rows_by_listings}
 use Rattle.version_export.proofs.SameAnswers.{lost_never}
 
@@ -94,7 +94,7 @@ module _ (past : Past) (version : ℕ) where
     none_lost (u ∷ us) (s ∷ ss) h t (inr i) = none_lost us ss h.1 t i
 
     same_tables : (us : List NamedColumns) (ss : List SeenTable) → AllShow past version us ss
-        → tables_of ss ≡ us
+        → tables_seen ss ≡ us
     same_tables [] [] h = refl
     same_tables [] (s ∷ ss) h = absurd h
     same_tables (u ∷ us) [] h = absurd h
@@ -112,7 +112,7 @@ module _ (past : Past) (version : ℕ) where
       none : NoTableLost past version
       none t i = none_lost (tables_in past version) ss all t i
 
-      shows : (m : ℕ) → IsDatabase (schema_of past version) (shown_by past version m)
+      shows : (m : ℕ) → IsDatabase (tables_of past version) (shown_by past version m)
       shows m = shows_database past version m h (lost_never past version h none ends m)
 
       rows_are : commands_listed (first_stamp past) (all_listed_of ss) ≡ rows_exported past version

@@ -8,7 +8,7 @@ use Rattle.version_export.specs.declared.seen_table.SeenTable.{SeenTable}
 use Rattle.version_export.specs.ByListings.{all_listed_of, commands_listed}
 use Rattle.version_export.specs.Statements.{Statement, statement_of, creation}
 use Rattle.version_export.specs.Refused.{length_test, line_of}
-use Rattle.version_export.specs.Written.{texts_of, tables_of, table_statements, AddsLines}
+use Rattle.version_export.specs.Written.{texts_of, tables_seen, table_statements, AddsLines}
 use Rattle.version_export.proofs.LineLaws.{more_lines, one_fails}
 
 abbrev rows_of : ℕ → List SeenTable → List Statement
@@ -21,21 +21,21 @@ no_tables first (t ∷ tables) old e = absurd (omega (arith, e))
 
 pub tables_added : (first : ℕ) (tables : List SeenTable) (old mid new : List (Vec ℕ))
     (r : Result (Unit {0}) ExportFault) → 0 < length tables
-    → AddsLines (creation first (tables_of tables) ∷ []) old mid (Ok tt)
+    → AddsLines (creation first (tables_seen tables) ∷ []) old mid (Ok tt)
     → AddsLines (rows_of first tables) mid new r
     → AddsLines (table_statements first tables) old new r
 tables_added first [] old mid new r l a b = absurd (omega (arith, l))
 tables_added first (t ∷ tables) old mid new r l a b =
-    more_lines (creation first (tables_of (t ∷ tables))) (rows_of first (t ∷ tables)) old mid new r
+    more_lines (creation first (tables_seen (t ∷ tables))) (rows_of first (t ∷ tables)) old mid new r
     a.0 a.1 b
 
 pub tables_fail : (first : ℕ) (tables : List SeenTable) (old new : List (Vec ℕ))
     (fault : ExportFault) → 0 < length tables
-    → AddsLines (creation first (tables_of tables) ∷ []) old new (Err fault)
+    → AddsLines (creation first (tables_seen tables) ∷ []) old new (Err fault)
     → AddsLines (table_statements first tables) old new (Err fault)
 tables_fail first [] old new fault l a = absurd (omega (arith, l))
 tables_fail first (t ∷ tables) old new fault l a =
-    one_fails (creation first (tables_of (t ∷ tables))) (rows_of first (t ∷ tables))
+    one_fails (creation first (tables_seen (t ∷ tables))) (rows_of first (t ∷ tables))
     (table_statements first (t ∷ tables)) old new fault a refl
 
 -- lines that are added to none

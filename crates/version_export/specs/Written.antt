@@ -56,11 +56,11 @@ pub record IsFirstRun (turns : List RowTurn) (m : ℕ) (now later : List RowTurn
 
 -- ---- by tables
 
-abbrev pub tables_of : List SeenTable → List NamedColumns
-tables_of tables = map (λ (s : SeenTable). s.table.now) tables
+abbrev pub tables_seen : List SeenTable → List NamedColumns
+tables_seen tables = map (λ (s : SeenTable). s.table.now) tables
 
 abbrev pub table_statements : ℕ → List SeenTable → List Statement
-table_statements first tables = after_creates first (tables_of tables)
+table_statements first tables = after_creates first (tables_seen tables)
     (map statement_of (commands_listed first (all_listed_of tables)))
 
 -- ---- of a version

@@ -3,7 +3,7 @@
 ghost use Rattle.std.specs.Prelude.{◌≡◌, ◌++◌, OnOk, IfOk};
 ghost use Rattle.version_export.specs.Statements.{create_text, then_creates, creates_text};
 ghost use Rattle.version_export.specs.Statements.{creation};
-ghost use Rattle.version_export.specs.Written.{tables_of};
+ghost use Rattle.version_export.specs.Written.{tables_seen};
 
 use crate::line::start_text;
 use crate::seen_table::SeenTable;
@@ -26,7 +26,7 @@ fn write_create(out: &mut Vec<u8>, table: &Table) -> Result<(), NoMemory>
 // Those of tables, each after THEN.
 fn write_more_creates(out: &mut Vec<u8>, tables: &[SeenTable<'_>]) -> Result<(), NoMemory>
     ensures { OnOk result (out.new.items ≡ out.old.items
-        ++ then_creates (tables_of tables.now)) }
+        ++ then_creates (tables_seen tables.now)) }
 {
     for table in tables {
         put(out, b" THEN ")?;
@@ -38,7 +38,7 @@ fn write_more_creates(out: &mut Vec<u8>, tables: &[SeenTable<'_>]) -> Result<(),
 // That of one table alone, or those of several as a list in brackets.
 fn write_creates(out: &mut Vec<u8>, tables: &[SeenTable<'_>]) -> Result<(), NoMemory>
     ensures { OnOk result (out.new.items ≡ out.old.items
-        ++ creates_text (tables_of tables.now)) }
+        ++ creates_text (tables_seen tables.now)) }
 {
     match tables {
         [] => Ok(()),
@@ -58,7 +58,7 @@ pub(crate) fn creation_text(
     stamp: u64,
     tables: &[SeenTable<'_>],
 ) -> Result<Vec<u8>, NoMemory>
-    ensures { IfOk result (λ v. v.items ≡ (creation stamp (tables_of tables.now)).1) }
+    ensures { IfOk result (λ v. v.items ≡ (creation stamp (tables_seen tables.now)).1) }
 {
     let mut text = start_text(alloc, stamp)?;
     put(&mut text, b"EVOLVE ")?;

@@ -10,7 +10,7 @@ ghost use Rattle.version_export.specs.ByListings.{all_listed_of, commands_listed
 ghost use Rattle.version_export.specs.Exported.{exported, creating_one};
 ghost use Rattle.version_export.specs.Statements.{creation, statement_of};
 ghost use Rattle.version_export.specs.Whole.{IsExportable, Creates};
-ghost use Rattle.version_export.specs.Written.{table_statements, tables_of, AddsLines, AreLines};
+ghost use Rattle.version_export.specs.Written.{table_statements, tables_seen, AddsLines, AreLines};
 ghost use Rattle.version_export.specs.Written.{IsExport, texts_of};
 ghost use Rattle.version_export.specs.GoodLines.{IsGoodScript};
 
@@ -40,7 +40,7 @@ fn push_creation(
     first: u64,
     tables: &[SeenTable<'_>],
 ) -> Result<(), ExportFault>
-    ensures { AddsLines (creation first (tables_of tables.now) ∷ []) lines.old.items
+    ensures { AddsLines (creation first (tables_seen tables.now) ∷ []) lines.old.items
         lines.new.items result }
 {
     match creation_text(alloc, first, tables) {
