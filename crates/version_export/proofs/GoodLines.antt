@@ -10,7 +10,7 @@ use Rattle.version_export_past_spec.specs.Showing.{tables_in}
 use Rattle.version_export.specs.declared.fault.ExportFault.{ExportFault}
 use Rattle.version_export_lines_spec.specs.Lines.{script}
 use Rattle.version_export.specs.Exported.{exported, creating_one}
-use Rattle.version_export.specs.Statements.{Statement, statement_of}
+use Rattle.version_export.specs.Statements.{statement_of}
 use Rattle.version_export.specs.Refused.{line_of}
 use Rattle.version_export.specs.Whole.{IsExportable, Creates}
 use Rattle.version_export.specs.Written.{texts_of, IsExport}
