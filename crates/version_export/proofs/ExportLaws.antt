@@ -21,15 +21,19 @@ use Rattle.version_export_past_spec.proofs.ShownDatabases.{shows_database}
 use Rattle.version_export.specs.declared.fault.ExportFault.{ExportFault}
 use Rattle.version_export.specs.declared.fault.ExportFault.TheVariants.{NoVersion, NoInverse}
 use Rattle.version_export.specs.declared.fault.ExportFault.TheVariants.{TooLong, NoMemory}
+use Rattle.version_export.specs.declared.seen.SeenFault.{SeenFault}
+use Rattle.version_export.specs.declared.seen.SeenFault.TheVariants.{NoInverse as SeenNoInverse}
+use Rattle.version_export.specs.declared.seen.SeenFault.TheVariants.{NoMemory as SeenNoMemory}
 use Rattle.version_export.specs.declared.seen_table.SeenTable.{SeenTable}
 use Rattle.version_export.specs.Exported.{whole_query, NoTableLost, rows_exported}
 use Rattle.version_export.specs.Seen.{rows_listed}
-use Rattle.version_export.specs.SeenTables.{AllShow}
+use Rattle.version_export.specs.SeenTables.{AllShow, AreSeenTables}
 use Rattle.version_export.specs.ByListings.{all_listed_of, commands_listed}
 use Rattle.version_export.specs.Statements.{Statement, statement_of, after_creates, statements}
 use Rattle.version_export.specs.Refused.{Fault, no_version, no_inverse, by_loss, version_test}
 use Rattle.version_export.specs.Refused.{table_test, length_test, export_fault}
 use Rattle.version_export.specs.Written.{tables_seen, table_statements, AreLines, IsExport}
+use Rattle.version_export.specs.Written.{fault_of_seen}
 use Rattle.version_export.proofs.ByListings.{rows_by_listings}
 use Rattle.version_export.proofs.SameAnswers.{lost_never}
 
@@ -67,11 +71,21 @@ module _ (past : Past) (version : ℕ) where
     version_met = met (nat_le version (length past.versions))
         (no_version version (length past.versions)) (grind (arith, nat_tests, there))
 
-    pub lost_fault : (k : ℕ) (kind : OpKind) → first_refusal table_tests ≡ Some (no_inverse k kind)
+    lost_fault : (k : ℕ) (kind : OpKind) → first_refusal table_tests ≡ Some (no_inverse k kind)
         → export_fault past version ≡ Some (no_inverse k kind)
     lost_fault k kind e =
         first_later (version_test past version) (table_tests ++ length_tests) version_met
         ∙ first_before table_tests length_tests (no_inverse k kind) e
+
+    told_of_seen : (fault : SeenFault) → AreSeenTables past version (Err fault)
+        → IsExport past version (Err (fault_of_seen fault))
+    told_of_seen (SeenNoInverse k kind) a = lost_fault k kind a
+    told_of_seen SeenNoMemory a = tt
+
+    pub seen_fault_told : (fault : SeenFault) (told : ExportFault) → told ≡ fault_of_seen fault
+        → AreSeenTables past version (Err fault) → IsExport past version (Err told)
+    seen_fault_told fault told e a = subst (λ (f : ExportFault). IsExport past version (Err f))
+        (sym e) (told_of_seen fault a)
 
     -- ---- what is seen of the tables
 

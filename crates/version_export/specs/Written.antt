@@ -1,6 +1,6 @@
 -- What the code of an export writes: lines, or the first fault in their place.
-use Rattle.std.specs.Prelude.{◌≡◌, ◌<◌, ◌++◌, ℕ, List, ◌∷◌, map, length, codes, decimal}
-use Rattle.std.specs.Prelude.{None, Some, Result, Ok, Err, ⊤}
+use Rattle.std.specs.Prelude.{◌≡◌, ◌<◌, ◌≤◌, ◌++◌, ℕ, List, [], ◌∷◌, map, length, codes}
+use Rattle.std.specs.Prelude.{decimal, take, drop, None, Some, Result, Ok, Err, ⊤}
 use Rattle.std.specs.Global.{Vec}
 use Rattle.schema_catalog.specs.Places.{NamedColumns}
 use Rattle.smo_ops_spec.specs.First.{first_refusal}
@@ -10,6 +10,9 @@ use Rattle.version_export.specs.declared.fault.ExportFault.{ExportFault}
 use Rattle.version_export.specs.declared.fault.ExportFault.TheVariants.{NoVersion, NoInverse}
 use Rattle.version_export.specs.declared.fault.ExportFault.TheVariants.{TooLong, NoMemory}
 use Rattle.version_export.specs.declared.row_turn.RowTurn.{RowTurn}
+use Rattle.version_export.specs.declared.seen.SeenFault.{SeenFault}
+use Rattle.version_export.specs.declared.seen.SeenFault.TheVariants.{NoInverse as SeenNoInverse}
+use Rattle.version_export.specs.declared.seen.SeenFault.TheVariants.{NoMemory as SeenNoMemory}
 use Rattle.version_export.specs.declared.seen_table.SeenTable.{SeenTable}
 use Rattle.version_export.specs.ByListings.{all_listed_of, commands_listed}
 use Rattle.version_export.specs.Turns.{turn_of, change_of, commands_of, Rises}
@@ -54,6 +57,18 @@ pub record IsFirstRun (turns : List RowTurn) (m : ℕ) (now later : List RowTurn
   pub rises : Rises 0 later
   pub fewer : length later < length turns
 
+-- the line of the first moment is added, and it has so many turns
+pub record AddsRun (turns : List RowTurn) (old new : List (Vec ℕ)) (n : ℕ) : Type 0 where
+  pub moment : ℕ
+  pub run : IsFirstRun turns moment (take n turns) (drop n turns)
+  pub within : n ≤ length turns
+  pub line : AddsLines ((moment, text_at moment (take n turns)) ∷ []) old new (Ok tt)
+
+-- it is, or the first statement that is too long is told
+abbrev pub AddsFirst : List RowTurn → List (Vec ℕ) → List (Vec ℕ) → Result ℕ ExportFault → Type 0
+AddsFirst turns old new (Ok n) = AddsRun turns old new n
+AddsFirst turns old new (Err fault) = AddsLines (row_statements turns) old new (Err fault)
+
 -- ---- by tables
 
 abbrev pub tables_seen : List SeenTable → List NamedColumns
@@ -64,6 +79,11 @@ table_statements first tables = after_creates first (tables_seen tables)
     (map statement_of (commands_listed first (all_listed_of tables)))
 
 -- ---- of a version
+
+-- the fault of the export, by that of seeing its tables
+abbrev pub fault_of_seen : SeenFault → ExportFault
+fault_of_seen (SeenNoInverse k kind) = NoInverse k kind
+fault_of_seen SeenNoMemory = NoMemory
 
 abbrev pub IsExport : Past → ℕ → Result (Vec (Vec ℕ)) ExportFault → Type 0
 IsExport past version (Ok lines) = (export_fault past version ≡ None)

@@ -1,6 +1,7 @@
 //! The first statement of an export: the EVOLVE that creates the tables.
 
-ghost use Rattle.std.specs.Prelude.{◌≡◌, ◌++◌, OnOk, IfOk};
+ghost use Rattle.std.specs.Prelude.{◌≡◌, ◌++◌, codes, map, OnOk, IfOk};
+ghost use Rattle.smo_parse.specs.Texts.{column_text, part_text};
 ghost use Rattle.version_export.specs.Statements.{create_text, then_creates, creates_text};
 ghost use Rattle.version_export.specs.Statements.{creation};
 ghost use Rattle.version_export.specs.Written.{tables_seen};
@@ -12,15 +13,23 @@ use schema_catalog::Table;
 use smo_parse::{put, write_columns};
 use std::alloc::Global;
 
+// A table's name and, in brackets, its columns.
+fn write_table(out: &mut Vec<u8>, table: &Table) -> Result<(), NoMemory>
+    ensures { OnOk result (out.new.items ≡ out.old.items
+        ++ part_text table.now.0 (map column_text table.now.1)) }
+{
+    put(out, table.name().bytes())?;
+    put(out, b" (")?;
+    write_columns(out, table.columns())?;
+    put(out, b")")
+}
+
 // The operator that creates a table.
 fn write_create(out: &mut Vec<u8>, table: &Table) -> Result<(), NoMemory>
     ensures { OnOk result (out.new.items ≡ out.old.items ++ create_text table.now) }
 {
     put(out, b"CREATE TABLE ")?;
-    put(out, table.name().bytes())?;
-    put(out, b" (")?;
-    write_columns(out, table.columns())?;
-    put(out, b")")
+    write_table(out, table)
 }
 
 // Those of tables, each after THEN.
@@ -35,6 +44,17 @@ fn write_more_creates(out: &mut Vec<u8>, tables: &[SeenTable<'_>]) -> Result<(),
     Ok(())
 }
 
+// Those of several tables, as a list in brackets.
+fn write_list(out: &mut Vec<u8>, first: &Table, more: &[SeenTable<'_>]) -> Result<(), NoMemory>
+    ensures { OnOk result (out.new.items ≡ out.old.items ++ (codes "(" ++ create_text first.now
+        ++ then_creates (tables_seen more.now) ++ codes ")")) }
+{
+    put(out, b"(")?;
+    write_create(out, first)?;
+    write_more_creates(out, more)?;
+    put(out, b")")
+}
+
 // That of one table alone, or those of several as a list in brackets.
 fn write_creates(out: &mut Vec<u8>, tables: &[SeenTable<'_>]) -> Result<(), NoMemory>
     ensures { OnOk result (out.new.items ≡ out.old.items
@@ -43,12 +63,7 @@ fn write_creates(out: &mut Vec<u8>, tables: &[SeenTable<'_>]) -> Result<(), NoMe
     match tables {
         [] => Ok(()),
         [one] => write_create(out, one.table),
-        [first, more @ ..] => {
-            put(out, b"(")?;
-            write_create(out, first.table)?;
-            write_more_creates(out, more)?;
-            put(out, b")")
-        }
+        [first, more @ ..] => write_list(out, first.table, more),
     }
 }
 

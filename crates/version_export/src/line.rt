@@ -1,11 +1,11 @@
 //! The lines of an export: for each moment at which rows end or begin, one statement.
 
-ghost use Rattle.std.specs.Prelude.{◌≡◌, ◌≤◌, ◌++◌, ◌∷◌, [], codes, decimal, length, map};
-ghost use Rattle.std.specs.Prelude.{OnOk, IfOk, MatchOption};
+ghost use Rattle.std.specs.Prelude.{◌≡◌, ◌≤◌, ◌<◌, ◌++◌, ◌∷◌, [], codes, decimal, length, map};
+ghost use Rattle.std.specs.Prelude.{OnOk, IfOk};
 ghost use Rattle.std.specs.List.{prefix_len};
 ghost use Rattle.version_export_lines_spec.specs.Lines.{change_text, then_texts, changes_text};
 ghost use Rattle.version_export.specs.Turns.{change_of, is_of, Rises};
-ghost use Rattle.version_export.specs.Written.{text_at, row_statements, IsFirstRun, AddsLines};
+ghost use Rattle.version_export.specs.Written.{text_at, row_statements, AddsFirst, AddsLines};
 
 use crate::fault::ExportFault;
 use crate::row_change::{write_beginning, write_ending};
@@ -69,6 +69,7 @@ fn write_more_changes(out: &mut Vec<u8>, turns: &[RowTurn<'_, '_>]) -> Result<()
 }
 
 // Changes with THEN between them.
+#[tactic(auto, using(crate::proofs::PartTexts::changes_cut))]
 fn write_changes(out: &mut Vec<u8>, turns: &[RowTurn<'_, '_>]) -> Result<(), NoMemory>
     ensures { OnOk result (out.new.items ≡ out.old.items
         ++ changes_text (map change_of turns.now)) }
@@ -118,21 +119,22 @@ fn count_at(turns: &[RowTurn<'_, '_>], moment: u64) -> usize
         .count()
 }
 
-// The first moment with its turns, and the turns after them.
-fn first_run<'s, 't, 'a>(
-    turns: &'s [RowTurn<'t, 'a>],
-) -> Option<(u64, &'s [RowTurn<'t, 'a>], &'s [RowTurn<'t, 'a>])>
-    requires { Rises 0 turns.now }
-    ensures { MatchOption result (turns.now ≡ [])
-        (λ r. IsFirstRun turns.now r.0 r.1.now r.2.now) }
+// Adds the line of the first moment, and answers how many turns are of it.
+fn push_first_run(
+    alloc: Global,
+    lines: &mut Vec<Line>,
+    turns: &[RowTurn<'_, '_>],
+) -> Result<usize, ExportFault>
+    requires some { 0 < length turns.now }
+    requires rise { Rises 0 turns.now }
+    ensures added { AddsFirst turns.now lines.old.items lines.new.items result }
+    ensures within { IfOk result (λ n. (0 < n) × (n ≤ length turns.now)) }
 {
-    match turns {
-        [] => None,
-        [turn, ..] => {
-            let moment = turn.moment;
-            let (now, later) = turns.split_at(count_at(turns, moment));
-            Some((moment, now, later))
-        }
+    let moment = turns[0].moment;
+    let count = count_at(turns, moment);
+    match push_moment(alloc, lines, moment, turns.split_at(count).0) {
+        Ok(()) => Ok(count),
+        Err(fault) => Err(fault),
     }
 }
 
@@ -145,10 +147,10 @@ pub(crate) fn push_row_lines(
     requires { Rises 0 turns.now }
     ensures { AddsLines (row_statements turns.now) lines.old.items lines.new.items result }
 {
-    let mut rest = turns;
-    'moments: while let Some((moment, now, later)) = first_run(rest) {
-        match push_moment(alloc, lines, moment, now) {
-            Ok(()) => rest = later,
+    let mut start = 0;
+    'moments: while start < turns.len() {
+        match push_first_run(alloc, lines, turns.split_at(start).1) {
+            Ok(count) => start += count,
             Err(fault) => return Err(fault),
         }
     }

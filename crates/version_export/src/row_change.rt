@@ -112,6 +112,21 @@ fn write_part(out: &mut Vec<u8>, table: &Table, values: &[Val<'_>]) -> Result<()
     put(out, b")")
 }
 
+// VALUES and, in brackets, the values of these columns.
+fn write_row(
+    out: &mut Vec<u8>,
+    columns: &[(Name, ColType)],
+    values: &[Val<'_>],
+) -> Result<(), NoMemory>
+    ensures { OnOk result (out.new.items ≡ out.old.items ++ (codes " VALUES (" ++ listed
+        (map value_text (cell_values (row_cells columns.now (shown_row values.now))))
+        ++ codes ")")) }
+{
+    put(out, b" VALUES (")?;
+    write_values(out, columns, values)?;
+    put(out, b")")
+}
+
 /// Writes the INSERT of a row of the table after what is there.
 pub(crate) fn write_beginning(
     out: &mut Vec<u8>,
@@ -123,9 +138,7 @@ pub(crate) fn write_beginning(
 {
     put(out, b"INSERT INTO ")?;
     write_part(out, table, values)?;
-    put(out, b" VALUES (")?;
-    write_values(out, table.columns(), values)?;
-    put(out, b")")
+    write_row(out, table.columns(), values)
 }
 
 // COLUMN = VALUE
@@ -172,11 +185,11 @@ fn write_cells(
 {
     match columns {
         [] => put(out, b"TRUE"),
-        [(name, _), more_columns @ ..] => match values {
+        [(first, _), others @ ..] => match values {
             [] => put(out, b"TRUE"),
-            [value, more_values @ ..] => {
-                write_cell(out, name, value)?;
-                write_more_cells(out, more_columns, more_values)
+            [value, rest @ ..] => {
+                write_cell(out, first, value)?;
+                write_more_cells(out, others, rest)
             }
         },
     }

@@ -38,7 +38,7 @@ fn push_turn<'t, 'a>(
     turn: RowTurn<'t, 'a>,
 ) -> Result<(), NoMemory>
     ensures { OnOk result (map turn_of turns.new.items
-        ≡ map turn_of turns.old.items ++ later_turns first (turn_of turn ∷ [])) }
+        ≡ map turn_of turns.old.items ++ later_turns first (turn_of turn.entry ∷ [])) }
 {
     if is_later(first, turn.moment) {
         turns.push(turn)?;

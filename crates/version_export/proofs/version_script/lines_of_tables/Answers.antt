@@ -1,7 +1,7 @@
 use Rattle.version_export.specs.Written.{table_statements}
 use Rattle.version_export.proofs.LineLaws.{as_fault}
 use Rattle.version_export.proofs.TableLines.{from_none}
-use Rattle.version_export.proofs.export.lines_of_tables.Goals as goal
+use Rattle.version_export.proofs.version_script.lines_of_tables.Goals as goal
 
 pub returns-in-Ok : goal.returns-in-Ok
 returns-in-Ok c = from_none (table_statements c.args.first c.args.tables.now)

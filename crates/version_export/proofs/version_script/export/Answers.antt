@@ -1,6 +1,6 @@
 use Rattle.smo_ops_spec.specs.History.{past_of}
 use Rattle.version_export.proofs.GoodLines.{where_lines, where_lines_of_one}
-use Rattle.version_export.proofs.export.export.Goals as goal
+use Rattle.version_export.proofs.version_script.export.Goals as goal
 
 pub returns-clause-good : goal.returns-clause-good
 returns-clause-good g c = λ history shows h creating some creates. where_lines history

@@ -1,5 +1,5 @@
 use Rattle.version_export.proofs.TableLines.{no_tables, tables_added, tables_fail}
-use Rattle.version_export.proofs.export.push_tables.Goals as goal
+use Rattle.version_export.proofs.version_script.push_tables.Goals as goal
 
 pub returns-in-empty : goal.returns-in-empty
 returns-in-empty c = no_tables c.args.first c.args.tables.now c.args.lines.now.items

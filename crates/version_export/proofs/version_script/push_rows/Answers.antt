@@ -3,7 +3,7 @@ use Rattle.version_export.specs.declared.row_turn.RowTurn.{RowTurn}
 use Rattle.version_export.specs.Statements.{Statement, statement_of}
 use Rattle.version_export.specs.Turns.{turn_of, commands_of, Rises}
 use Rattle.version_export.specs.Written.{AddsLines}
-use Rattle.version_export.proofs.export.push_rows.Goals as goal
+use Rattle.version_export.proofs.version_script.push_rows.Goals as goal
 
 pub push_row_lines-requires : goal.push_row_lines-requires
 push_row_lines-requires c = subst (λ (ts : List RowTurn). Rises 0 ts) (sym c.deref.ensures.value)

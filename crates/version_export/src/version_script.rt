@@ -11,7 +11,7 @@ ghost use Rattle.version_export.specs.Exported.{exported, creating_one};
 ghost use Rattle.version_export.specs.Statements.{creation, statement_of};
 ghost use Rattle.version_export.specs.Whole.{IsExportable, Creates};
 ghost use Rattle.version_export.specs.Written.{table_statements, tables_seen, AddsLines, AreLines};
-ghost use Rattle.version_export.specs.Written.{IsExport, texts_of};
+ghost use Rattle.version_export.specs.Written.{IsExport, texts_of, fault_of_seen};
 ghost use Rattle.version_export.specs.GoodLines.{IsGoodScript};
 
 use crate::creation::creation_text;
@@ -99,6 +99,16 @@ fn lines_of_tables(
     }
 }
 
+// The fault of the export, by that of seeing its tables.
+fn fault_of_seen(fault: SeenFault) -> ExportFault
+    ensures { result ≡ fault_of_seen fault }
+{
+    match fault {
+        SeenFault::NoInverse(lost, kind) => ExportFault::NoInverse(lost, kind),
+        SeenFault::NoMemory => ExportFault::NoMemory,
+    }
+}
+
 // The lines of a version.
 fn lines_of_version<S: Seen>(
     alloc: Global,
@@ -111,8 +121,7 @@ fn lines_of_version<S: Seen>(
     match seen.schema(version) {
         Some(schema) => match seen_tables(alloc, seen, version, schema) {
             Ok(tables) => lines_of_tables(alloc, stamp_of_first(seen), &tables),
-            Err(SeenFault::NoInverse(lost, kind)) => Err(ExportFault::NoInverse(lost, kind)),
-            Err(SeenFault::NoMemory) => Err(ExportFault::NoMemory),
+            Err(fault) => Err(fault_of_seen(fault)),
         },
         None => Err(ExportFault::NoVersion(version, newest)),
     }

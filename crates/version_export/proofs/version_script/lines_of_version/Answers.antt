@@ -1,5 +1,5 @@
-use Rattle.version_export.proofs.ExportLaws.{no_version_fault, lost_fault, is_export}
-use Rattle.version_export.proofs.export.lines_of_version.Goals as goal
+use Rattle.version_export.proofs.ExportLaws.{no_version_fault, seen_fault_told, is_export}
+use Rattle.version_export.proofs.version_script.lines_of_version.Goals as goal
 
 pub returns-in-None : goal.returns-in-None
 returns-in-None g c = record {
@@ -16,9 +16,9 @@ returns-in-Ok g c = record {
       (rw c.deref.ensures.value at c.lines_of_tables.ensures);
 }
 
-pub returns-in-Err-NoInverse : goal.returns-in-Err-NoInverse
-returns-in-Err-NoInverse g c = record {
-  is = λ past shows. lost_fault past c.args.version (c.in-Some.ensures past shows).0
-      c.in-Err-NoInverse.lost c.in-Err-NoInverse.kind
-      (rw c.in-Err-NoInverse.field-0-is at (c.in-Err-NoInverse.ensures.are past shows));
+pub returns-in-Err : goal.returns-in-Err
+returns-in-Err g c = record {
+  is = λ past shows. seen_fault_told past c.args.version (c.in-Some.ensures past shows).0
+      c.in-Err.fault c.fault_of_seen.result c.fault_of_seen.ensures
+      (c.in-Err.ensures.are past shows);
 }
