@@ -1,10 +1,4 @@
-use Rattle.std.specs.Prelude.{codes, map, ◌++◌}
 use Rattle.std.proofs.lemmas.Result.{on_ok_weaker}
-use Rattle.smo_ops_spec.specs.Checks.{pair_names}
-use Rattle.smo_parse.specs.TreeTexts.{value_text}
-use Rattle.smo_parse.specs.Texts.{listed, part_text}
-use Rattle.version_export_past_spec.specs.Rows.{row_cells}
-use Rattle.version_export_lines_spec.specs.Lines.{cell_values}
 use Rattle.version_export.specs.RowTexts.{shown_row}
 use Rattle.version_export.proofs.PartTexts.{row_begun}
 use Rattle.version_export.proofs.row_change.write_beginning.Goals as goal
