@@ -6,8 +6,10 @@
 # and with one that rules out all rows of fifteen of them. Where the table is not yet cut all pieces
 # but one are then dead; of tables that are cut off nothing tells which rows they have, so each is a
 # living piece at its own versions. EXPLAIN must tell just so many pieces. Prints the seconds that
-# each question adds to the load, and their ratio. ROWS names another n. PROGRAM names another build
-# to be timed in place of this one.
+# each question adds to the load, and their ratio. Then, over 300 versions that rename the table
+# there and back, what a question with a condition of 10 and of 80 comparisons of one column adds:
+# each piece is tried once. ROWS names another n. PROGRAM names another build to be timed in place of
+# this one.
 set -eu
 top=$(cd "$(dirname "$0")/.." && pwd)
 if [ -z "${PROGRAM:-}" ]; then
@@ -81,4 +83,27 @@ for versions in sizes:
     ratio = costs[1] / costs[0] if costs[0] else 0
     print(f"{last:>8} {n:>8} {alone:>8.3f} {costs[0]:>8.3f} {costs[1]:>8.3f} {ratio:>6.2f}",
         flush=True)
+
+
+def renamed(versions):
+    """The rows under version 1, and renames of their table there and back up to this version."""
+    names = ["t0", "q"]
+    script = ["AT 1 EVOLVE CREATE TABLE t0 (k INT, x INT);", "AT 2 "
+        + " THEN ".join(f"INSERT INTO t0 (k, x) VALUES ({k}, {k * 7919 % n})" for k in range(n))
+        + ";"]
+    for version in range(2, versions + 1):
+        script.append(f"AT {version + 1} EVOLVE RENAME TABLE {names[0]} INTO {names[1]};")
+        names.reverse()
+    return script, names[0]
+
+
+print(f"{'compared':>8} {'versions':>8} {'seconds':>8}")
+for compared in (10, 80):
+    script, name = renamed(300)
+    # the least values that the bound leaves are all excluded, so that each is tried
+    where = " AND ".join(["x >= 0"] + [f"x <> {value}" for value in range(compared - 1)])
+    question = f"QUERY VERSION 300 SELECT k, x FROM {name} WHERE {where};"
+    alone = min(play(script)[0] for _ in range(3))
+    whole = min(play(script + [question])[0] for _ in range(3))
+    print(f"{compared:>8} {300:>8} {max(whole - alone, 0):>8.3f}", flush=True)
 PYTHON

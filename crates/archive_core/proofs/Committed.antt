@@ -15,8 +15,8 @@ use Rattle.smo_ops_spec.specs.Accepts.{command_fault}
 use Rattle.smo_ops_spec.proofs.Firsts.{first_at, first_later, first_alone, none_of_first}
 use Rattle.journal.specs.JournalFiles.{needs}
 use Rattle.archive_core_file_spec.specs.LogRecords.{logged, record_of}
-use Rattle.archive_core_state.specs.NewCommands.{new_command_fault}
-use Rattle.archive_core_state.proofs.AcceptedWidths.{accepted_by_past}
+use Rattle.archive_core_replay.specs.Memory.{new_command_fault}
+use Rattle.archive_core_replay.proofs.Memory.{accepted_by_past}
 use Rattle.archive_core.specs.declared.fault.CommitFault.{CommitFault}
 use Rattle.archive_core.specs.declared.fault.CommitFault.TheVariants as fault
 use Rattle.archive_core.specs.Committing.{need_fault, room_fault, commit_fault, IsPut}

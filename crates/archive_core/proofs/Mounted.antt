@@ -1,6 +1,6 @@
 -- From the records of a file to what mounting it says.
-use Rattle.std.proofs.Common.{◌≡◌, inl, inr, ℕ, ◌+◌, ◌≤◌, List, [], ◌∷◌, ◌++◌}
-use Rattle.std.proofs.Common.{length, refl, sym, subst, ap, ◌∙◌, arith, Some, None}
+use Rattle.std.proofs.Common.{◌≡◌, inl, inr, ℕ, ◌+◌, ◌≤◌, List, [], ◌∷◌, ◌++◌, length, refl, sym}
+use Rattle.std.proofs.Common.{subst, ap, ◌∙◌, arith, Some, None}
 use Rattle.std.specs.Prelude.{Option, nat_le, false, if◌then◌else◌}
 use Rattle.std.proofs.lemmas.Bool.Decides.{nat_tests}
 use Rattle.std.proofs.lemmas.List.{length-map}
@@ -13,7 +13,7 @@ use Rattle.journal.specs.declared.rec.Rec.{Rec}
 use Rattle.archive_core_file_spec.specs.LogRecords.{LogRecord, logged, records_of, gate_after}
 use Rattle.archive_core_file_spec.specs.LogRecords.{replayed_of}
 use Rattle.archive_core_file_spec.specs.Opening.{HasFaultAt, Damages, Opens}
-use Rattle.archive_core_state.specs.ArchiveContents.{ArchiveContent}
+use Rattle.archive_core_replay.specs.Memory.{ArchiveContent}
 use Rattle.archive_core_replay.specs.declared.opened.Opened.{Opened}
 use Rattle.archive_core_replay.specs.Restoring.{IsRestored}
 use Rattle.archive_core.specs.Mounting.{IsMounted}

@@ -2,7 +2,7 @@
 use Rattle.std.proofs.Common.{◌≡◌, refl, sym, subst}
 use Rattle.smo_ops_spec.specs.Past.{Past}
 use Rattle.version_groups.proofs.PreparedCommands.{is_same}
-use Rattle.archive_core_state.specs.ArchiveContents.{ArchiveContent, RepresentsPast}
+use Rattle.archive_core_replay.specs.Memory.{ArchiveContent, RepresentsPast}
 use Rattle.archive_core.specs.Committing.{IsUnchanged}
 
 pub unchanged : (past : Past) (old new : ArchiveContent) → RepresentsPast old past → new ≡ old

@@ -1,2 +1,2 @@
 -- What proofs above need of the archive in memory, passed on.
-pub use Rattle.archive_core_state.proofs.Queries.{are_pieces}
+pub use Rattle.archive_core_replay.proofs.Memory.{are_pieces}

@@ -6,7 +6,7 @@ use Rattle.store_image_spec.specs.Images.{Image}
 use Rattle.store_image_spec.specs.Lengths.{image_length}
 use Rattle.store_image.specs.ImageIn.{image_in}
 use Rattle.archive_core_file_spec.specs.LogRecords.{LogRecord, checkpointed}
-use Rattle.archive_core_state.specs.ArchiveContents.{ArchiveContent}
+use Rattle.archive_core_replay.specs.Memory.{ArchiveContent}
 use Rattle.archive_core.specs.Committing.{need_fault}
 use Rattle.archive_core.specs.declared.fault.CommitFault.{CommitFault}
 use Rattle.archive_core.specs.declared.fault.CommitFault.TheVariants.{Broken, Refused, Disk}

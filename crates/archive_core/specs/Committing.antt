@@ -1,6 +1,5 @@
 -- What an archive on a disk answers to a command.
-use Rattle.std.specs.Prelude.{◌≡◌, ℕ, ◌+◌, ◌∷◌, [], nat_le, Some, None, Result, Ok, Err}
-use Rattle.std.specs.Prelude.{⊤}
+use Rattle.std.specs.Prelude.{◌≡◌, ℕ, ◌+◌, ◌∷◌, [], nat_le, Some, None, Result, Ok, Err, ⊤}
 use Rattle.prima_base.specs.declared.refusal.Refusal.TheVariants.{JournalFull}
 use Rattle.smo_ops_types.specs.Commands.{PlainCommand}
 use Rattle.smo_ops_spec.specs.First.{unless, first_refusal}
@@ -10,12 +9,9 @@ use Rattle.journal.specs.Records.{Record}
 use Rattle.journal.specs.JournalFiles.{needs}
 use Rattle.journal.specs.declared.sealed.Sealed.{Sealed}
 use Rattle.archive_core_file_spec.specs.LogRecords.{logged, record_of}
-use Rattle.archive_core_state.specs.declared.accepted_command.AcceptedCommand.{AcceptedCommand}
-use Rattle.archive_core_state.specs.declared.archive.Done.{Done}
-use Rattle.archive_core_state.specs.AcceptedCommands.{IsAcceptedAfter}
-use Rattle.archive_core_state.specs.NewCommands.{new_command_fault}
-use Rattle.archive_core_state.specs.ArchiveContents.{ArchiveContent, RepresentsPast}
-use Rattle.archive_core_state.specs.Committing.{IsAsBefore, IsDone}
+use Rattle.archive_core_replay.specs.Memory.{AcceptedCommand, Done, IsAcceptedAfter}
+use Rattle.archive_core_replay.specs.Memory.{new_command_fault, ArchiveContent, RepresentsPast}
+use Rattle.archive_core_replay.specs.Memory.{IsAsBefore, IsDone}
 use Rattle.archive_core.specs.declared.fault.CommitFault.{CommitFault}
 use Rattle.archive_core.specs.declared.fault.CommitFault.TheVariants.{Broken, Refused, Disk}
 use Rattle.archive_core.specs.declared.fault.CommitFault.TheVariants.{NoMemory}

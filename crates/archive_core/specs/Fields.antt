@@ -3,7 +3,7 @@ use Rattle.std.specs.Prelude.{ℕ, Bool}
 use Rattle.disk_model.specs.Meaning.{Meaning}
 use Rattle.disk_model.specs.declared.disk.Disk.{Ghosts}
 use Rattle.journal.specs.Fields as journal
-use Rattle.archive_core_state.specs.ArchiveContents.{ArchiveContent}
+use Rattle.archive_core_replay.specs.Memory.{ArchiveContent}
 use Rattle.archive_core.specs.declared.archive.Archive.{Archive}
 
 module _ {D : Type 0} {g : Ghosts D} where

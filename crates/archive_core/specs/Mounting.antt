@@ -4,7 +4,7 @@ use Rattle.disk_model.specs.Meaning.{BothKnown}
 use Rattle.journal.specs.Records.{opened_file}
 use Rattle.archive_core_file_spec.specs.LogRecords.{LogRecord, gate_after, past_recorded}
 use Rattle.archive_core_file_spec.specs.Opening.{Opens}
-use Rattle.archive_core_state.specs.ArchiveContents.{ArchiveContent, RepresentsPast}
+use Rattle.archive_core_replay.specs.Memory.{ArchiveContent, RepresentsPast}
 use Rattle.archive_core_replay.specs.declared.opened.Opened.{Opened}
 use Rattle.archive_core_replay.specs.Restoring.{IsCounted}
 

@@ -13,7 +13,6 @@ mod preparation;
 
 pub use answer_text::Listing;
 pub use archive::Archive;
-pub use archive_core_replay::Opened;
-pub use archive_core_state::{AskFault, Done};
+pub use archive_core_replay::{AskFault, Done, Opened};
 pub use fault::{CommitFault, MountFault};
 pub use piece_ir::Explained;

@@ -7,15 +7,15 @@ ghost use Rattle.smo_ops_spec.specs.Past.{Past};
 ghost use Rattle.command_codec_spec.specs.Found.{Encodes};
 ghost use Rattle.command_codec_spec.specs.Valid.{IsCommand, IsWritable};
 ghost use Rattle.journal.specs.JournalFiles.{sealed_record};
-ghost use Rattle.archive_core_state.specs.AcceptedCommands.{accepted_command};
-ghost use Rattle.archive_core_state.specs.ArchiveContents.{RepresentsPast, RepresentsSome};
+ghost use Rattle.archive_core_replay.specs.Memory.{accepted_command, RepresentsPast};
+ghost use Rattle.archive_core_replay.specs.Memory.{RepresentsSome};
 ghost use Rattle.archive_core_file_spec.specs.LogRecords.{logged, record_of};
 ghost use Rattle.archive_core.specs.Committing.{IsCommandChecked};
 ghost use Rattle.archive_core.specs.Checkpointing.{checkpoint_of};
 ghost use Rattle.store_image.specs.ImageIn.{GroupsHold};
 
 use crate::CommitFault;
-use archive_core_state::{AcceptedCommand, ArchiveState, CommandFault};
+use archive_core_replay::{AcceptedCommand, ArchiveState, CommandFault};
 use command_codec::{encode_changes, encode_operator};
 use command_codec_spec::accepted_commands_can_be_written;
 use journal::{CHECKPOINT, COMMAND, Sealed};

@@ -3,3 +3,4 @@ pub mod ReadRecords
 pub mod SameRecords
 pub mod Replayed
 pub mod Restored
+pub mod Memory

@@ -1,3 +1,4 @@
 pub mod Reading
 pub mod Replaying
 pub mod Restoring
+pub mod Memory

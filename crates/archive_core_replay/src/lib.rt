@@ -7,6 +7,7 @@ mod opened;
 mod record_reader;
 mod replay;
 
+pub use archive_core_state::{AcceptedCommand, ArchiveState, AskFault, CommandFault, Done};
 pub use fault::RestoreFault;
 pub use opened::Opened;
 pub use replay::restore;

@@ -19,7 +19,7 @@ use Rattle.piece_ir_spec.specs.Pieces.{piece_answers, means, all_mean}
 use Rattle.piece_ir_spec.specs.Typed.{IsTyped, AllTyped, atom_kinds}
 use Rattle.piece_ir.specs.declared.piece.Piece.{Piece}
 use Rattle.piece_ir.specs.Shown.{piece_of, shown_pieces}
-use Rattle.piece_prune.specs.DeadPieces.{IsDeadPiece, AreLiving, none_left, a_dead_one}
+use Rattle.piece_prune.specs.DeadPieces.{IsDeadPiece, LeavesLiving, none_left, a_dead_one}
 use Rattle.piece_prune.specs.DeadPieces.{a_living_one, Decides}
 use Rattle.piece_prune.proofs.ValidCells.{cells_fit, cells_valid}
 
@@ -53,7 +53,7 @@ module _ (tables : Tables) (db : Database) (d : IsValidDatabase tables db) where
   pub means_nothing : (p : PlainPiece) → IsDeadPiece tables p → means tables db p ≡ []
   means_nothing p h = ap (set_of row_cmp) (answers_nothing p h) ∙ nothing
 
-  same_answers : (ps living : List PlainPiece) → AreLiving tables ps living
+  same_answers : (ps living : List PlainPiece) → LeavesLiving tables ps living
       → flat_map (piece_answers tables db) living ≡ flat_map (piece_answers tables db) ps
   same_answers ps living none_left = refl
   same_answers ps living (a_dead_one p rest left h a) =
@@ -62,7 +62,7 @@ module _ (tables : Tables) (db : Database) (d : IsValidDatabase tables db) where
   same_answers ps living (a_living_one p rest left h a) =
       ap (λ (rows : List Row). piece_answers tables db p ++ rows) (same_answers rest left a)
 
-  pub mean_the_same : (ps living : List PlainPiece) → AreLiving tables ps living
+  pub mean_the_same : (ps living : List PlainPiece) → LeavesLiving tables ps living
       → all_mean tables db living ≡ all_mean tables db ps
   mean_the_same ps living a = ap (set_of row_cmp) (same_answers ps living a)
 
@@ -72,8 +72,9 @@ module _ {F : Type 0} (R : F → Piece → Bool → F → Type 0) (tables : Tabl
     (h : (x : Piece) (b : Bool) (g : F) → R f x b g → Decides b (piece_of x) × (g ≡ f)) where
   one_kept : (x : Piece) (xs : List Piece) (bs : List Bool) (b : Bool) → Decides b (piece_of x)
       → IsTyped tables (piece_of x)
-      → AreLiving tables (shown_pieces xs) (shown_pieces (items_where_true bs xs))
-      → AreLiving tables (shown_pieces (x ∷ xs)) (shown_pieces (items_where_true (b ∷ bs) (x ∷ xs)))
+      → LeavesLiving tables (shown_pieces xs) (shown_pieces (items_where_true bs xs))
+      → LeavesLiving tables (shown_pieces (x ∷ xs))
+      (shown_pieces (items_where_true (b ∷ bs) (x ∷ xs)))
   one_kept x xs bs true d t a = a_living_one (piece_of x) (shown_pieces xs)
       (shown_pieces (items_where_true bs xs)) (d tables t) a
   one_kept x xs bs false d t a = a_dead_one (piece_of x) (shown_pieces xs)
@@ -81,7 +82,7 @@ module _ {F : Type 0} (R : F → Piece → Bool → F → Type 0) (tables : Tabl
 
   kept_live : (bs : List Bool) (xs : List Piece) (q : F) → length bs ≡ length xs
       → AllTyped tables (shown_pieces xs) → ReturnsInTurn R f bs xs q
-      → AreLiving tables (shown_pieces xs) (shown_pieces (items_where_true bs xs))
+      → LeavesLiving tables (shown_pieces xs) (shown_pieces (items_where_true bs xs))
   kept_live [] [] q e t r = none_left
   kept_live [] (x ∷ xs) q e t r = absurd (omega arith)
   kept_live (b ∷ bs) [] q e t r = absurd r
@@ -93,7 +94,7 @@ module _ {F : Type 0} (R : F → Piece → Bool → F → Type 0) (tables : Tabl
 
   pub filtered_live : (xs ys : List Piece) → AllTyped tables (shown_pieces xs)
       → IsFiltered R f xs ys
-      → AreLiving tables (shown_pieces xs) (shown_pieces ys)
+      → LeavesLiving tables (shown_pieces xs) (shown_pieces ys)
   filtered_live xs ys t k = subst (λ (l : List Piece).
-      AreLiving tables (shown_pieces xs) (shown_pieces l)) (sym k.4)
+      LeavesLiving tables (shown_pieces xs) (shown_pieces l)) (sym k.4)
       (kept_live k.0 xs k.1 k.2 t k.3)

@@ -15,15 +15,19 @@ IsDeadPiece tables p = IsDead (atom_kinds tables p.atoms) p.cond
 abbrev pub lives : PlainPiece → Bool
 lives p = not (is_killed p.cond)
 
--- the pieces that are not dead, in their order
-pub data AreLiving (tables : Tables) : List PlainPiece → List PlainPiece → Type 0 where
-  none_left : AreLiving tables [] []
+-- of these pieces just those that are not dead are left, in their order
+pub data LeavesLiving (tables : Tables) : List PlainPiece → List PlainPiece → Type 0 where
+  none_left : LeavesLiving tables [] []
   a_dead_one : (p : PlainPiece) (ps living : List PlainPiece) → IsDeadPiece tables p
-      → AreLiving tables ps living → AreLiving tables (p ∷ ps) living
+      → LeavesLiving tables ps living → LeavesLiving tables (p ∷ ps) living
   a_living_one : (p : PlainPiece) (ps living : List PlainPiece) → ¬ IsDeadPiece tables p
-      → AreLiving tables ps living → AreLiving tables (p ∷ ps) (p ∷ living)
+      → LeavesLiving tables ps living → LeavesLiving tables (p ∷ ps) (p ∷ living)
+
+-- the piece is not dead, over any tables over which it is well-typed
+abbrev pub IsLiving : PlainPiece → Type 0
+IsLiving p = (tables : Tables) → IsTyped tables p → ¬ IsDeadPiece tables p
 
 -- whether a piece lives, over all tables over which it is well-typed
 abbrev pub Decides : Bool → PlainPiece → Type 0
-Decides true p = (tables : Tables) → IsTyped tables p → ¬ IsDeadPiece tables p
+Decides true p = IsLiving p
 Decides false p = (tables : Tables) → IsTyped tables p → IsDeadPiece tables p

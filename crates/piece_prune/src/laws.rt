@@ -9,7 +9,7 @@ ghost use Rattle.smo_ops_spec.specs.ValidValues.{IsValidDatabase};
 ghost use Rattle.cond_expr.specs.AtomColumns.{kinds_of_atoms};
 ghost use Rattle.plain_answers_spec.specs.Pushing.{pushed_cond};
 ghost use Rattle.piece_ir_spec.specs.Pieces.{PlainPiece, means, all_mean};
-ghost use Rattle.piece_prune.specs.DeadPieces.{IsDeadPiece, AreLiving};
+ghost use Rattle.piece_prune.specs.DeadPieces.{IsDeadPiece, LeavesLiving};
 
 /// Over every database whose values are of their columns' types, in range and valid, a dead piece
 /// means the empty relation.
@@ -22,7 +22,7 @@ pub fn a_dead_piece_means_nothing()
 pub fn living_pieces_mean_the_same()
     ensures { (tables : Tables) → (db : Database) → (ps : List PlainPiece)
         → (living : List PlainPiece) → IsValidDatabase tables db
-        → AreLiving tables ps living → all_mean tables db living ≡ all_mean tables db ps }
+        → LeavesLiving tables ps living → all_mean tables db living ≡ all_mean tables db ps }
 {}
 
 /// The condition that is pushed to an atom has a type over the atom's own columns, where the whole

@@ -5,7 +5,7 @@ ghost use Rattle.smo_ops_spec.specs.ValidValues.{IsValidDatabase};
 ghost use Rattle.piece_ir_spec.specs.Pieces.{means, all_mean};
 ghost use Rattle.piece_ir_spec.specs.Typed.{IsTyped, AllTyped};
 ghost use Rattle.piece_ir.specs.Shown.{piece_of, shown_pieces};
-ghost use Rattle.piece_prune.specs.DeadPieces.{IsDeadPiece, AreLiving, Decides, lives};
+ghost use Rattle.piece_prune.specs.DeadPieces.{IsDeadPiece, LeavesLiving, Decides, lives};
 
 use cond_expr_dead::is_dead as is_dead_condition;
 use piece_ir::Piece;
@@ -39,7 +39,7 @@ fn lives(piece: &Piece) -> bool
 // The pieces that live, in their order.
 fn left(pieces: Vec<Piece>, before: &Schema) -> Vec<Piece>
     requires { AllTyped before.now (shown_pieces pieces.items) }
-    ensures living { AreLiving before.now (shown_pieces pieces.items) (shown_pieces result.items) }
+    ensures living { LeavesLiving before.now (shown_pieces pieces.items) (shown_pieces result.items) }
     ensures told { shown_pieces result.items ≡ filter lives (shown_pieces pieces.items) }
 {
     let _typed_over = before;
@@ -53,7 +53,7 @@ fn left(pieces: Vec<Piece>, before: &Schema) -> Vec<Piece>
 /// the union that all of them mean. It takes no memory.
 pub fn living(pieces: Vec<Piece>, before: &Schema) -> Vec<Piece>
     requires { AllTyped before.now (shown_pieces pieces.items) }
-    ensures living { AreLiving before.now (shown_pieces pieces.items) (shown_pieces result.items) }
+    ensures living { LeavesLiving before.now (shown_pieces pieces.items) (shown_pieces result.items) }
     ensures told { shown_pieces result.items ≡ filter lives (shown_pieces pieces.items) }
     ensures means { (db : Database) → IsValidDatabase before.now db
         → all_mean before.now db (shown_pieces result.items)

@@ -13,7 +13,7 @@ use Rattle.version_groups.specs.Groups.{Kept}
 use Rattle.piece_ir_spec.specs.Pieces.{PlainPiece}
 use Rattle.piece_ir_spec.specs.Rules.{Book}
 use Rattle.piece_ir.specs.Shown.{shown_pieces}
-use Rattle.piece_prune.specs.DeadPieces.{IsDeadPiece, AreLiving, none_left, a_dead_one}
+use Rattle.piece_prune.specs.DeadPieces.{IsDeadPiece, LeavesLiving, none_left, a_dead_one}
 use Rattle.piece_prune.specs.DeadPieces.{a_living_one, lives}
 use Rattle.piece_ir.specs.ExplainedPieces.{PlainExplained}
 use Rattle.piece_ir_spec.specs.Beginnings.{first_piece}
@@ -120,7 +120,7 @@ module _ (versions : List PlainVersion) where
 
   -- pieces over the version of one part
   pub living_alive : (branch atom : ℕ) (p : Part) (ps living : List PlainPiece)
-      → AreLiving (tables_from no_tables versions p.1) ps living
+      → LeavesLiving (tables_from no_tables versions p.1) ps living
       → AreAlive versions (map (explained_in branch atom p) ps)
       (map (explained_in branch atom p) living)
   living_alive branch atom p ps living none_left = none_alive

@@ -22,7 +22,7 @@ use Rattle.piece_ir_spec.specs.Pieces.{PlainPiece, all_mean}
 use Rattle.piece_ir_spec.specs.Typed.{AllTyped}
 use Rattle.piece_ir_spec.specs.Rules.{Book, IsValidBook}
 use Rattle.piece_ir.specs.Shown.{shown_pieces}
-use Rattle.piece_prune.specs.DeadPieces.{AreLiving, none_left, a_dead_one, a_living_one, lives}
+use Rattle.piece_prune.specs.DeadPieces.{LeavesLiving, none_left, a_dead_one, a_living_one, lives}
 use Rattle.piece_prune.proofs.Pruned.{mean_the_same}
 use Rattle.piece_ir_spec.specs.Beginnings.{first_piece}
 use Rattle.piece_ir_spec.specs.Chains.{unfolded_to}
@@ -51,12 +51,12 @@ module _ (book : Book) (versions : List PlainVersion) (q : ℕ) (table : List �
 
   pub one_planned : (p : Part) (x : PartPieces) (ps : List PlainPiece) → x.part ≡ p
       → ps ≡ unfolded_to book versions p.1 q (first_piece table r ∷ [])
-      → AreLiving (tables_from no_tables versions p.1) ps (shown_pieces x.pieces.items)
+      → LeavesLiving (tables_from no_tables versions p.1) ps (shown_pieces x.pieces.items)
       → shown_pieces x.pieces.items ≡ filter lives ps → IsPlanned book versions q table r p x
   one_planned p x ps e u h told = record {
     part = e;
     living = subst (λ (us : List PlainPiece).
-        AreLiving (tables_from no_tables versions p.1) us (shown_pieces x.pieces.items)) u h;
+        LeavesLiving (tables_from no_tables versions p.1) us (shown_pieces x.pieces.items)) u h;
     told = told ∙ ap (filter lives) u;
   }
 
@@ -110,7 +110,7 @@ spans_step plan i x l is = sym (ap planned_spans (taken_is plan i x l is)
 -- ---- what lives is well-typed
 
 pub still_typed : (tables : Tables) (ps living : List PlainPiece) → AllTyped tables ps
-    → AreLiving tables ps living → AllTyped tables living
+    → LeavesLiving tables ps living → AllTyped tables living
 still_typed tables ps living t none_left x m = absurd m
 still_typed tables ps living t (a_dead_one p rest left d h) x m =
     still_typed tables rest left (λ y k. t y (inr k)) h x m
@@ -213,7 +213,7 @@ module _ (kept : Kept) (past : Past) (represents : Represents kept past) (book :
 
   -- and at the moments of each part it means what is asked of the table
   its_meaning : (p : Part) → In p route.parts.items → (living : List PlainPiece)
-      → AreLiving (tables_from no_tables (versions_in kept) p.1)
+      → LeavesLiving (tables_from no_tables (versions_in kept) p.1)
       (unfolded_to book (versions_in kept) p.1 route.asked (first_piece table r ∷ [])) living
       → (m : ℕ) → covers p.0 m ≡ true → all_mean (tables_of past p.1) (database_at past m) living
       ≡ table_read past route.asked table r m
@@ -231,7 +231,7 @@ module _ (kept : Kept) (past : Past) (represents : Represents kept past) (book :
         values = represents.values.databases m;
       })
       (unfolded_to book (versions_in kept) p.1 route.asked (first_piece table r ∷ [])) living
-      (subst (λ (vs : List PlainVersion). AreLiving (tables_from no_tables vs p.1)
+      (subst (λ (vs : List PlainVersion). LeavesLiving (tables_from no_tables vs p.1)
       (unfolded_to book (versions_in kept) p.1 route.asked (first_piece table r ∷ [])) living)
       represents.versions a)
       ∙ means_there kept past represents book valid route.asked table r

@@ -21,7 +21,7 @@ use Rattle.piece_ir_spec.specs.Beginnings.{IsQuestion, first_piece}
 use Rattle.piece_ir_spec.specs.Chains.{unfolded_to}
 use Rattle.piece_ir_spec.specs.Reading.{AreQuestions, Suffices}
 use Rattle.piece_ir_spec.proofs.ReadMoments.{table_means}
-use Rattle.piece_prune.specs.DeadPieces.{IsDeadPiece, AreLiving, none_left, a_dead_one}
+use Rattle.piece_prune.specs.DeadPieces.{IsDeadPiece, LeavesLiving, none_left, a_dead_one}
 use Rattle.piece_prune.specs.DeadPieces.{a_living_one}
 use Rattle.piece_prune.proofs.Pruned.{mean_the_same}
 use Rattle.piece_ir.specs.ExplainedPieces.{PlainExplained}
@@ -46,7 +46,7 @@ use Rattle.query_exec.proofs.QueryParts.{asked_parts, NoneLost, none_lost}
 module _ (versions : List PlainVersion) (branch atom : ℕ) (p : Part) where
   record LivingOf (ps : List PlainPiece) (es : List PlainExplained) : Type 0 where
     pub living : List PlainPiece
-    pub are : AreLiving (tables_from no_tables versions p.1) ps living
+    pub are : LeavesLiving (tables_from no_tables versions p.1) ps living
     pub is : es ≡ map (explained_in branch atom p) living
 
   more_dead : (x : PlainPiece) (ps : List PlainPiece) (es : List PlainExplained)

@@ -8,7 +8,7 @@ use Rattle.smo_ops_spec.specs.Past.{no_tables, tables_from}
 use Rattle.plain_answers_spec.specs.Reading.{Read}
 use Rattle.piece_ir_spec.specs.Rules.{Book}
 use Rattle.piece_ir.specs.Shown.{shown_pieces}
-use Rattle.piece_prune.specs.DeadPieces.{AreLiving, lives}
+use Rattle.piece_prune.specs.DeadPieces.{LeavesLiving, lives}
 use Rattle.piece_ir_spec.specs.Beginnings.{first_piece}
 use Rattle.piece_ir_spec.specs.Chains.{unfolded_to}
 use Rattle.period_split.specs.Splitting.{Part}
@@ -20,7 +20,7 @@ use Rattle.query_exec.specs.declared.part_piece.PartPieces.{PartPieces}
 pub record IsPlanned (book : Book) (versions : List PlainVersion) (q : ℕ) (table : List ℕ)
     (r : Read) (p : Part) (x : PartPieces) : Type 0 where
   pub part : x.part ≡ p
-  pub living : AreLiving (tables_from no_tables versions p.1)
+  pub living : LeavesLiving (tables_from no_tables versions p.1)
       (unfolded_to book versions p.1 q (first_piece table r ∷ [])) (shown_pieces x.pieces.items)
   pub told : shown_pieces x.pieces.items ≡ filter lives
       (unfolded_to book versions p.1 q (first_piece table r ∷ []))

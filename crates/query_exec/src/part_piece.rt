@@ -6,7 +6,7 @@ ghost use Rattle.smo_ops_spec.specs.Past.{no_tables, tables_from};
 ghost use Rattle.version_groups.specs.Groups.{versions_in};
 ghost use Rattle.piece_ir_spec.specs.Typed.{AllTyped};
 ghost use Rattle.piece_ir.specs.Shown.{shown_pieces};
-ghost use Rattle.piece_prune.specs.DeadPieces.{AreLiving, lives};
+ghost use Rattle.piece_prune.specs.DeadPieces.{LeavesLiving, lives};
 ghost use Rattle.rewrite_rules_book.specs.LivingPieces.{AreKnownToLive};
 
 use piece_ir::{Piece, copy_pieces};
@@ -22,8 +22,8 @@ pub(crate) struct PartPieces {
     pub(crate) pieces: Vec<Piece>,
 }
 
-/// Of the pieces over the version of a part, those that are not dead. Where it is known that none of
-/// them is, none is looked at again.
+/// Of the pieces over the version of a part, those that are not dead. Where it is known that none
+/// of them is, none is looked at again.
 pub(crate) fn part_pieces(
     alloc: Global,
     groups: &Groups,
@@ -36,7 +36,7 @@ pub(crate) fn part_pieces(
         (shown_pieces pieces.now) }
     requires pruned { AreKnownToLive pruned (shown_pieces pieces.now) }
     ensures part { IfOk result (λ x. x.part ≡ part) }
-    ensures living { IfOk result (λ x. AreLiving
+    ensures living { IfOk result (λ x. LeavesLiving
         (tables_from no_tables (versions_in groups.now) part.1) (shown_pieces pieces.now)
         (shown_pieces x.pieces.items)) }
     ensures told { IfOk result (λ x. shown_pieces x.pieces.items

@@ -13,7 +13,7 @@ use Rattle.plain_answers_spec.specs.Branches.{PlainBranch, item_columns}
 use Rattle.plain_answers_spec.specs.Reading.{Read, needed_reads, read_columns}
 use Rattle.piece_ir_spec.specs.Pieces.{PlainPiece, all_mean}
 use Rattle.piece_ir_spec.specs.Rules.{Book}
-use Rattle.piece_prune.specs.DeadPieces.{AreLiving}
+use Rattle.piece_prune.specs.DeadPieces.{LeavesLiving}
 use Rattle.piece_prune.proofs.Pruned.{mean_the_same}
 use Rattle.piece_ir_spec.specs.Beginnings.{first_piece}
 use Rattle.piece_ir_spec.specs.Chains.{unfolded_to}
@@ -35,7 +35,7 @@ standing_read book past m q k table r ps e h =
 -- and so do those that are not dead
 pub living_read : (book : Book) (past : Past) → IsPast past → PastHolds past
     → (m q k : ℕ) (table : List ℕ) (r : Read) (ps living : List PlainPiece) → version_at past m ≡ k
-    → StandFor book past.versions k q table r ps → AreLiving (tables_of past k) ps living
+    → StandFor book past.versions k q table r ps → LeavesLiving (tables_of past k) ps living
     → all_mean (tables_of past k) (database_at past m) living ≡ unfolded_read book past m q table r
 living_read book past is holds m q k table r ps living e h a =
     mean_the_same (tables_of past k) (database_at past m)

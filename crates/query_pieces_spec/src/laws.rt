@@ -21,7 +21,7 @@ ghost use Rattle.plain_answers_spec.specs.Pushing.{pushed_reads};
 ghost use Rattle.plain_answers_spec.specs.Reading.{Read, needed_reads, read_columns};
 ghost use Rattle.piece_ir_spec.specs.Pieces.{PlainPiece, means, all_mean};
 ghost use Rattle.piece_ir_spec.specs.Rules.{Book, IsValidBook};
-ghost use Rattle.piece_prune.specs.DeadPieces.{AreLiving};
+ghost use Rattle.piece_prune.specs.DeadPieces.{LeavesLiving};
 ghost use Rattle.piece_ir_spec.specs.Reading.{Suffices, unfolded_read, unfolded_reads};
 ghost use Rattle.piece_ir_spec.specs.UnfoldedPieces.{StandFor};
 ghost use Rattle.temporal_lang_types.specs.Queries.{PlainQuery, slice_of, IsLasting};
@@ -137,7 +137,7 @@ pub fn one_version_is_read()
     ensures living { (book : Book) → (past : Past) → IsPast past → PastHolds past → (m : ℕ)
         → (q : ℕ) → (k : ℕ) → (table : List ℕ) → (r : Read) → (ps : List PlainPiece)
         → (living : List PlainPiece) → version_at past m ≡ k
-        → StandFor book past.versions k q table r ps → AreLiving (tables_of past k) ps living
+        → StandFor book past.versions k q table r ps → LeavesLiving (tables_of past k) ps living
         → all_mean (tables_of past k) (database_at past m) living
         ≡ unfolded_read book past m q table r }
     ensures branch { (book : Book) → (past : Past) → (query : PlainQuery) → (b : PlainBranch)

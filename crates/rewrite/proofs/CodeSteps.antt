@@ -1,8 +1,8 @@
 -- The steps of the code that takes pieces along the versions.
 use Rattle.std.proofs.Common.{◌≡◌, ◌+◌, ◌-◌, ◌≤◌, ◌<◌, ℕ, suc, List, [], ◌∷◌, ◌++◌, map, take, drop}
 use Rattle.std.proofs.Common.{length, get_or, drop-cons, add-one, append_assoc, refl, sym, ap}
-use Rattle.std.proofs.Common.{subst, ◌∙◌, inl, inr, arith}
-use Rattle.std.specs.Prelude.{◌==◌, ◌⊎◌, true, false, Option, Some, None}
+use Rattle.std.proofs.Common.{subst, ◌∙◌, ⊎_elim, arith}
+use Rattle.std.specs.Prelude.{◌==◌, true, false, Option, Some, None}
 use Rattle.std.specs.FinMap.{get}
 use Rattle.std.proofs.lemmas.List.{map-append, take_all, length-map}
 use Rattle.relations_spec.specs.Sets.{In}
@@ -38,7 +38,7 @@ use Rattle.piece_ir.specs.declared.piece.Piece.{Piece}
 use Rattle.piece_ir_spec.specs.Chains.{through, brought, through_each}
 use Rattle.piece_ir_spec.specs.Chains.{to_previous, to_next}
 use Rattle.piece_ir_spec.proofs.ChainSteps.{all_typed}
-use Rattle.rewrite_rules_book.specs.LivingPieces.{IsLiving, AllLiving}
+use Rattle.rewrite_rules_book.specs.LivingPieces.{AllLiving}
 use Rattle.rewrite_losses.proofs.Places.{in_at}
 use Rattle.rewrite_losses.proofs.Sides.{here, sides}
 
@@ -75,13 +75,10 @@ module _ (book : Book) (op : Operator) (before : Tables) where
 pub more_live : (all news after : List Piece) → after ≡ all ++ news
     → AllLiving (shown_pieces all) → AllLiving (shown_pieces news) → AllLiving (shown_pieces after)
 more_live all news after so first second p m =
-    step (in_append p (shown_pieces all) (shown_pieces news)
+    ⊎_elim (λ k. first p k) (λ k. second p k)
+    (in_append p (shown_pieces all) (shown_pieces news)
     (subst (λ (ps : List PlainPiece). In p ps) (ap shown_pieces so ∙ map-append piece_of all news)
     m))
-  where
-    step : In p (shown_pieces all) ⊎ In p (shown_pieces news) → IsLiving p
-    step (inl k) = first p k
-    step (inr k) = second p k
 
 pub when_empty : (n : ℕ) → true ≡ (n == 0) → n ≡ 0
 when_empty n e = grind (arith, e)

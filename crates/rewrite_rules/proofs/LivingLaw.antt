@@ -3,10 +3,9 @@
 use Rattle.std.proofs.Common.{◌≡◌, ℕ, Bool, true, false, List, [], ◌∷◌, refl, sym, ap, subst, ◌∙◌}
 use Rattle.std.proofs.Common.{inl, inr}
 use Rattle.std.specs.Prelude.{Option, Some, None}
-use Rattle.std.specs.List.{filter, list_any, list_all}
+use Rattle.std.specs.List.{list_any, list_all}
 use Rattle.std.proofs.lemmas.Bool.{cases_Bool, and_from, false_from_ne_true}
 use Rattle.relations_spec.specs.Sets.{In}
-use Rattle.relations_spec.proofs.SetLaws.{from_filter}
 use Rattle.prima_base.specs.declared.value.ColType.{ColType}
 use Rattle.schema_catalog.specs.Tables.{Tables}
 use Rattle.cond_expr.specs.declared.expr.Whose.TheVariants.{Atom}
@@ -20,8 +19,8 @@ use Rattle.cond_expr_dead.proofs.DeadLaws.{any_from, any_of, part_typed}
 use Rattle.cond_expr_dead.proofs.NextValue.{least_of}
 use Rattle.piece_ir_spec.specs.Pieces.{PlainPiece}
 use Rattle.piece_ir_spec.specs.Typed.{IsTyped, AllTyped, atom_kinds}
-use Rattle.piece_prune.specs.DeadPieces.{IsDeadPiece, AreLiving, none_left, a_dead_one}
-use Rattle.piece_prune.specs.DeadPieces.{a_living_one, lives}
+use Rattle.piece_prune.specs.DeadPieces.{IsDeadPiece, LeavesLiving, none_left, a_dead_one}
+use Rattle.piece_prune.specs.DeadPieces.{a_living_one}
 use Rattle.rewrite_rules_book.specs.LivingPieces.{AllLiving}
 
 -- ---- a condition over columns of these types, and of those
@@ -83,7 +82,7 @@ alive_everywhere tables p typed alive others also dead =
     alive (dead_too (atom_kinds others p.atoms) (atom_kinds tables p.atoms) p.cond also.cond
     typed.cond dead)
 
-one_left : (tables : Tables) (ps left : List PlainPiece) → AreLiving tables ps left
+one_left : (tables : Tables) (ps left : List PlainPiece) → LeavesLiving tables ps left
     → AllTyped tables ps → (p : PlainPiece) → In p left → IsTyped tables p × ¬ IsDeadPiece tables p
 one_left tables ps left none_left typed p m = absurd m
 one_left tables ps left (a_dead_one q rest living d h) typed p m =
@@ -95,9 +94,7 @@ one_left tables ps left (a_living_one q rest living n h) typed p (inr m) =
 
 -- what is left of pieces without the dead lives
 pub left_live : (tables : Tables) (ps left : List PlainPiece) → AllTyped tables ps
-    → AreLiving tables ps left → left ≡ filter lives ps → AllLiving left
-left_live tables ps left typed are told p m =
-    let here = one_left tables ps left are typed p m in (
-      alive_everywhere tables p here.0 here.1,
-      (from_filter lives p ps (subst (λ (xs : List PlainPiece). In p xs) told m)).1,
-    )
+    → LeavesLiving tables ps left → AllLiving left
+left_live tables ps left typed are p m =
+    let here = one_left tables ps left are typed p m in
+    alive_everywhere tables p here.0 here.1

@@ -2,14 +2,8 @@
 use Rattle.std.specs.Prelude.{◌≡◌, List, Bool, true}
 use Rattle.std.proofs.Props.{props}
 use Rattle.relations_spec.specs.Sets.{In}
-use Rattle.schema_catalog.specs.Tables.{Tables}
 use Rattle.piece_ir_spec.specs.Pieces.{PlainPiece}
-use Rattle.piece_ir_spec.specs.Typed.{IsTyped}
-use Rattle.piece_prune.specs.DeadPieces.{IsDeadPiece, lives}
-
--- the piece is not dead, over any tables over which it is well-typed; nor is it found dead
-abbrev pub IsLiving : PlainPiece → Type 0
-IsLiving p = ((tables : Tables) → IsTyped tables p → ¬ IsDeadPiece tables p) × (lives p ≡ true)
+use Rattle.piece_prune.specs.DeadPieces.{IsLiving}
 
 abbrev pub AllLiving : List PlainPiece → Type 0
 AllLiving ps = (p : PlainPiece) → In p ps → IsLiving p

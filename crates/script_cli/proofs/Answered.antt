@@ -3,7 +3,6 @@ use Rattle.std.proofs.Common.{◌≡◌, ◌⊎◌, inl, inr, ℕ, IsTrue, List,
 use Rattle.std.proofs.Common.{⊎_elim, subst, append-nil, arith, take_all}
 use Rattle.std.specs.Prelude.{Option, Some}
 use Rattle.std.specs.Io.KnownBytes.{Keeps}
-use Rattle.std.proofs.KnownBytes.{Appends-nil, Consumes-nil, Consumes-kept}
 use Rattle.prima_io.specs.Moves.{AppendsPrefix}
 use Rattle.prima_io.proofs.Prefixes.{whole as all_of}
 use Rattle.disk_model.specs.Meaning.{Meaning, IsValid}
@@ -18,7 +17,7 @@ use Rattle.script_cli_statement.specs.Replies.{Recorded, recorded}
 use Rattle.script_cli.specs.Files.{OpensPrefix, EndsAs}
 use Rattle.script_cli.specs.Output.{all_puts, recorded_after, ending_of, tail_text}
 use Rattle.script_cli.specs.Runs.{Wrote, WroteTail, RanOpened, RunsOver, IsUntouched, begun}
-use Rattle.script_cli.specs.Runs.{KeepsAnswered}
+use Rattle.script_cli.specs.Runs.{KeepsAnswered, StaysUnanswered}
 use Rattle.script_cli.specs.Taking.{next_reply}
 use Rattle.script_cli.specs.declared.status.Status.{Status}
 use Rattle.script_cli.specs.declared.status.Status.TheVariants.{Done, Refused, Words, ReadFault}
@@ -140,28 +139,6 @@ left_now old new P law goes before (inl early) c left =
     before c (leaves_now old new old.may_leave law goes early c left)
 left_now old new P law goes before (inr late) c left = turns_now old new P law late c left
 
-module _ (limit : Given) (start : Recorded) (opening : List LogRecord) (a c u w : Option (List ℕ))
-    (files : List ℕ → Type 0) where
-  -- no statement was answered
-  pub none_answered : Keeps a c → w ≡ u → ((x : List ℕ) → files x → Opens x opening)
-      → KeepsAnswered limit start opening a c u w files
-  none_answered kept same held = record {
-    taken = [];
-    consumed = Consumes-kept a a c [] (Consumes-nil a) kept;
-    whole = [];
-    rest = [];
-    are = refl;
-    between = u;
-    replied = Appends-nil u;
-    next = inl (kept_prefix u w [] same);
-    log = [];
-    log_are = tt;
-    more = [];
-    more_are = inr refl;
-    held = λ x left. inl (subst (Opens x) (sym (append-nil opening)) (held x left));
-    next_held = inl same;
-  }
-
 module _ (limit : Given) (status : Status) (a c u w : Option (List ℕ)) (old new : Meaning)
     (opening : List LogRecord) (file : List ℕ) (honest : IsTrue old.is_honest)
     (is : old.seen ≡ Some file) (opens : Opens file opening) where
@@ -201,25 +178,28 @@ module _ (limit : Given) (status : Status) (a c u w : Option (List ℕ)) (old ne
       }
 
   pub answered_over : OpensOnce → NeverBoth → (f h : ℕ) → IsValid new → GoesOn old new
-      → ((x : List ℕ) → old.may_leave x → Opens x opening)
       → RunsOver limit status a c u w f h old new
-      → KeepsAnswered limit (recorded opening) opening a c u w new.may_leave
-  answered_over once apart f h law goes before (inl n) =
-      none_answered limit (recorded opening) opening a c u w new.may_leave n.kept
-      (unopened_kept apart status u w f h old.seen new.seen file opening is opens n.told)
-      (λ x left. none_there opening x (left_now old new (OpensPrefix opening []) law goes
-      (λ y earlier. none_yet opening y (before y earlier))
-      (none_left status file opening old new is opens honest n.disk) x left))
-  answered_over once apart f h law goes before (inr r) =
-      subst (λ s. KeepsAnswered limit s opening a c u w new.may_leave)
-      (start_is once old.seen r.start file opening is r.opened opens) (ran_answered r)
+      → StaysUnanswered opening a c u w old.may_leave new.may_leave
+      ⊎ KeepsAnswered limit (recorded opening) opening a c u w new.may_leave
+  answered_over once apart f h law goes (inl n) = inl (record {
+    kept = n.kept;
+    wrote = unopened_kept apart status u w f h old.seen new.seen file opening is opens n.told;
+    held = λ before x left. none_there opening x (left_now old new (OpensPrefix opening []) law goes
+        (λ y earlier. none_yet opening y (before y earlier))
+        (none_left status file opening old new is opens honest n.disk) x left);
+  })
+  answered_over once apart f h law goes (inr r) =
+      inr (subst (λ s. KeepsAnswered limit s opening a c u w new.may_leave)
+      (start_is once old.seen r.start file opening is r.opened opens) (ran_answered r))
 
 -- memory ran out before the disk was called
 pub answered_untouched : {D : Type 0} (M : D → Meaning) (status : Status)
     (a c u w : Option (List ℕ)) (disk back : D) → IsUntouched status a c u w disk back
-    → (limit : Given) (start : Recorded) (opening : List LogRecord)
-    → ((x : List ℕ) → (M disk).may_leave x → Opens x opening)
-    → KeepsAnswered limit start opening a c u w (M back).may_leave
-answered_untouched M status a c u w disk back none limit start opening before =
-    none_answered limit start opening a c u w (M back).may_leave none.kept none.wrote
-    (subst (λ d. (x : List ℕ) → (M d).may_leave x → Opens x opening) (sym none.disk) before)
+    → (opening : List LogRecord)
+    → StaysUnanswered opening a c u w (M disk).may_leave (M back).may_leave
+answered_untouched M status a c u w disk back none opening = record {
+  kept = none.kept;
+  wrote = none.wrote;
+  held = λ before. subst (λ d. (x : List ℕ) → (M d).may_leave x → Opens x opening)
+      (sym none.disk) before;
+}

@@ -183,6 +183,16 @@ pub record KeepsAnswered (limit : Given) (start : Recorded) (opening : List LogR
   pub next_held : (written_new ≡ between)
       ⊎ ((c : List ℕ) → files c → Opens c (opening ++ (log ++ more)))
 
+-- No byte of the script was taken, and none was written. Where each of the files before opens as the
+-- opening records, so does each of these.
+pub record StaysUnanswered (opening : List LogRecord)
+    (left_old left_new written_old written_new : Option (List ℕ)) (before files : List ℕ → Type 0) :
+    Type 0 where
+  pub kept : Keeps left_old left_new
+  pub wrote : written_new ≡ written_old
+  pub held : ((c : List ℕ) → before c → Opens c opening) → (c : List ℕ) → files c
+      → Opens c opening
+
 -- ---- runs that read no script
 
 -- a line was put whole, or less where the sink failed

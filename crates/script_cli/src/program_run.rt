@@ -14,7 +14,8 @@ ghost use Rattle.script_cli_statement.specs.Replies.{recorded};
 ghost use Rattle.script_cli.specs.Laws.{OutputLaws};
 ghost use Rattle.script_cli.specs.Promises.{RunOutcome, SampleOutcome};
 ghost use Rattle.script_cli.specs.Runs.{IsUntouched, RunsOver, RefusedWords, given_by};
-ghost use Rattle.script_cli.specs.Runs.{KeepsAnswered, SourceCounted, SinkCounted, DiskCounted};
+ghost use Rattle.script_cli.specs.Runs.{KeepsAnswered, StaysUnanswered};
+ghost use Rattle.script_cli.specs.Runs.{SourceCounted, SinkCounted, DiskCounted};
 ghost use Rattle.script_cli.specs.Sampling.{AsksSample, SamplesOver};
 ghost use Rattle.script_cli.specs.declared.status.Status.TheVariants as Status;
 
@@ -208,14 +209,17 @@ pub fn run<S: Source, K: Sink, D: Disk, R: Rule>(
         size
         → source.new ≡ source.old }
 
-    // What was acknowledged stays: where each file that a crash might have left at the start opens
-    // as the opening records, each that a crash may leave at the exit opens as these, those of all
-    // statements that were answered whole, and at most one more.
+    // What was acknowledged stays, where the file opens: either no byte of the script was taken and
+    // none was written, and a crash leaves nothing worse than before; or each file that a crash may
+    // leave at the exit opens as the opening records, those of all statements that were answered
+    // whole, and at most one more.
     ensures acknowledged { (limit : ℕ) → (file : List ℕ) → (opening : List LogRecord)
         → asked_for (map string_bytes arguments.now) ≡ Some limit
         → IsTrue (D.meaning disk.old).is_honest → (D.meaning disk.old).seen ≡ Some file
-        → ((c : List ℕ) → (D.meaning disk.old).may_leave c → Opens c opening)
-        → KeepsAnswered (given_by limit (book_meaning R.Rule book.now))
+        → Opens file opening
+        → StaysUnanswered opening (S.left source.old) (S.left source.new) (K.written sink.old)
+        (K.written sink.new) (D.meaning disk.old).may_leave (D.meaning disk.new).may_leave
+        ⊎ KeepsAnswered (given_by limit (book_meaning R.Rule book.now))
         (recorded opening) opening (S.left source.old) (S.left source.new) (K.written sink.old)
         (K.written sink.new) (D.meaning disk.new).may_leave }
 

@@ -23,6 +23,7 @@ use Rattle.smo_ops_spec.proofs.PastSteps.{beginning_is_past}
 use Rattle.smo_ops_spec.proofs.ValueLaws.{beginning_holds, history_holds}
 use Rattle.smo_ops_versions_spec.proofs.WayLeads.{valid_at, columns_at}
 use Rattle.smo_ops_versions_spec.proofs.WayValues.{way_values}
+use Rattle.smo_parse.specs.Texts.{operator_text}
 use Rattle.smo_parse.specs.Productions.{IsCreateTable, IsOperator}
 use Rattle.smo_parse.proofs.PrintedParts.{Printed, among}
 use Rattle.script_parse.specs.Productions.{IsBody, IsEvolve}
@@ -41,6 +42,7 @@ use Rattle.version_export_lines_spec.proofs.RowLines.{AllLines, row_lines, read_
 use Rattle.version_export_lines_spec.proofs.FewChanges.{short_few}
 use Rattle.version_export.specs.Exported.{rows_exported, exported, creating_one, after_creation}
 use Rattle.version_export.specs.Exported.{NoTableLost}
+use Rattle.version_export.specs.Statements.{creation_text}
 use Rattle.version_export.specs.Refused.{export_fault}
 use Rattle.version_export.specs.Whole.{IsExportable, Creates, IsGood}
 use Rattle.version_export.proofs.SameAnswers.{lost_never, rebuilds}
@@ -63,6 +65,11 @@ first_before : (versions : List PlainVersion) (last : ℕ) → 1 ≤ length vers
     → AllInForce last versions → last < forever → stamp_of (slice_get versions 0) < forever
 first_before [] last some h l = absurd (omega (arith, some))
 first_before (v ∷ versions) last some h l = (let up = h.0 in omega (arith, up, l))
+
+-- the text of the EVOLVE that creates one table
+pub text_of_one : (t : NamedColumns) → body_text (creating_one (t ∷ [])) ≡ creation_text (t ∷ [])
+unfolding operator_text
+text_of_one t = refl
 
 module _ (history : List PlainCommand) (version : ℕ) (h : IsExportable history version) where
   abbrev past : Past
@@ -135,10 +142,10 @@ module _ (history : List PlainCommand) (version : ℕ) (h : IsExportable history
   }
 
   pub good : (creating : List NamedColumns → PlainBody) → 1 ≤ length (tables_in past version)
-      → Creates creating past version → export_fault creating past version ≡ None
+      → Creates creating past version → export_fault past version ≡ None
       → IsGood (exported creating past version) past version
   good creating some c e = by_tables (tables_in past version) refl some
-      (lines_short creating past version e)
+      (lines_short past version e creating c.text)
     where
       by_tables : (ts : List NamedColumns) → tables_in past version ≡ ts → 1 ≤ length ts
           → AllShort (after_creation creating (first_stamp past) (tables_in past version)
@@ -151,8 +158,8 @@ module _ (history : List PlainCommand) (version : ℕ) (h : IsExportable history
           version) (sym q)
           (subst (λ (us : List NamedColumns). IsGood (a_command (first_stamp past) (creating us)
           ∷ rows_exported past version) past version) q
-          (with_tables (some_version version some) (is_version creating past version e) creating c
-          (no_table_lost creating past version e)
+          (with_tables (some_version version some) (is_version past version e) creating c
+          (no_table_lost past version e)
           (subst (λ (us : List NamedColumns). AllShort (a_command (first_stamp past) (creating us)
           ∷ rows_exported past version)) (sym q)
           (subst (λ (us : List NamedColumns). AllShort (after_creation creating (first_stamp past)
@@ -160,7 +167,7 @@ module _ (history : List PlainCommand) (version : ℕ) (h : IsExportable history
 
   -- ---- a version of one table
 
-  one_creates : (t : NamedColumns) → tables_in past version ≡ t ∷ []
+  pub one_creates : (t : NamedColumns) → tables_in past version ≡ t ∷ []
       → Creates creating_one past version
   one_creates t e = record {
     accepted = subst (λ (ts : List NamedColumns). command_fault
@@ -170,6 +177,7 @@ module _ (history : List PlainCommand) (version : ℕ) (h : IsExportable history
         (first_stamp past) (past_with beginning
         (a_command (first_stamp past) (creating_one ts)))) (sym e)
         (is_created t are r.some r.few (first_stamp past) (tables_of past version) e);
+    text = one_text (tables_in past version) e;
     printed = subst (λ (ts : List NamedColumns). Printed IsBody 0 (creating_one ts)
         (body_text (creating_one ts))) (sym e)
         (among IsEvolve IsBody 0 _ _ (λ s f k. inl k) (evolve_printed (create_table t.0 t.1)
@@ -183,12 +191,17 @@ module _ (history : List PlainCommand) (version : ℕ) (h : IsExportable history
       r : IsReadable t
       r = readable t there
 
+      one_text : (ts : List NamedColumns) → ts ≡ t ∷ []
+          → body_text (creating_one ts) ≡ creation_text ts
+      one_text ts q = subst (λ (us : List NamedColumns).
+          body_text (creating_one us) ≡ creation_text us) (sym q) (text_of_one t)
+
       are : AreColumns t.1
       are = (valid_at past.versions is_past.evolved version).schema t.0 t.1
           (table_found (tables_of past version) t there)
 
   pub one_good : (t : NamedColumns) → tables_in past version ≡ t ∷ []
-      → export_fault creating_one past version ≡ None
+      → export_fault past version ≡ None
       → IsGood (exported creating_one past version) past version
   one_good t e f = good creating_one (subst (λ (ts : List NamedColumns). 1 ≤ length ts) (sym e)
       (omega arith)) (one_creates t e) f

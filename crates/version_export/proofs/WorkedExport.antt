@@ -1,7 +1,7 @@
 -- Worked rows: a table that is decomposed into two, with a join as the inverse, and what is
 -- exported of the version before.
 use Rattle.std.specs.Prelude.{◌≡◌, ℕ, List, [], ◌∷◌, ◌++◌, codes, length, map, Option, Some}
-use Rattle.std.proofs.Common.{refl, sym, ap, ◌∙◌, arith}
+use Rattle.std.proofs.Common.{refl, sym, ap, subst, ◌∙◌, arith}
 use Rattle.std.specs.FinMap.{get, insert, remove, entries, put, get-insert}
 use Rattle.std.specs.FinMap.{entries-insert, len-empty, len-entries}
 use Rattle.std.specs.Cmp.Lexicographic.{nat_list_cmp_total}
@@ -28,11 +28,14 @@ use Rattle.smo_ops_versions_spec.proofs.WorkedWays.{with_emp}
 use Rattle.smo_ops_versions_spec.proofs.WorkedWays.{in_two, emp_back_of}
 use Rattle.version_export_past_spec.specs.Rows.{table_changes}
 use Rattle.version_export_past_spec.specs.Commands.{a_command, if_any, row_commands}
-use Rattle.version_export_past_spec.specs.Showing.{shown_by}
+use Rattle.version_export_past_spec.specs.Showing.{shown_by, tables_in}
 use Rattle.std.specs.Fmt.{digits}
 use Rattle.smo_parse.specs.Texts.{operator_text}
-use Rattle.version_export_lines_spec.specs.Lines.{line}
-use Rattle.version_export.specs.Refused.{export_lines}
+use Rattle.version_export_lines_spec.specs.Lines.{body_text}
+use Rattle.version_export.specs.Statements.{statement_of, creation_text}
+use Rattle.version_export.specs.Refused.{export_lines, line_of}
+use Rattle.version_export.proofs.Unrefused.{statements_are}
+use Rattle.version_export.proofs.WholeExport.{text_of_one}
 use Rattle.version_export.specs.Exported.{exported, creating_one, after_creation, rows_exported}
 
 -- ---- AT 1 EVOLVE CREATE TABLE emp (id INT, name TEXT, city TEXT);
@@ -187,10 +190,15 @@ exported_0 = ap (λ tables. after_creation creating_one 1 tables
 
 -- ---- their lines
 
-lines_1 : export_lines creating_one past 1
+text_1 : body_text (creating_one (tables_in past 1)) ≡ creation_text (tables_in past 1)
+text_1 = subst (λ (ts : List NamedColumns). body_text (creating_one ts) ≡ creation_text ts)
+    (sym one_in) (text_of_one emp_table)
+
+lines_1 : export_lines past 1
     ≡ codes "AT 1 EVOLVE CREATE TABLE emp (city TEXT, id INT, name TEXT);"
     ∷ codes "AT 2 INSERT INTO emp (city, id, name) VALUES ('Oslo', 1, 'Ann');"
     ∷ codes "AT 5 DELETE FROM emp WHERE city = 'Oslo' AND id = 1 AND name = 'Ann' THEN INSERT INTO emp (city, id, name) VALUES ('Bergen', 1, 'Ann');"
     ∷ []
 unfolding operator_text digits
-lines_1 = ap (map line) exported_1
+lines_1 = ap (map line_of) (statements_are creating_one past 1 text_1
+    ∙ ap (map statement_of) exported_1)

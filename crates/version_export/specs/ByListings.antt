@@ -56,6 +56,3 @@ all_listed_of tables = map listed_of tables
 -- the moment is after version 1, and before the end of time
 abbrev pub is_later : ℕ → ℕ → Bool
 is_later first m = nat_lt first m && nat_lt m forever
-
-abbrev pub kept_moments : ℕ → List ℕ → List ℕ
-kept_moments first ms = filter (λ m. nat_lt first m && nat_lt m forever) ms

@@ -19,6 +19,7 @@ use Rattle.version_export_lines_spec.specs.Lines.{body_text}
 use Rattle.version_export_lines_spec.specs.Named.{HasFreeNames}
 use Rattle.version_export_lines_spec.specs.Read.{IsReadBack}
 use Rattle.version_export.specs.Rebuilding.{Rebuilds}
+use Rattle.version_export.specs.Statements.{creation_text}
 
 -- a history whose constants are valid and whose stamps are before the end of time, and a version of
 -- it whose names are free
@@ -29,13 +30,15 @@ pub record IsExportable (history : List PlainCommand) (version : ℕ) : Type 0 w
   pub free : (t : NamedColumns) → In t (tables_in (past_of history) version) → HasFreeNames t
 
 -- the body of the EVOLVE that creates tables is accepted at the beginning, makes a past that has
--- just these tables, and prints as a text that spells it
+-- just these tables, and prints as the text that is exported, which spells it
 pub record Creates (creating : List NamedColumns → PlainBody) (past : Past) (version : ℕ)
     : Type 0 where
   pub accepted : command_fault beginning
       (a_command (first_stamp past) (creating (tables_in past version))) ≡ None
   pub creates : IsCreated (tables_of past version) (first_stamp past)
       (past_with beginning (a_command (first_stamp past) (creating (tables_in past version))))
+  pub text : body_text (creating (tables_in past version))
+      ≡ creation_text (tables_in past version)
   pub printed : Printed IsBody 0 (creating (tables_in past version))
       (body_text (creating (tables_in past version)))
 

@@ -36,10 +36,10 @@ pub fn an_export_answers_alike()
         → (creating : List NamedColumns → PlainBody)
         → 1 ≤ length (tables_in (past_of history) version)
         → Creates creating (past_of history) version
-        → export_fault creating (past_of history) version ≡ None
+        → export_fault (past_of history) version ≡ None
         → IsGood (exported creating (past_of history) version) (past_of history) version }
     ensures one { (history : List PlainCommand) → (version : ℕ) → IsExportable history version
         → (t : NamedColumns) → tables_in (past_of history) version ≡ t ∷ []
-        → export_fault creating_one (past_of history) version ≡ None
+        → export_fault (past_of history) version ≡ None
         → IsGood (exported creating_one (past_of history) version) (past_of history) version }
 {}

@@ -2,9 +2,10 @@
 
 ghost use Rattle.std.specs.Prelude.{◌≡◌, ◌<◌, ◌≤◌, true, length, MatchOption};
 ghost use Rattle.std.specs.FinMap.{contains_key};
+ghost use Rattle.relations_spec.specs.Spans.{forever};
 ghost use Rattle.smo_ops_spec.specs.Past.{Past as SeenPast, tables_of};
 ghost use Rattle.smo_ops_spec.specs.InForce.{begins_at};
-ghost use Rattle.smo_ops_spec.specs.ValidPast.{IsPast};
+ghost use Rattle.smo_ops_spec.specs.ValidPast.{IsPast, last_or_nought};
 ghost use Rattle.version_export.specs.Seen.{table_in, IsListed};
 
 use prima_base::{Name, OpKind, TimedRow};
@@ -24,26 +25,30 @@ pub enum SeenFault {
 /// An archive as an export sees it: its versions, and in each the rows of a table with their
 /// longest periods.
 pub trait Seen {
-    /// The past that it shows.
-    ghost past: { Self → SeenPast };
+    // The past that it shows.
+    ghost shows: { Self → SeenPast → Type 0 };
 
-    /// The newest version.
+    /// The newest version. Each stamp is before the end of time.
     fn newest(&self) -> u32
-        ensures count { result ≡ length (past self.now).versions }
-        ensures valid { IsPast (past self.now) };
+        ensures count { (past : SeenPast) → shows self.now past → result ≡ length past.versions }
+        ensures valid { (past : SeenPast) → shows self.now past → IsPast past }
+        ensures ends { (past : SeenPast) → shows self.now past
+            → last_or_nought past.last < forever };
 
     /// The stamp of a version, which is 0 for version 0: `None` exactly where it is not there. It
     /// takes no memory.
     fn stamp_of(&self, version: u32) -> Option<u64>
-        ensures { MatchOption result (length (past self.now).versions < version)
-            (λ stamp. (version ≤ length (past self.now).versions)
-            × (stamp ≡ begins_at (past self.now).versions version)) };
+        ensures { (past : SeenPast) → shows self.now past
+            → MatchOption result (length past.versions < version)
+            (λ stamp. (version ≤ length past.versions)
+            × (stamp ≡ begins_at past.versions version)) };
 
     /// The tables of a version: `None` exactly where it is not there. It takes no memory.
     fn schema(&self, version: u32) -> Option<&Schema>
-        ensures { MatchOption result (length (past self.now).versions < version)
-            (λ tables. (version ≤ length (past self.now).versions)
-            × (tables.now ≡ tables_of (past self.now) version)) };
+        ensures { (past : SeenPast) → shows self.now past
+            → MatchOption result (length past.versions < version)
+            (λ tables. (version ≤ length past.versions)
+            × (tables.now ≡ tables_of past version)) };
 
     /// Each row of a table of a version with its longest periods, ascending by row and start.
     /// `NoInverse` exactly where the query over all its columns has a first loss.
@@ -53,10 +58,12 @@ pub trait Seen {
         version: u32,
         table: &Name,
     ) -> Result<Vec<TimedRow<'a>>, SeenFault>
-        requires version { version ≤ length (past self.now).versions }
-        requires there { contains_key (tables_of (past self.now) version) table.now ≡ true }
-        ensures is { IsListed (past self.now) version
-            (table_in (past self.now) version table.now) result };
+        requires version { (past : SeenPast) → shows self.now past
+            → version ≤ length past.versions }
+        requires there { (past : SeenPast) → shows self.now past
+            → contains_key (tables_of past version) table.now ≡ true }
+        ensures is { (past : SeenPast) → shows self.now past
+            → IsListed past version (table_in past version table.now) result };
 }
 
 impl<T: Drop> From<AllocFailed<T>> for SeenFault {

@@ -2,7 +2,7 @@
 
 ghost use Rattle.std.specs.Prelude.{◌≡◌, ◌<◌, ◌≤◌, ℕ, length};
 ghost use Rattle.std.specs.FinMap.{len};
-ghost use Rattle.smo_ops_spec.specs.Past.{tables_of};
+ghost use Rattle.smo_ops_spec.specs.Past.{Past, tables_of};
 ghost use Rattle.version_export.specs.SeenTables.{IsSeenTable, AreSeenTables};
 
 use crate::seen::{Seen, SeenFault};
@@ -25,10 +25,10 @@ fn seen_table<'a, S: Seen>(
     schema: &'a Schema,
     place: usize,
 ) -> Result<SeenTable<'a>, SeenFault>
-    requires version { version ≤ length (S.past seen.now).versions }
-    requires tables { schema.now ≡ tables_of (S.past seen.now) version }
+    requires version { (past : Past) → S.shows seen.now past → version ≤ length past.versions }
+    requires tables { (past : Past) → S.shows seen.now past → schema.now ≡ tables_of past version }
     requires there { place < len schema.now }
-    ensures is { IsSeenTable (S.past seen.now) version place result }
+    ensures is { (past : Past) → S.shows seen.now past → IsSeenTable past version place result }
 {
     let table = schema.at(place);
     let rows = seen.listing(alloc, version, table.name())?;
@@ -43,9 +43,9 @@ pub(crate) fn seen_tables<'a, S: Seen>(
     version: u32,
     schema: &'a Schema,
 ) -> Result<Vec<SeenTable<'a>>, SeenFault>
-    requires version { version ≤ length (S.past seen.now).versions }
-    requires tables { schema.now ≡ tables_of (S.past seen.now) version }
-    ensures are { AreSeenTables (S.past seen.now) version result }
+    requires version { (past : Past) → S.shows seen.now past → version ≤ length past.versions }
+    requires tables { (past : Past) → S.shows seen.now past → schema.now ≡ tables_of past version }
+    ensures are { (past : Past) → S.shows seen.now past → AreSeenTables past version result }
 {
     let mut tables = Vec::new(alloc);
     for place in 0..schema.len() {

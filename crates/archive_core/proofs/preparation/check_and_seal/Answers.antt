@@ -1,4 +1,4 @@
-use Rattle.archive_core_state.specs.AcceptedCommands.{accepted_command}
+use Rattle.archive_core_replay.specs.Memory.{accepted_command}
 use Rattle.archive_core.proofs.preparation.check_and_seal.Goals as goal
 
 pub seal-requires-clause-valid : goal.seal-requires-clause-valid

@@ -6,14 +6,14 @@ use Rattle.version_groups.specs.Groups.{versions_in}
 use Rattle.piece_ir_spec.specs.Pieces.{PlainPiece}
 use Rattle.piece_ir_spec.specs.Typed.{AllTyped}
 use Rattle.piece_ir.specs.Shown.{shown_pieces}
-use Rattle.piece_prune.specs.DeadPieces.{AreLiving, lives}
+use Rattle.piece_prune.specs.DeadPieces.{LeavesLiving, lives}
 use Rattle.query_exec.proofs.KnownToLive.{all_left, all_told}
 use Rattle.query_exec.proofs.part_piece.part_pieces.Goals as goal
 
 pub returns-then-pruned-clause-living : goal.returns-then-pruned-clause-living
 returns-then-pruned-clause-living c =
     let tables = tables_from no_tables (versions_in c.args.groups.now) c.args.part.1 in
-    subst (λ (ps : List PlainPiece). AreLiving tables (shown_pieces c.args.pieces.now) ps)
+    subst (λ (ps : List PlainPiece). LeavesLiving tables (shown_pieces c.args.pieces.now) ps)
     (sym c.in_ok-copies.ensures)
     (all_left tables (shown_pieces c.args.pieces.now) c.requires.typed
     (c.requires.pruned c.if-pruned.true))
@@ -21,7 +21,8 @@ returns-then-pruned-clause-living c =
 pub returns-then-pruned-clause-told : goal.returns-then-pruned-clause-told
 returns-then-pruned-clause-told c =
     c.in_ok-copies.ensures
-    ∙ all_told (shown_pieces c.args.pieces.now) (c.requires.pruned c.if-pruned.true)
+    ∙ all_told (tables_from no_tables (versions_in c.args.groups.now) c.args.part.1)
+    (shown_pieces c.args.pieces.now) c.requires.typed (c.requires.pruned c.if-pruned.true)
 
 pub living-pieces-requires : goal.living-pieces-requires
 living-pieces-requires c =
@@ -32,9 +33,9 @@ living-pieces-requires c =
 
 pub returns-clause-living : goal.returns-clause-living
 returns-clause-living c =
-    subst (λ (t : Tables). AreLiving t (shown_pieces c.args.pieces.now)
+    subst (λ (t : Tables). LeavesLiving t (shown_pieces c.args.pieces.now)
     (shown_pieces c.living-pieces.result.items)) c.schema_of-schema.ensures
-    (subst (λ (ps : List PlainPiece). AreLiving c.schema_of-schema.result.now ps
+    (subst (λ (ps : List PlainPiece). LeavesLiving c.schema_of-schema.result.now ps
     (shown_pieces c.living-pieces.result.items)) c.in_ok-copies.ensures
     c.living-pieces.ensures.living)
 

@@ -48,5 +48,5 @@ returns c =
           (subst (AllTyped c.args.before.now) (sym all) (all_typed c.args.before.now
           (operator_of c.args.op.now) (piece_of c.args.piece.now) c.requires.valid
           c.requires.accepted c.requires.typed))
-          c.living.ensures.living c.living.ensures.told;
+          c.living.ensures.living;
     }

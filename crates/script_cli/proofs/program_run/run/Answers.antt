@@ -143,18 +143,16 @@ returns-clause-runs g c = λ limit asked. record {
 }
 
 pub returns-clause-acknowledged : goal.returns-clause-acknowledged
-returns-clause-acknowledged g c = λ limit file opening asked honest seen before.
+returns-clause-acknowledged g c = λ limit file opening asked honest seen opens.
     let M = g.D.Disk.meaning in
     let given = given_by limit
     (book_of g.R.Rule.handles g.R.Rule.answers c.args.book.now.rules.items) in
     ⊎_elim
-    (λ untouched. answered_untouched M _ _ _ _ _ _ _ untouched given (recorded opening) opening
-    before)
+    (λ untouched. inl (answered_untouched M _ _ _ _ _ _ _ untouched opening))
     (λ over. answered_over given _ _ _ _ _ (M c.args.disk.now) (M c.check_and_run.new.disk) opening
-    file honest seen
-    (before file ((g.met.D.Disk.valid c.args.disk.now).stays file honest seen))
+    file honest seen opens
     c.a_file_opens_or_is_damaged.ensures.one c.a_file_opens_or_is_damaged.ensures.apart _ _
-    (g.met.D.Disk.valid c.check_and_run.new.disk) c.check_and_run.ensures.goes before over)
+    (g.met.D.Disk.valid c.check_and_run.new.disk) c.check_and_run.ensures.goes over)
     (c.check_and_run.ensures.runs limit asked)
 
 pub returns-clause-samples : goal.returns-clause-samples

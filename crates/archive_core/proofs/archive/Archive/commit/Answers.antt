@@ -4,9 +4,8 @@ use Rattle.smo_ops_types.specs.Commands.{changing, PlainCommand}
 use Rattle.smo_ops_types.specs.declared.change.Change.{Change}
 use Rattle.version_groups.specs.Steps.{a_command}
 use Rattle.archive_core_file_spec.specs.LogRecords.{logged, record_of}
-use Rattle.archive_core_state.specs.AcceptedCommands.{accepted_command, IsAcceptedAfter}
-use Rattle.archive_core_state.specs.NewCommands.{new_command_fault}
-use Rattle.archive_core_state.proofs.Checking.{borrowed}
+use Rattle.archive_core_replay.specs.Memory.{accepted_command, IsAcceptedAfter, new_command_fault}
+use Rattle.archive_core_replay.proofs.Memory.{borrowed}
 use Rattle.archive_core.specs.Fields.{standing_of, place_of, limit_of}
 use Rattle.archive_core.specs.Committing.{Commits}
 use Rattle.archive_core.proofs.archive.Archive.commit.Goals as goal
