@@ -101,22 +101,22 @@ image_at past = record { sound = sound; leads = leads }
     leads (checkpointed image) is = is.shows
 
 -- with one record more
-stands_push : (opening : List LogRecord) (now : Recorded) (due : Due) (r : LogRecord)
-    → StandsAfter opening now → IsDueAt now.past due → IsRecordOf due r
-    → StandsAfter (opening ++ r ∷ []) (recorded_with now due)
-stands_push opening now due r stands here is = record {
+stands_push : (records : List LogRecord) (now : Recorded) (due : Due) (r : LogRecord)
+    → StandsAfter records now → IsDueAt now.past due → IsRecordOf due r
+    → StandsAfter (records ++ r ∷ []) (recorded_with now due)
+stands_push records now due r stands here is = record {
   past = sym (here.leads r is) ∙ ap (λ past. after_record past r) stands.past
-      ∙ sym (after_append pasts.beginning opening (r ∷ []));
+      ∙ sym (after_append pasts.beginning records (r ∷ []));
   at = ap (λ n. n + 10 + due_length due) stands.at
-      ∙ sym (gate_push opening r ∙ ap (λ n. gate_after opening + 10 + n) (its_length due r is));
+      ∙ sym (gate_push records r ∙ ap (λ n. gate_after records + 10 + n) (its_length due r is));
 }
 
 -- with none
-stands_still : (opening log : List LogRecord) (now next : Recorded) → next.past ≡ now.past
-    → next.at ≡ now.at → log ≡ [] → StandsAfter opening now → StandsAfter (opening ++ log) next
-stands_still opening log now next past at none stands =
+stands_still : (records log : List LogRecord) (now next : Recorded) → next.past ≡ now.past
+    → next.at ≡ now.at → log ≡ [] → StandsAfter records now → StandsAfter (records ++ log) next
+stands_still records log now next past at none stands =
     subst (λ (l : List LogRecord). StandsAfter l next)
-    (sym (ap (λ (l : List LogRecord). opening ++ l) none ∙ append-nil opening))
+    (sym (ap (λ (l : List LogRecord). records ++ l) none ∙ append-nil records))
     (record { past = past ∙ stands.past; at = at ∙ stands.at })
 
 -- ---- a statement
@@ -129,8 +129,8 @@ pub record IsStep (now : Recorded) (reply : Reply) : Type 0 where
   pub sound : (log : List LogRecord) → AreFirstOf reply.puts log → AreSound now.past log
   pub past : (log : List LogRecord) → AreRecordsOf reply.puts log
       → reply.after.past ≡ after_records now.past log
-  pub recorded_is : (opening log : List LogRecord) → StandsAfter opening now
-      → AreRecordsOf reply.puts log → StandsAfter (opening ++ log) reply.after
+  pub recorded_is : (records log : List LogRecord) → StandsAfter records now
+      → AreRecordsOf reply.puts log → StandsAfter (records ++ log) reply.after
   pub counted : length (commands_due reply.puts) ≡ one_if (is_command (put_of reply))
 
 pub none_of : (log : List LogRecord) → AreRecordsOf [] log → log ≡ []
@@ -152,8 +152,8 @@ puts_nothing now reply none past at = record {
   sound = λ log are. subst (AreSound now.past)
       (sym (none_first log (subst (λ l. AreFirstOf l log) none are))) tt;
   past = λ log are. past ∙ ap (after_records now.past) (sym (empty log are));
-  recorded_is = λ opening log stands are.
-      stands_still opening log now reply.after past at (empty log are) stands;
+  recorded_is = λ records log stands are.
+      stands_still records log now reply.after past at (empty log are) stands;
   counted = ap (λ (l : List Due). length (commands_due l)) none
       ∙ ap one_if (sym (no_command reply.is_error))
       ∙ ap (λ (l : List Due). one_if (is_command (put_for reply.is_error l))) (sym none);
@@ -201,12 +201,12 @@ put_step now text due None here = record {
     past (r ∷ []) are = sym ((here refl).leads r are.0)
     past (r ∷ s ∷ log) are = absurd are.1
 
-    recorded_so : (opening log : List LogRecord) → StandsAfter opening now
-        → AreRecordsOf (due ∷ []) log → StandsAfter (opening ++ log) (recorded_with now due)
-    recorded_so opening [] stands are = absurd are
-    recorded_so opening (r ∷ []) stands are =
-        stands_push opening now due r stands (here refl) are.0
-    recorded_so opening (r ∷ s ∷ log) stands are = absurd are.1
+    recorded_so : (records log : List LogRecord) → StandsAfter records now
+        → AreRecordsOf (due ∷ []) log → StandsAfter (records ++ log) (recorded_with now due)
+    recorded_so records [] stands are = absurd are
+    recorded_so records (r ∷ []) stands are =
+        stands_push records now due r stands (here refl) are.0
+    recorded_so records (r ∷ s ∷ log) stands are = absurd are.1
 
 -- a reply that puts one thing which may be put there
 one_step : (now : Recorded) (reply : Reply) (due : Due) → reply.puts ≡ due ∷ []
@@ -216,8 +216,8 @@ one_step : (now : Recorded) (reply : Reply) (due : Due) → reply.puts ≡ due �
 one_step now reply due puts past at told here = record {
   sound = λ log are. whole.sound log (subst (λ l. AreFirstOf l log) puts are);
   past = λ log are. past ∙ whole.past log (subst (λ l. AreRecordsOf l log) puts are);
-  recorded_is = λ opening log stands are.
-      let h = whole.recorded_is opening log stands (subst (λ l. AreRecordsOf l log) puts are) in
+  recorded_is = λ records log stands are.
+      let h = whole.recorded_is records log stands (subst (λ l. AreRecordsOf l log) puts are) in
       record { past = past ∙ h.past; at = at ∙ h.at };
   counted = ap (λ (l : List Due). length (commands_due l)) puts ∙ one_counted due
       ∙ sym (ap (λ b. one_if (is_command (put_for b reply.puts))) told

@@ -33,7 +33,7 @@ returns-in-Ok-clause-sessions g c = λ given now kept.
 pub returns-in-Ok-clause-counts : goal.returns-in-Ok-clause-counts
 returns-in-Ok-clause-counts g c =
     subst (λ r. SaidCounted r (g.K.Sink.faults c.args.sink.now)
-        (g.K.Sink.faults c.put_closed.new.sink))
+    (g.K.Sink.faults c.put_closed.new.sink))
     (sym c.without_error.ensures) (line_counted c.put_closed.result _ _ c.put_closed.ensures.cause)
 
 pub returns-in-Err-clause-says : goal.returns-in-Err-clause-says
@@ -42,7 +42,7 @@ returns-in-Err-clause-says g c = λ given now kept.
     c.refuse_request.ensures.says (fault_of need_of (world_of given now) c.args.session request) now
     (request_reply given c.args.session request now)
     (fault_so {A = Unit {0}} (λ _. closed) given now c.args.session request
-        (sessions_of c.args.sessions.now)
+    (sessions_of c.args.sessions.now)
     (sessions_of c.close.new.self) kept c.in-Err.fault
     (c.in-Err.ensures.serves need_of (shared_by given now)))
 

@@ -29,7 +29,7 @@ returns-in-Ok-Some-clause-replies g c = λ given now represents kept.
     let new = sessions_of c.commit.new.self in
     let here = commit_served given now c.args.session c.args.stamp (Shows b) had new kept
     (Ok (Some c.in-Ok-Some.done)) (rw c.in-Ok-Some.field-0-is at
-        (c.in-Ok-Some.ensures.serves (shared_by given now)
+    (c.in-Ok-Some.ensures.serves (shared_by given now)
     (shows_at a given now represents))) in
     let gives = rw c.in-Ok-Some.field-0-is at c.in-Ok-Some.ensures.gives in
     let back : c.archive-1.given.0 ≡ b = c.archive-1.given.1 (sym gives.1.1) in
@@ -70,7 +70,7 @@ returns-in-Err-Refused-clause-replies g c = λ given now represents kept.
     let new = sessions_of c.commit.new.self in
     let here = commit_served given now c.args.session c.args.stamp (Shows b) had new kept
     (Err (vault.Refused c.in-Err-Refused.refusal))
-        (rw c.in-Err-Refused.field-0-is at (c.in-Err-Refused.ensures.serves (shared_by given now)
+    (rw c.in-Err-Refused.field-0-is at (c.in-Err-Refused.ensures.serves (shared_by given now)
     (shows_at a given now represents))) in
     let gives = rw c.in-Err-Refused.field-0-is at c.in-Err-Refused.ensures.gives in
     let back : c.archive-1.given.0 ≡ b = either gives
@@ -98,7 +98,7 @@ returns-in-Err-Disk-clause-replies g c = λ given now represents kept.
     let new = sessions_of c.commit.new.self in
     let here = commit_served given now c.args.session c.args.stamp (Shows b) had new kept
     (Err vault.Disk) (rw c.in-Err-Disk.field-0-is at
-        (c.in-Err-Disk.ensures.serves (shared_by given now)
+    (c.in-Err-Disk.ensures.serves (shared_by given now)
     (shows_at a given now represents))) in
     let gives = rw c.in-Err-Disk.field-0-is at c.in-Err-Disk.ensures.gives in
     let back : c.archive-1.given.0 ≡ b = c.archive-1.given.1 (sym gives.1.1) in
@@ -201,7 +201,7 @@ returns-in-Ok-Some-clause-sessions g c = λ given now represents kept.
     (Some c.in-Ok-Some.done) (commit_served given now c.args.session c.args.stamp (Shows b)
     (sessions_of c.args.sessions.now) new kept
     (Ok (Some c.in-Ok-Some.done)) (rw c.in-Ok-Some.field-0-is at
-        (c.in-Ok-Some.ensures.serves (shared_by given now)
+    (c.in-Ok-Some.ensures.serves (shared_by given now)
     (shows_at c.args.archive.now given now represents)))))
 
 pub returns-in-Ok-None-clause-sessions : goal.returns-in-Ok-None-clause-sessions
@@ -222,7 +222,7 @@ returns-in-Err-Refused-clause-sessions g c = λ given now represents kept.
     c.in-Err-Refused.refusal (commit_served given now c.args.session c.args.stamp (Shows b)
     (sessions_of c.args.sessions.now) new kept
     (Err (vault.Refused c.in-Err-Refused.refusal))
-        (rw c.in-Err-Refused.field-0-is at (c.in-Err-Refused.ensures.serves (shared_by given now)
+    (rw c.in-Err-Refused.field-0-is at (c.in-Err-Refused.ensures.serves (shared_by given now)
     (shows_at c.args.archive.now given now represents)))))
 
 -- ---- it takes records still

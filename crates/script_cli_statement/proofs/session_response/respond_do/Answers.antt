@@ -34,9 +34,9 @@ returns-in-Ok-clause-sessions g c = λ given now kept.
 pub returns-in-Ok-clause-counts : goal.returns-in-Ok-clause-counts
 returns-in-Ok-clause-counts g c =
     subst (λ r. SaidCounted r (g.K.Sink.faults c.args.sink.now)
-        (g.K.Sink.faults c.put_buffered.new.sink))
+    (g.K.Sink.faults c.put_buffered.new.sink))
     (sym c.without_error.ensures) (line_counted c.put_buffered.result _ _
-        c.put_buffered.ensures.cause)
+    c.put_buffered.ensures.cause)
 
 pub returns-in-Err-clause-says : goal.returns-in-Err-clause-says
 returns-in-Err-clause-says g c = λ given now kept.

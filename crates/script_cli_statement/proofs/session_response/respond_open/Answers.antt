@@ -36,7 +36,7 @@ returns-in-Ok-clause-sessions g c = λ given now represents kept.
 pub returns-in-Ok-clause-counts : goal.returns-in-Ok-clause-counts
 returns-in-Ok-clause-counts g c =
     subst (λ r. SaidCounted r (g.K.Sink.faults c.args.sink.now)
-        (g.K.Sink.faults c.put_opened.new.sink))
+    (g.K.Sink.faults c.put_opened.new.sink))
     (sym c.without_error.ensures) (line_counted c.put_opened.result _ _ c.put_opened.ensures.cause)
 
 pub returns-in-Err-clause-says : goal.returns-in-Err-clause-says
