@@ -104,7 +104,8 @@ returns-in-Err-Disk-clause-replies g c = λ given now represents kept.
     let back : c.archive-1.given.0 ≡ b = c.archive-1.given.1 (sym gives.1.1) in
     rw back (
       refl,
-      failed_responds a b given now c.args.session c.args.stamp had new kept _ _
+      failed_responds a b given now c.args.session c.args.stamp had new kept
+          (g.K.Sink.written c.args.sink.now) (g.K.Sink.written c.args.sink.now)
           (g.met.D.Disk.valid a.journal.disk) here gives.0 gives.1.0,
     )
 
