@@ -6,10 +6,7 @@ use Rattle.std.specs.Io.KnownBytes.{Consumes, IsAtEnd}
 use Rattle.disk_model.specs.Meaning.{IfKnown}
 use Rattle.disk_model.specs.declared.disk.Disk.{Ghosts}
 use Rattle.archive_core_file_spec.specs.LogRecords.{LogRecord, commands_in}
-use Rattle.archive_core.specs.State.{ArchiveContent}
-use Rattle.archive_core.specs.declared.archive.Archive.{Archive}
-use Rattle.archive_core.specs.State.{Opened}
-use Rattle.archive_core.specs.Mounting.{IsMounted}
+use Rattle.script_cli_statement.specs.ArchiveOnDisk.{ArchiveContent, Archive, Opened, IsMounted}
 use Rattle.script_parse.specs.Script.{Whole as Text}
 use Rattle.script_cli_statement.specs.Given.{Given}
 use Rattle.script_cli_statement.specs.Due.{Due, command_due, image_due, commands_due}

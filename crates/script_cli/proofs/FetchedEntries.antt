@@ -1,6 +1,6 @@
 -- What a FETCH tells of a cursor, as the bytes of its reply.
-use Rattle.std.proofs.Common.{◌≡◌, ℕ, false, List, length, take, drop, refl, sym, ap}
-use Rattle.std.proofs.Common.{◌∙◌, true≢false}
+use Rattle.std.proofs.Common.{◌≡◌, ℕ, false, List, length, take, drop, refl, sym, ap, ◌∙◌}
+use Rattle.std.proofs.Common.{true≢false}
 use Rattle.std.specs.Prelude.{Some, None}
 use Rattle.smo_ops_spec.specs.Checks.{Fault}
 use Rattle.temporal_lang_types.specs.declared.when.When.{When}
@@ -8,11 +8,10 @@ use Rattle.temporal_lang_types.specs.declared.when.When.TheVariants.{Always, AsO
 use Rattle.temporal_lang_spec.specs.Answers.{answer}
 use Rattle.sessions.specs.Requests.{Request, opening, fetching}
 use Rattle.sessions.specs.Steps.{World, fault_of, answer_of, tells_periods as cursor_periods}
-use Rattle.sessions.specs.Runs.{asked, after, after_all, given}
-use Rattle.sessions.specs.Runs.{CursorsKeepTheirAnswers}
+use Rattle.sessions.specs.Runs.{asked, after, after_all, given, CursorsKeepTheirAnswers}
 use Rattle.script_parse.specs.Statements.{session}
 use Rattle.script_parse.specs.Reading.{Reading, Whole, reading}
-use Rattle.archive_core.specs.State.{tells_periods}
+use Rattle.script_cli_statement.specs.ArchiveOnDisk.{tells_periods}
 use Rattle.answer_text.specs.Texts.{listing_text}
 use Rattle.script_cli_vault.specs.Shown.{need_of}
 use Rattle.script_cli_statement.specs.Given.{Given}

@@ -15,17 +15,13 @@ use Rattle.journal.specs.Puts.{HoldsPrefix, StandsForPrefix}
 use Rattle.journal.specs.MountLaws.{none_yet, mount_then}
 use Rattle.smo_ops_spec.specs.Past.{beginning}
 use Rattle.archive_core_file_spec.specs.LogRecords.{LogRecord, record_of, records_of, AreEncoded}
-use Rattle.archive_core_file_spec.specs.LogRecords.{AreAccepted}
-use Rattle.archive_core_file_spec.specs.LogRecords.{AreSound, past_recorded}
+use Rattle.archive_core_file_spec.specs.LogRecords.{AreAccepted, AreSound, past_recorded}
 use Rattle.archive_core_file_spec.specs.Opening.{Opens, IsSound}
 use Rattle.archive_core_file_spec.proofs.Records.{accepted_append, sound_accepted, sound_prefix}
 use Rattle.archive_core_file_spec.proofs.Records.{sound_append}
 use Rattle.piece_ir_spec.specs.Rules.{Book}
-use Rattle.archive_core.specs.declared.archive.Archive.{Archive}
-use Rattle.archive_core.specs.State.{Opened}
-use Rattle.archive_core.specs.Fields.{standing_of, below, place_of}
-use Rattle.archive_core.specs.DiskReads.{HoldsAt}
-use Rattle.archive_core.specs.Mounting.{IsMounted}
+use Rattle.script_cli_statement.specs.ArchiveOnDisk.{Archive, Opened, standing_of, below, place_of}
+use Rattle.script_cli_statement.specs.ArchiveOnDisk.{HoldsAt, IsMounted}
 use Rattle.script_parse.specs.Script.{StatementPart}
 use Rattle.script_cli_statement.specs.Due.{AreRecordsOf}
 use Rattle.sessions.specs.SessionStates.{no_sessions}

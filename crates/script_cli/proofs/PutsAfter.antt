@@ -6,16 +6,13 @@ use Rattle.std.proofs.lemmas.List.{take-append-le, map-append}
 use Rattle.disk_model.specs.Meaning.{Meaning, IsValid}
 use Rattle.disk_model.specs.Moments.{Leaves}
 use Rattle.disk_model.specs.declared.disk.Disk.{Ghosts}
-use Rattle.disk_model.specs.MomentLaws.{goes_trans, still_honest, then_leaves}
-use Rattle.disk_model.specs.MomentLaws.{leaves_now}
+use Rattle.disk_model.specs.MomentLaws.{goes_trans, still_honest, then_leaves, leaves_now}
 use Rattle.journal.specs.Records.{Record, Holds}
 use Rattle.journal.specs.JournalFiles.{Stands, WithOrWithout}
 use Rattle.journal.specs.Puts.{HoldsPrefix, HavePut}
 use Rattle.journal.specs.PutLaws.{leaves_one_more}
 use Rattle.archive_core_file_spec.specs.LogRecords.{LogRecord, record_of, records_of}
-use Rattle.archive_core.specs.DiskReads.{HoldsAt}
-use Rattle.archive_core.specs.declared.archive.Archive.{Archive}
-use Rattle.archive_core.specs.Fields.{below, place_of}
+use Rattle.script_cli_statement.specs.ArchiveOnDisk.{HoldsAt, Archive, below, place_of}
 use Rattle.script_cli_statement.specs.Due.{Due}
 use Rattle.script_cli_statement.specs.Putting.{HasPut, MayHavePut}
 use Rattle.script_cli.specs.Driving.{PutsSome}

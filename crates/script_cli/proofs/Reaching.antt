@@ -8,8 +8,7 @@ use Rattle.std.proofs.lemmas.List.{take_at}
 use Rattle.prima_io.specs.Moves.{AppendsPrefix}
 use Rattle.disk_model.specs.Meaning.{IsValid}
 use Rattle.disk_model.specs.declared.disk.Disk.{Ghosts}
-use Rattle.archive_core.specs.declared.archive.Archive.{Archive}
-use Rattle.archive_core.specs.Fields.{below, place_of}
+use Rattle.script_cli_statement.specs.ArchiveOnDisk.{Archive, below, place_of}
 use Rattle.sessions.specs.SessionStates.{no_sessions}
 use Rattle.sessions.specs.Meaning.{sessions_of}
 use Rattle.script_parse.specs.Script.{StatementPart, parts_from, tail_from, ending}

@@ -6,8 +6,7 @@ use Rattle.std.specs.Io.KnownBytes.{Appends}
 use Rattle.std.proofs.KnownBytes.{Appends-trans, Appends-nil}
 use Rattle.disk_model.specs.Meaning.{IsValid}
 use Rattle.disk_model.specs.declared.disk.Disk.{Ghosts}
-use Rattle.archive_core.specs.declared.archive.Archive.{Archive}
-use Rattle.archive_core.specs.Fields.{below}
+use Rattle.script_cli_statement.specs.ArchiveOnDisk.{Archive, below}
 use Rattle.script_parse.specs.Script.{StatementPart, parts_from, tail_from, ending}
 use Rattle.script_parse.specs.Splitting.{found, IsSettled, State}
 use Rattle.script_parse.specs.declared.splitter.Cut.{Cut}

@@ -13,14 +13,9 @@ use Rattle.journal.specs.Puts.{HoldsPrefix}
 use Rattle.journal.specs.Records.{Holds}
 use Rattle.archive_core_file_spec.specs.LogRecords.{LogRecord, records_of, commands_in, AreEncoded}
 use Rattle.archive_core_file_spec.specs.Opening.{Opens, Damages}
-use Rattle.archive_core.specs.State.{RepresentsSome}
-use Rattle.archive_core.specs.declared.archive.Archive.{Archive}
-use Rattle.archive_core.specs.State.{Opened}
-use Rattle.archive_core.specs.declared.fault.MountFault.{MountFault}
-use Rattle.archive_core.specs.declared.fault.MountFault.TheVariants as mounting
-use Rattle.archive_core.specs.Fields.{standing_of, below, place_of, limit_of}
-use Rattle.archive_core.specs.DiskReads.{HoldsAt}
-use Rattle.archive_core.specs.Mounting.{IsMounted}
+use Rattle.script_cli_statement.specs.ArchiveOnDisk.{RepresentsSome, Archive, Opened, MountFault}
+use Rattle.script_cli_statement.specs.ArchiveOnDisk.{mounting, standing_of, below, place_of}
+use Rattle.script_cli_statement.specs.ArchiveOnDisk.{limit_of, HoldsAt, IsMounted}
 use Rattle.script_cli_statement.specs.Due.{commands_due}
 use Rattle.script_cli_statement.specs.Given.{Given}
 use Rattle.script_cli_statement.specs.Replies.{Recorded}

@@ -11,7 +11,7 @@ use Rattle.sessions.specs.Runs.{Step, elsewhere, after_all, given, leave_open}
 use Rattle.script_parse.specs.Script.{StatementPart, Whole as Text, Skipped}
 use Rattle.script_parse.specs.Statements.{session}
 use Rattle.script_parse.specs.Reading.{Whole, reading}
-use Rattle.archive_core.specs.State.{tells_periods}
+use Rattle.script_cli_statement.specs.ArchiveOnDisk.{tells_periods}
 use Rattle.answer_text.specs.Texts.{listing_text}
 use Rattle.script_cli_vault.specs.Shown.{need_of}
 use Rattle.script_cli_statement.specs.Given.{Given}

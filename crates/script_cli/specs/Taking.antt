@@ -6,7 +6,7 @@ use Rattle.disk_model.specs.declared.disk.Disk.{Ghosts}
 use Rattle.sessions.specs.Meaning.{sessions_of}
 use Rattle.script_parse.specs.Script.{StatementPart, parts_from, tail_from, ending}
 use Rattle.script_parse.specs.declared.splitter.Tail.{Tail}
-use Rattle.archive_core.specs.declared.archive.Archive.{Archive}
+use Rattle.script_cli_statement.specs.ArchiveOnDisk.{Archive}
 use Rattle.script_cli.specs.declared.script_run.ScriptRun.{ScriptRun}
 use Rattle.script_cli_statement.specs.declared.stop_reason.StopReason.{StopReason}
 use Rattle.script_cli_statement.specs.Due.{commands_due}

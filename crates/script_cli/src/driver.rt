@@ -4,7 +4,7 @@ ghost use Rattle.std.specs.Prelude.{◌≡◌, ◌+◌, ◌<◌, ◌≤◌, ℕ,
 ghost use Rattle.std.specs.Io.KnownBytes.{Consumes, IsAtEnd, Keeps};
 ghost use Rattle.prima_io.specs.Causes.{HasCause};
 ghost use Rattle.rewrite.specs.Books.{book_meaning};
-ghost use Rattle.archive_core.specs.Fields.{below, place_of};
+ghost use Rattle.script_cli_statement.specs.ArchiveOnDisk.{below, place_of};
 ghost use Rattle.script_cli_statement.specs.Given.{Given};
 ghost use Rattle.script_cli_statement.specs.Replies.{Recorded, IsFresh};
 ghost use Rattle.script_cli.specs.Runs.{SourceCounted, SinkCounted, DiskCounted};
@@ -14,11 +14,10 @@ ghost use Rattle.script_cli.specs.Driving.{RanScript, Ends, CountsPuts, status_o
 use crate::SCRIPT_LIMIT;
 use crate::script_run::ScriptRun;
 use crate::status::Status;
-use archive_core::Archive;
 use disk_model::Disk;
 use prima_io::{Failed, Sink, Source};
 use rewrite_rules_book::{Rule, RuleBook};
-use script_cli_statement::{ReplyKind, StopReason};
+use script_cli_statement::{Archive, ReplyKind, StopReason};
 use std::alloc::Global;
 
 const CHUNK: usize = 4096;

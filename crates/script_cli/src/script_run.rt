@@ -10,7 +10,7 @@ ghost use Rattle.sessions.specs.SessionStates.{no_sessions};
 ghost use Rattle.sessions.specs.Meaning.{sessions_of};
 ghost use Rattle.script_parse.specs.Splitting.{fresh};
 ghost use Rattle.rewrite.specs.Books.{book_meaning};
-ghost use Rattle.archive_core.specs.Fields.{below};
+ghost use Rattle.script_cli_statement.specs.ArchiveOnDisk.{below};
 ghost use Rattle.answer_text.specs.RefusalTexts.{refusal_text};
 ghost use Rattle.script_cli_statement.specs.Given.{Given};
 ghost use Rattle.script_cli_statement.specs.Replies.{Recorded, reply, refused};
@@ -21,12 +21,11 @@ ghost use Rattle.script_cli.specs.Taking.{Fed, Answered, Stopped, parts_after, e
 ghost use Rattle.script_cli.specs.Taking.{RepresentsRun};
 ghost use Rattle.script_cli_statement.specs.Responses.{StopsIn, TakesRecords};
 
-use archive_core::Archive;
 use disk_model::Disk;
 use prima_base::{NoMemory, Refusal};
 use prima_io::{Failed, Sink};
 use rewrite_rules_book::{Rule, RuleBook};
-use script_cli_statement::{ReplyKind, StopReason, refuse, respond};
+use script_cli_statement::{Archive, ReplyKind, StopReason, refuse, respond};
 use script_parse::{Cut, Splitter, Tail};
 use sessions::Sessions;
 use std::alloc::Global;

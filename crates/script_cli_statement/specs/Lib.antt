@@ -12,3 +12,4 @@ pub mod Written
 pub mod Explaining
 pub mod Paired
 pub mod Grouped
+pub mod ArchiveOnDisk

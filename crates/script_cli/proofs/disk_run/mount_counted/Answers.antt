@@ -1,6 +1,6 @@
 use Rattle.std.specs.Prelude.{Option, Some, None, List, ℕ}
 use Rattle.disk_model.specs.Meaning.{IfKnown}
-use Rattle.archive_core.specs.State.{Opened}
+use Rattle.script_cli_statement.specs.ArchiveOnDisk.{Opened}
 use Rattle.script_cli.proofs.Counting.{opening_counted}
 use Rattle.script_cli.proofs.disk_run.mount_counted.Goals as goal
 

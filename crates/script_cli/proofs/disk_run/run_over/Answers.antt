@@ -1,7 +1,7 @@
 use Rattle.std.proofs.Common.{inl, inr, refl, sym, subst}
 use Rattle.disk_model.specs.Moments.{GoesOn}
 use Rattle.disk_model.specs.MomentLaws.{goes_trans}
-use Rattle.archive_core.specs.Fields.{below, place_of}
+use Rattle.script_cli_statement.specs.ArchiveOnDisk.{below, place_of}
 use Rattle.piece_ir_spec.specs.Books.{book_of}
 use Rattle.script_cli.specs.Runs.{RunsOver, NotOpened, SourceCounted, DiskCounted, given_by}
 use Rattle.script_cli.proofs.OnDisks.{start_of, ran_opened, put_goes}

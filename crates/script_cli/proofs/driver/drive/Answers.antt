@@ -2,7 +2,7 @@ use Rattle.std.proofs.Common.{◌≡◌, ◌+◌, ◌≤◌, arith, [], List, sy
 use Rattle.std.proofs.Common.{length-take, ℕ, refl}
 use Rattle.std.specs.Prelude.{Option, Some, None}
 use Rattle.std.specs.Io.KnownBytes.{Consumes}
-use Rattle.archive_core.specs.Fields.{below, place_of}
+use Rattle.script_cli_statement.specs.ArchiveOnDisk.{below, place_of}
 use Rattle.script_cli.specs.Driving.{RanScript, CountsPuts}
 use Rattle.script_cli.specs.Limits.{longest_script}
 use Rattle.script_cli.specs.Runs.{SourceCounted, SinkCounted, DiskCounted}

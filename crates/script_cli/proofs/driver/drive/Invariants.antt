@@ -1,6 +1,6 @@
 use Rattle.std.proofs.Common.{◌≡◌, ◌≤◌, ◌-◌, false}
 use Rattle.piece_ir_spec.specs.Books.{book_of}
-use Rattle.archive_core.specs.Fields.{below}
+use Rattle.script_cli_statement.specs.ArchiveOnDisk.{below}
 use Rattle.script_cli_statement.specs.Given.{Given}
 use Rattle.script_cli_statement.specs.Replies.{Recorded, IsFresh}
 use Rattle.script_cli_statement.specs.Responses.{RepresentsAt, TakesRecords}

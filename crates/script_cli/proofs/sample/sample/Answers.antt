@@ -1,6 +1,6 @@
 use Rattle.std.proofs.Common.{◌≡◌, ◌+◌, rules, inl, sym, subst, refl}
 use Rattle.std.specs.Prelude.{Some, true}
-use Rattle.archive_core.specs.Fields.{below, place_of}
+use Rattle.script_cli_statement.specs.ArchiveOnDisk.{below, place_of}
 use Rattle.script_cli_sample.specs.Source.{left_of}
 use Rattle.script_cli_sample.specs.Statements.{sample_script}
 use Rattle.script_cli_sample.specs.Summary.{summary}

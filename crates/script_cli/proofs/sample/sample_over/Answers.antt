@@ -2,7 +2,7 @@ use Rattle.std.proofs.Common.{inl, inr, [], refl, sym, subst}
 use Rattle.std.specs.Prelude.{Some}
 use Rattle.disk_model.specs.Moments.{GoesOn}
 use Rattle.disk_model.specs.MomentLaws.{goes_trans}
-use Rattle.archive_core.specs.Fields.{below, place_of}
+use Rattle.script_cli_statement.specs.ArchiveOnDisk.{below, place_of}
 use Rattle.script_cli_sample.specs.Statements.{sample_script}
 use Rattle.piece_ir_spec.specs.Books.{book_of}
 use Rattle.script_cli.specs.Runs.{NotOpened, DiskCounted, given_by}

@@ -1,5 +1,5 @@
 use Rattle.std.proofs.Common.{◌∙◌, refl}
-use Rattle.archive_core.specs.Fields.{below}
+use Rattle.script_cli_statement.specs.ArchiveOnDisk.{below}
 use Rattle.script_cli.proofs.Counts.{stop_after}
 use Rattle.script_cli.proofs.Taking.{took_none, took_more, halted_more, left_none, left_some}
 use Rattle.script_cli.proofs.script_run.ScriptRun.feed.Goals as goal
