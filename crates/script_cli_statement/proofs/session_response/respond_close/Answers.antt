@@ -41,13 +41,14 @@ returns-in-Err-clause-says g c = λ given now kept.
     let request = closing c.args.cursor.now in
     c.refuse_request.ensures.says (fault_of need_of (world_of given now) c.args.session request) now
     (request_reply given c.args.session request now)
-    (fault_so (λ _. closed) given now c.args.session request (sessions_of c.args.sessions.now)
+    (fault_so {A = Unit {0}} (λ _. closed) given now c.args.session request
+        (sessions_of c.args.sessions.now)
     (sessions_of c.close.new.self) kept c.in-Err.fault
     (c.in-Err.ensures.serves need_of (shared_by given now)))
 
 pub returns-in-Err-clause-sessions : goal.returns-in-Err-clause-sessions
 returns-in-Err-clause-sessions g c = λ given now kept.
-    fault_leaves (λ _. closed) given now c.args.session (closing c.args.cursor.now)
+    fault_leaves {A = Unit {0}} (λ _. closed) given now c.args.session (closing c.args.cursor.now)
     (sessions_of c.args.sessions.now) (sessions_of c.close.new.self) kept c.in-Err.fault
     (c.in-Err.ensures.serves need_of (shared_by given now)) c.refuse_request.result
     c.refuse_request.ensures.refused

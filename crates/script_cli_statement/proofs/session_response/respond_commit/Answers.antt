@@ -102,9 +102,10 @@ returns-in-Err-Disk-clause-replies g c = λ given now represents kept.
     (shows_at a given now represents))) in
     let gives = rw c.in-Err-Disk.field-0-is at c.in-Err-Disk.ensures.gives in
     let back : c.archive-1.given.0 ≡ b = c.archive-1.given.1 (sym gives.1.1) in
+    let written = g.K.Sink.written c.args.sink.now in
     rw back (
       refl,
-      failed_responds a b given now c.args.session c.args.stamp had new kept _ _
+      failed_responds a b given now c.args.session c.args.stamp had new kept written written
           (g.met.D.Disk.valid a.journal.disk) here gives.0 gives.1.0,
     )
 

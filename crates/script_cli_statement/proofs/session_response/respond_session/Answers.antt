@@ -1,4 +1,4 @@
-use Rattle.std.proofs.Common.{refl, sym, subst}
+use Rattle.std.proofs.Common.{◌≡◌, refl, sym, subst}
 use Rattle.std.specs.Prelude.{OnOk}
 use Rattle.smo_ops_types.specs.Changes.{changes_of}
 use Rattle.temporal_lang_types.specs.Queries.{query_of}
