@@ -43,6 +43,7 @@ module _ (name other : ℕ) (old new : Meaning) where
   runs_borrowed limit status a c u w f h (inr r) = inr (record {
     start = r.start;
     opened = r.opened;
+    fresh = r.fresh;
     ran = r.ran;
     log = r.log;
     disk = on_disk_borrowed status r.log.done (logged_in r.log) r.disk;

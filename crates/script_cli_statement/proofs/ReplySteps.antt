@@ -25,8 +25,8 @@ use Rattle.archive_core.specs.Checkpointing.{checkpoint_fault}
 use Rattle.smo_ops_types.specs.Changes.{PlainChange}
 use Rattle.sessions.specs.Shared.{newest}
 use Rattle.sessions.specs.SessionStates.{PlainTransaction}
-use Rattle.sessions.specs.Requests.{Request, beginning, buffering, committing, aborting, opening}
-use Rattle.sessions.specs.Requests.{fetching, closing}
+use Rattle.sessions.specs.Requests.{Request, beginning, buffering, committing, aborting}
+use Rattle.sessions.specs.Requests.{opening as opening_cursor, fetching, closing}
 use Rattle.sessions.specs.Steps as steps
 use Rattle.sessions.specs.Steps.{changes_so_far}
 use Rattle.script_cli_vault.specs.Shown.{need_of}
@@ -292,8 +292,9 @@ session_step limit now s (buffering changes) = told_step limit now s (buffering 
     (steps.fault_of need_of (world_of limit now) s (buffering changes)) refl refl refl
 session_step limit now s aborting = told_step limit now s aborting
     (steps.fault_of need_of (world_of limit now) s aborting) refl refl refl
-session_step limit now s (opening name query) = told_step limit now s (opening name query)
-    (steps.fault_of need_of (world_of limit now) s (opening name query)) refl refl refl
+session_step limit now s (opening_cursor name query) =
+    told_step limit now s (opening_cursor name query)
+    (steps.fault_of need_of (world_of limit now) s (opening_cursor name query)) refl refl refl
 session_step limit now s (fetching name count) = told_step limit now s (fetching name count)
     (steps.fault_of need_of (world_of limit now) s (fetching name count)) refl refl refl
 session_step limit now s (closing name) = told_step limit now s (closing name)
