@@ -8,7 +8,7 @@ use Rattle.smo_ops_types.specs.Commands.{changing}
 use Rattle.smo_ops_spec.specs.First.{unless}
 use Rattle.smo_ops_spec.proofs.Firsts.{first_later, first_alone}
 use Rattle.smo_ops_spec.specs.Checks.{Fault}
-use Rattle.script_cli_statement.specs.ArchiveOnDisk.{archive}
+use Rattle.script_cli_statement.specs.ArchiveOnDisk.archive
 use Rattle.prima_base.specs.declared.refusal.Refusal.TheVariants.{SchemaMoved}
 use Rattle.sessions.specs.Shared.{newest}
 use Rattle.sessions.specs.SessionStates.{PlainTransaction}
