@@ -3,7 +3,8 @@ use Rattle.std.proofs.Common.{◌≡◌, inl, inr, ⊎_elim, ℕ, List, refl, ap
 use Rattle.std.specs.Prelude.{Option, Some, None}
 use Rattle.std.specs.Io.KnownBytes.{Keeps}
 use Rattle.disk_model.specs.Meaning.{Meaning}
-use Rattle.script_cli_statement.specs.ArchiveOnDisk.{MountFault, mounting}
+use Rattle.script_cli_statement.specs.ArchiveOnDisk.{MountFault}
+use Rattle.script_cli_statement.specs.ArchiveOnDisk.mounting
 use Rattle.script_cli.specs.Driving.{HasNotOpened, PutsUnopened, status_of_fault}
 use Rattle.script_cli.specs.Runs.{NotOpened, ToldUnopened, SourceCounted, DiskCounted}
 use Rattle.script_cli.specs.declared.status.Status.{Status}

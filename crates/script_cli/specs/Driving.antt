@@ -14,7 +14,8 @@ use Rattle.journal.specs.Records.{Holds}
 use Rattle.archive_core_file_spec.specs.LogRecords.{LogRecord, records_of, commands_in, AreEncoded}
 use Rattle.archive_core_file_spec.specs.Opening.{Opens, Damages}
 use Rattle.script_cli_statement.specs.ArchiveOnDisk.{RepresentsSome, Archive, Opened, MountFault}
-use Rattle.script_cli_statement.specs.ArchiveOnDisk.{mounting, standing_of, below, place_of}
+use Rattle.script_cli_statement.specs.ArchiveOnDisk.{standing_of, below, place_of}
+use Rattle.script_cli_statement.specs.ArchiveOnDisk.mounting
 use Rattle.script_cli_statement.specs.ArchiveOnDisk.{limit_of, HoldsAt, IsMounted}
 use Rattle.script_cli_statement.specs.Due.{commands_due}
 use Rattle.script_cli_statement.specs.Given.{Given}
