@@ -21,7 +21,7 @@ returns c = λ found.
     let table = c.args.table.now in
     let same : versions_in c.groups.result.now ≡ versions =
     ap (λ (k : Kept). versions_in k) c.groups.ensures.groups
-        ∙ ap (map version_of) (sym c.requires.same) in
+    ∙ ap (map version_of) (sym c.requires.same) in
     let schema : c.schema_of-schema.result.now ≡ tables_from no_tables versions c.args.asked =
     c.schema_of-schema.ensures
     ∙ ap (λ (vs : List PlainVersion). tables_from no_tables vs c.args.asked) same in
