@@ -6,8 +6,8 @@
 # take as long whatever the rows are, and the others grow as the rows do. Then ten operators behind
 # ten versions, and ten behind 502, over tables of no rows, in milliseconds for one: the measure of
 # what an operator makes is taken over all versions before it, in one pass back and one forward.
-# Then the same where every third version creates
-# a table that the next one alters: this is the shape that needs most passes, one for each of these.
+# Then the same where every third version creates a table that the next one alters: this is the
+# shape that needs most passes, one for each of these.
 set -eu
 top=$(cd "$(dirname "$0")/.." && pwd)
 "$top/prima" </dev/null >/dev/null || [ $? -eq 2 ] # builds what is missing; no words, no archive
