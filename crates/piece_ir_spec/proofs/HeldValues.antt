@@ -13,6 +13,7 @@ use Rattle.smo_ops_types.specs.Commands.{PlainVersion, PlainBody, changing, evol
 use Rattle.smo_ops_spec.specs.Touching.{makes, consumes}
 use Rattle.smo_ops_spec.specs.Losses.{IsDatabaseWithLosses, Loss}
 use Rattle.smo_ops_spec.specs.After.{op_fault, schema_after}
+use Rattle.smo_ops_spec.specs.Evolutions.{members_of_all}
 use Rattle.smo_ops_spec.specs.Past.{Past, no_tables, tables_from, past_with, next_past}
 use Rattle.smo_ops_spec.specs.Past.{next_version}
 use Rattle.smo_ops_spec.specs.History.{past_after}
@@ -20,14 +21,15 @@ use Rattle.smo_ops_spec.specs.ValidValues.{EntryHolds, HoldsValues, BodyHolds, C
 use Rattle.smo_ops_versions_spec.specs.LostAsEmpty.{entry_emptied, whole}
 use Rattle.smo_ops_versions_spec.specs.Steps.{Step, carrying, filling, undoing, carrying_each}
 use Rattle.smo_ops_versions_spec.specs.Steps.{AllSteps}
-use Rattle.smo_ops_versions_spec.specs.Ways.{step_back, back_over, over_version, back_over_version}
-use Rattle.smo_ops_versions_spec.specs.Ways.{way}
+use Rattle.smo_ops_versions_spec.specs.Ways.{step_back, back_over_members, back_over, over_version}
+use Rattle.smo_ops_versions_spec.specs.Ways.{back_over_version, way}
 use Rattle.smo_ops_versions_spec.specs.Migration.{undone}
+use Rattle.smo_ops_versions_spec.proofs.StepLaws.{all_both}
 use Rattle.smo_ops_versions_spec.proofs.WaySteps.{way_all}
 use Rattle.smo_ops_versions_spec.proofs.WayDatabases.{unnamed_at}
 use Rattle.smo_ops_versions_spec.proofs.WholeDatabases.{whole_at, whole_database}
 use Rattle.piece_ir_spec.specs.Constants.{ValidInOperator, ValidInOperators, ValidInVersions}
-use Rattle.piece_ir_spec.specs.Constants.{ValidInEvolution, ValidInEvolutions}
+use Rattle.piece_ir_spec.specs.Constants.{AllValidInOperators, ValidInEvolution, ValidInEvolutions}
 use Rattle.piece_ir_spec.specs.Rules.{IsValidDatabase}
 use Rattle.smo_ops_spec.specs.ValidValues.{VersionsHold}
 
@@ -83,15 +85,35 @@ each_valid : (tables : Tables) (ops : List Operator) → ValidInOperators ops
 each_valid tables [] h = tt
 each_valid tables (op ∷ ops) h = (h.0, each_valid (schema_after tables op) ops h.1)
 
-back_valid : (k : ℕ) (before : Tables) (op : Operator) (after : Tables) (inverse : List Operator)
-    → ValidInOperators inverse → AllSteps StepIsValid (back_over k before op after inverse)
-back_valid k before op after [] h = (step_valid (k, 1) before op, tt)
-back_valid k before op after (i ∷ inverse) h = each_valid after (i ∷ inverse) h
+members_valid : (k i : ℕ) (before : Tables) (ops : List Operator)
+    → AllSteps StepIsValid (back_over_members k i before ops)
+members_valid k i before [] = tt
+members_valid k i before (op ∷ ops) =
+    all_both StepIsValid (back_over_members k (i + 1) (schema_after before op) ops)
+    (step_back (k, i) before op ∷ []) (members_valid k (i + 1) (schema_after before op) ops)
+    (step_valid (k, i) before op, tt)
+
+both_valid : (a b : List Operator) → ValidInOperators a → ValidInOperators b
+    → ValidInOperators (a ++ b)
+both_valid [] b h k = k
+both_valid (op ∷ a) b h k = (h.0, both_valid a b h.1 k)
+
+all_valid : (ops : List (List Operator)) → AllValidInOperators ops
+    → ValidInOperators (members_of_all ops)
+all_valid [] h = tt
+all_valid (op ∷ ops) h = both_valid op (members_of_all ops) h.0 (all_valid ops h.1)
+
+back_valid : (k : ℕ) (before : Tables) (op : List Operator) (after : Tables)
+    (inverse : List (List Operator)) → AllValidInOperators inverse
+    → AllSteps StepIsValid (back_over k before op after inverse)
+back_valid k before op after [] h = members_valid k 1 before op
+back_valid k before op after (i ∷ inverse) h = each_valid after (members_of_all (i ∷ inverse))
+    (all_valid (i ∷ inverse) h)
 
 -- of a version, where there is one
 abbrev VersionIsValid : Option PlainVersion → Type 0
 VersionIsValid None = ⊤
-VersionIsValid (Some v) = ValidInOperator v.op × ValidInOperators v.inverse
+VersionIsValid (Some v) = ValidInOperators v.op × AllValidInOperators v.inverse
 
 version_valid : (versions : List PlainVersion) (k : ℕ) → ValidInVersions versions
     → VersionIsValid (slice_get versions k)
@@ -102,7 +124,7 @@ version_valid (w ∷ versions) (suc k) h = version_valid versions k h.1
 over_valid : (tables : Tables) (o : Option PlainVersion) → VersionIsValid o
     → AllSteps StepIsValid (over_version tables o)
 over_valid tables None h = tt
-over_valid tables (Some v) h = (h.0, tt)
+over_valid tables (Some v) h = each_valid tables v.op h.0
 
 back_over_valid : (k : ℕ) (tables : Tables) (o : Option PlainVersion) → VersionIsValid o
     → AllSteps StepIsValid (back_over_version k tables o)

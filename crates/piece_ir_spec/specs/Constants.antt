@@ -59,6 +59,10 @@ abbrev pub ValidInOperators : List Operator → Type 0
 ValidInOperators [] = ⊤
 ValidInOperators (op ∷ ops) = ValidInOperator op × ValidInOperators ops
 
+abbrev pub AllValidInOperators : List (List Operator) → Type 0
+AllValidInOperators [] = ⊤
+AllValidInOperators (op ∷ ops) = ValidInOperators op × AllValidInOperators ops
+
 pub record ValidInView (v : PlainView) : Type 0 where
   pub parts : (c : Test) → In c v.parts → ValidInTest c
   pub outs : ValidInOuts v.outs
@@ -70,16 +74,16 @@ pub record ValidInPiece (p : PlainPiece) : Type 0 where
 abbrev pub ValidInPieces : List PlainPiece → Type 0
 ValidInPieces ps = (p : PlainPiece) → In p ps → ValidInPiece p
 
--- each version's operator, and its inverse
+-- the members of each version's operator, and of those of its inverse
 abbrev pub ValidInVersions : List PlainVersion → Type 0
 ValidInVersions [] = ⊤
-ValidInVersions (v ∷ versions) = (ValidInOperator v.op × ValidInOperators v.inverse)
+ValidInVersions (v ∷ versions) = (ValidInOperators v.op × AllValidInOperators v.inverse)
     × ValidInVersions versions
 
 -- what leads to a next version, and back from it; changes lead to none
 abbrev pub ValidInEvolution : PlainBody → Type 0
 ValidInEvolution (changing changes) = ⊤
-ValidInEvolution (evolving op inverse) = ValidInOperator op × ValidInOperators inverse
+ValidInEvolution (evolving op inverse) = ValidInOperators op × AllValidInOperators inverse
 
 abbrev pub ValidInEvolutions : List PlainCommand → Type 0
 ValidInEvolutions [] = ⊤

@@ -59,8 +59,8 @@ abbrev less_c : Tables
 less_c = schema_after with_t (drop_column c t)
 
 abbrev dropped : List PlainVersion
-dropped = record { stamp = 1; op = create_table t ac_columns; inverse = []; tables = with_t }
-    ∷ record { stamp = 3; op = drop_column c t; inverse = []; tables = less_c } ∷ []
+dropped = record { stamp = 1; op = create_table t ac_columns ∷ []; inverse = []; tables = with_t }
+    ∷ record { stamp = 3; op = drop_column c t ∷ []; inverse = []; tables = less_c } ∷ []
 
 abbrev losses_before : Losses
 losses_before = empty
@@ -162,10 +162,10 @@ abbrev one_t : Tables
 one_t = insert no_tables t a_columns
 
 abbrev parted : List PlainVersion
-parted = record { stamp = 1; op = create_table t a_columns; inverse = []; tables = one_t }
+parted = record { stamp = 1; op = create_table t a_columns ∷ []; inverse = []; tables = one_t }
     ∷ record {
       stamp = 3;
-      op = partition_table t low below high;
+      op = partition_table t low below high ∷ [];
       inverse = [];
       tables = schema_after one_t (partition_table t low below high);
     } ∷ []
@@ -219,11 +219,11 @@ nothing_lost =
 -- ---- t (a INT) is created, dropped and created again: back in version 1 it is lost, by version 2
 
 abbrev again : List PlainVersion
-again = record { stamp = 1; op = create_table t a_columns; inverse = []; tables = one_t }
-    ∷ record { stamp = 4; op = drop_table t; inverse = []; tables = remove one_t t }
+again = record { stamp = 1; op = create_table t a_columns ∷ []; inverse = []; tables = one_t }
+    ∷ record { stamp = 4; op = drop_table t ∷ []; inverse = []; tables = remove one_t t }
     ∷ record {
       stamp = 6;
-      op = create_table t a_columns;
+      op = create_table t a_columns ∷ [];
       inverse = [];
       tables = insert (remove one_t t) t a_columns;
     } ∷ []

@@ -32,8 +32,11 @@ use Rattle.smo_ops_spec.specs.Checks.{Fault}
 use Rattle.smo_ops_spec.specs.Counts.{Excess}
 use Rattle.smo_ops_spec.specs.Preconditions.{among}
 use Rattle.smo_ops_spec.specs.Past.{Past, version_at, tables_of}
+use Rattle.smo_ops_types.specs.Operators.{Operator}
 use Rattle.smo_ops_types.specs.Commands.{PlainVersion}
 use Rattle.smo_ops_spec.specs.Losses.{Loss}
+use Rattle.smo_ops_spec.specs.OperatorKinds.{operator_kind}
+use Rattle.smo_ops_spec.specs.Evolutions.{schema_after_each}
 use Rattle.smo_ops_spec.specs.WaysBack.{way_back_over}
 use Rattle.smo_ops_spec.proofs.Firsts.{first_after, first_before}
 use Rattle.smo_ops_versions_spec.specs.ColumnLosses.{Losses, table_loss, column_loss}
@@ -56,8 +59,8 @@ use Rattle.temporal_lang_spec.specs.Checking.{when_fault, keep_fault, query_test
 use Rattle.temporal_lang_spec.specs.Checking.{excess_fault, excess_of}
 use Rattle.temporal_lang_spec.specs.Losing.{item_loss, items_from, branch_losses, items_loss}
 use Rattle.temporal_lang_spec.specs.Losing.{loss_at, first_from, first_lost, query_asked}
-use Rattle.temporal_lang_spec.specs.Accepted.{version_kind, no_way_back, loss_fault, version_fault}
-use Rattle.temporal_lang_spec.specs.Accepted.{fault_of_query, HasNoWayBack}
+use Rattle.temporal_lang_spec.specs.Accepted.{member_kind, version_kind, no_way_back, loss_fault}
+use Rattle.temporal_lang_spec.specs.Accepted.{version_fault, fault_of_query, HasNoWayBack}
 
 -- ---- no other test refuses for want of a way back
 
@@ -364,6 +367,18 @@ abbrev kind_in : OpKind → Refusal → OpKind
 kind_in other (NoInverse k kind) = kind
 kind_in other r = other
 
+-- the member behind so many others
+member_at : (a b : List Operator) (op : Operator) → slice_get (a ++ op ∷ b) (length a) ≡ Some op
+member_at [] b op = refl
+member_at (x ∷ a) b op = member_at a b op
+
+kind_there : (ops a : List Operator) (op : Operator) (b : List Operator) (i : ℕ)
+    → ops ≡ a ++ op ∷ b → i ≡ length a + 1 → member_kind (slice_get ops (i - 1)) ≡ operator_kind op
+kind_there ops a op b i e n =
+    let place : i - 1 ≡ length a = omega (arith, n) in
+    ap (λ (xs : List Operator). member_kind (slice_get xs (i - 1))) e
+    ∙ ap (λ k. member_kind (slice_get (a ++ op ∷ b) k)) place ∙ ap member_kind (member_at a b op)
+
 module _ (past : Past) (query : PlainQuery) where
   lasts : (a b m : ℕ) → a ≤ m → m < a + (b - a) → m < b
   lasts a b m l h = omega (arith, l, h)
@@ -386,6 +401,11 @@ module _ (past : Past) (query : PlainQuery) where
       let here : slice_get past.versions (loss.0 - 1) ≡ Some cause.by =
       ap (λ n. slice_get past.versions (n - 1)) number ∙ ap (slice_get past.versions) place
       ∙ cause.is in
+      let spot : loss.1 ≡ length cause.earlier + 1 = ap (λ (l : Loss). l.1) cause.lost in
+      let named : version_kind (slice_get past.versions (loss.0 - 1)) loss.1
+      ≡ operator_kind cause.member =
+      ap (λ o. version_kind o loss.1) here
+      ∙ kind_there cause.by.op cause.earlier cause.member cause.later loss.1 cause.members spot in
       let from = cause.from in
       let to = cause.to in
       record {
@@ -397,14 +417,20 @@ module _ (past : Past) (query : PlainQuery) where
         number = found.2;
         item = found.3;
         there = found.4;
-        lost = found.5 ∙ ap (λ (l : Loss). Some l) (cause.lost ∙ ap (λ n. (n, 1)) following);
         first = first.4;
         by = cause.by;
         is = ap (slice_get past.versions) place ∙ cause.is;
         unnamed = cause.unnamed;
-        underived = subst (λ n. Loses (way_back_over (tables_of past n) cause.by.op)) (sym place)
+        earlier = cause.earlier;
+        member = cause.member;
+        behind = cause.later;
+        members = cause.members;
+        underived = subst (λ n. Loses (way_back_over
+            (schema_after_each (tables_of past n) cause.earlier) cause.member)) (sym place)
             cause.underived;
-        of_kind = sym (ap version_kind here) ∙ ap (kind_in kind) e;
+        of_kind = sym named ∙ ap (kind_in kind) e;
+        lost = found.5 ∙ ap (λ (l : Loss). Some l)
+            (cause.lost ∙ ap (λ n. (n, length cause.earlier + 1)) following);
         later = omega (arith, from, following);
         reached = omega (arith, to, following);
       }

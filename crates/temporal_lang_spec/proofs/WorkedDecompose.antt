@@ -40,11 +40,13 @@ use Rattle.prima_base.specs.declared.refusal.What.TheVariants.{Tables as TABLES}
 use Rattle.prima_base.specs.Limits.{max_tables}
 use Rattle.smo_ops_spec.specs.First.{unless, first_refusal}
 use Rattle.smo_ops_spec.specs.After.{op_fault, schema_after}
+use Rattle.smo_ops_spec.specs.Evolutions.{evolution_fault}
 use Rattle.smo_ops_spec.specs.Preconditions.{among, differ, joinable, few_columns, each_known}
 use Rattle.smo_ops_spec.specs.Preconditions.{each_once, cover, test_known_in}
 use Rattle.smo_ops_spec.specs.Preconditions.{test_typed_in}
 use Rattle.smo_ops_spec.specs.Inverses.{inverse_tests, inverse_fault}
 use Rattle.smo_ops_spec.proofs.InverseLaws.{accepted_so}
+use Rattle.smo_ops_spec.proofs.MemberLaws.{accepted_all}
 use Rattle.smo_ops_versions_spec.proofs.RoundTrips.{merged_back}
 use Rattle.smo_ops_versions_spec.specs.Migration.{migrated}
 use Rattle.smo_ops_versions_spec.proofs.WorkedWords.{int, text, at_atom}
@@ -78,14 +80,15 @@ moving = update home ((city, constant (text (codes "Bergen"))) ∷ [])
     (compared Eq (at_atom 0 id) (constant (int 1)))
 
 abbrev creating : PlainCommand
-creating = command 1 (evolving (create_table emp written) [])
+creating = command 1 (evolving (create_table emp written ∷ []) [])
 
 abbrev giving : PlainCommand
 giving = command 2 (changing (inserting ∷ []))
 
 abbrev decomposing : PlainCommand
-decomposing = command 3 (evolving (decompose_table emp who (id ∷ name ∷ []) home (id ∷ city ∷ []))
-    (join_table who home emp always ∷ []))
+decomposing = command 3
+    (evolving (decompose_table emp who (id ∷ name ∷ []) home (id ∷ city ∷ []) ∷ [])
+    ((join_table who home emp always ∷ []) ∷ []))
 
 abbrev changing_5 : PlainCommand
 changing_5 = command 5 (changing (moving ∷ []))
@@ -119,13 +122,13 @@ abbrev from_5 : Database
 from_5 = insert from_3 home (Rows (place (codes "Bergen")))
 
 abbrev version_1 : PlainVersion
-version_1 = record { stamp = 1; op = create_table emp written; inverse = []; tables = with_emp }
+version_1 = record { stamp = 1; op = create_table emp written ∷ []; inverse = []; tables = with_emp }
 
 abbrev version_2 : PlainVersion
 version_2 = record {
   stamp = 3;
-  op = decompose_table emp who (id ∷ name ∷ []) home (id ∷ city ∷ []);
-  inverse = join_table who home emp always ∷ [];
+  op = decompose_table emp who (id ∷ name ∷ []) home (id ∷ city ∷ []) ∷ [];
+  inverse = (join_table who home emp always ∷ []) ∷ [];
   tables = in_two;
 }
 
@@ -143,14 +146,14 @@ past sizes vs last count states = record {
 
 -- what is stored after each command
 abbrev sizes_1 : List Size
-sizes_1 = sizes_evolved no_tables (create_table emp written) with_emp from_1 0 []
+sizes_1 = sizes_evolved no_tables (create_table emp written ∷ []) with_emp from_1 0 []
 
 abbrev sizes_2 : List Size
 sizes_2 = sizes_changed from_1 from_2 sizes_1
 
 abbrev sizes_3 : List Size
-sizes_3 = sizes_evolved with_emp (decompose_table emp who (id ∷ name ∷ []) home (id ∷ city ∷ []))
-    in_two from_3 1 sizes_2
+sizes_3 = sizes_evolved with_emp
+    (decompose_table emp who (id ∷ name ∷ []) home (id ∷ city ∷ []) ∷ []) in_two from_3 1 sizes_2
 
 abbrev sizes_5 : List Size
 sizes_5 = sizes_changed from_3 from_5 sizes_3
@@ -388,8 +391,9 @@ joining_accepted =
     ∙ ap (λ (o : Option (List Column)). joining_by (Some who_columns) o (get in_two emp)) home_there
     ∙ ap (joining_by (Some who_columns) (Some home_columns)) emp_gone
 
-inverse_accepted : inverse_fault with_emp parting (joining ∷ []) ≡ None
-inverse_accepted = accepted_so with_emp parting (joining ∷ []) (joining_accepted, tt) leads_back
+inverse_accepted : inverse_fault with_emp (parting ∷ []) ((joining ∷ []) ∷ []) ≡ None
+inverse_accepted = accepted_so with_emp (parting ∷ []) ((joining ∷ []) ∷ [])
+    (accepted_all in_two (joining ∷ []) (joining_accepted, tt), tt) leads_back
 
 -- ---- the commands are a history: each is accepted after those before it
 
@@ -412,9 +416,10 @@ two_tables =
     (get-insert nat_list_cmp_total (remove with_emp emp) who (some_of (id ∷ name ∷ [])) home
     ∙ without_emp home refl) first
 
-create_accepted : op_fault no_tables (create_table emp written) ≡ None
+create_accepted : evolution_fault no_tables (create_table emp written ∷ []) ≡ None
 unfolding set_of
-create_accepted = creates no_tables emp written 1 (get-empty bytes_cmp emp) one_table
+create_accepted = accepted_all no_tables (create_table emp written ∷ [])
+    (creates no_tables emp written 1 (get-empty bytes_cmp emp) one_table, tt)
 
 abbrev parting_by : Option (List Column) → Option (List Column) → Option (List Column) → ℕ
     → Option OpRefusal
@@ -448,8 +453,8 @@ accepted_2 = ap (λ (o : Option (List Column)). first_refusal (change_by inserti
 
 accepted_3 : command_fault (past sizes_2 (version_1 ∷ []) 2 2 states_2) decomposing ≡ None
 accepted_3 = ap (λ (o : Option OpRefusal). first_refusal
-    (option_map operator_refusal o ∷ inverse_tests with_emp parting (joining ∷ [])))
-    parting_accepted ∙ inverse_accepted
+    (option_map operator_refusal o ∷ inverse_tests with_emp (parting ∷ []) ((joining ∷ []) ∷ [])))
+    (accepted_all with_emp (parting ∷ []) (parting_accepted, tt)) ∙ inverse_accepted
 
 accepted_5 : command_fault (past sizes_3 versions 3 3 states_3) changing_5 ≡ None
 accepted_5 = ap (λ (o : Option (List Column)). first_refusal (change_by moving 0 o ++ []))
@@ -488,6 +493,9 @@ bergen_is = short_text (codes "Bergen") (omega arith) refl
 
 holds : PastHolds past_5
 holds = subst PastHolds past_is (history_holds beginning commands beginning_is_past is_history (
-  (tt, tt),
-  (((id_is, (ann_is, (oslo_is, tt))), tt), ((tt, (tt, tt)), (((bergen_is, tt), tt), tt))),
+  ((tt, tt), tt),
+  (
+    ((id_is, (ann_is, (oslo_is, tt))), tt),
+    (((tt, tt), ((tt, tt), tt)), (((bergen_is, tt), tt), tt)),
+  ),
 ) beginning_holds)

@@ -23,6 +23,7 @@ use Rattle.smo_ops_spec.specs.OneRow.{Row, Relation, same}
 use Rattle.smo_ops_spec.specs.Making.{union, from_two}
 use Rattle.smo_ops_spec.specs.Effects.{database_after, after_each, gained, lost}
 use Rattle.smo_ops_spec.specs.After.{op_fault, schema_after, migrate}
+use Rattle.smo_ops_spec.specs.Evolutions.{evolution_fault}
 use Rattle.smo_ops_spec.specs.Sizes.{Size, sizes_changed, sizes_evolved}
 use Rattle.smo_ops_spec.specs.Past.{Past, State, a_state, no_tables, no_database, beginning}
 use Rattle.smo_ops_spec.specs.Past.{changed_to, evolved_to, past_with, from_stamp}
@@ -43,6 +44,7 @@ use Rattle.smo_ops_spec.specs.First.{unless, first_refusal}
 use Rattle.smo_ops_spec.specs.Preconditions.{among, differ, alike, test_known_in, test_typed_in}
 use Rattle.smo_ops_spec.specs.Inverses.{inverse_tests, inverse_fault}
 use Rattle.smo_ops_spec.proofs.InverseLaws.{accepted_so}
+use Rattle.smo_ops_spec.proofs.MemberLaws.{accepted_all}
 use Rattle.smo_ops_spec.proofs.CountingLaws.{gained_step, lost_with}
 use Rattle.smo_ops_versions_spec.specs.Migration.{migrated}
 use Rattle.smo_ops_versions_spec.proofs.WorkedWords.{a, r, s, t, int, a_columns, t_there, s_there}
@@ -69,16 +71,16 @@ abbrev inserting : List ℕ → ℕ → PlainChange
 inserting n k = insertion n ((a, int k) ∷ [])
 
 abbrev first_table : PlainCommand
-first_table = command 1 (evolving (create_table r a_columns) [])
+first_table = command 1 (evolving (create_table r a_columns ∷ []) [])
 
 abbrev second_table : PlainCommand
-second_table = command 2 (evolving (create_table s a_columns) [])
+second_table = command 2 (evolving (create_table s a_columns ∷ []) [])
 
 abbrev giving_3 : PlainCommand
 giving_3 = command 3 (changing (inserting r 1 ∷ inserting s 20 ∷ []))
 
 abbrev merging : PlainCommand
-merging = command 4 (evolving (merge_table r s t) (partition_table t r low s ∷ []))
+merging = command 4 (evolving (merge_table r s t ∷ []) ((partition_table t r low s ∷ []) ∷ []))
 
 abbrev giving_6 : PlainCommand
 giving_6 = command 6 (changing (inserting t 7 ∷ inserting t 30 ∷ []))
@@ -120,16 +122,16 @@ abbrev from_6 : Database
 from_6 = insert seven_given t (Rows all)
 
 abbrev version_1 : PlainVersion
-version_1 = record { stamp = 1; op = create_table r a_columns; inverse = []; tables = with_r }
+version_1 = record { stamp = 1; op = create_table r a_columns ∷ []; inverse = []; tables = with_r }
 
 abbrev version_2 : PlainVersion
-version_2 = record { stamp = 2; op = create_table s a_columns; inverse = []; tables = with_s }
+version_2 = record { stamp = 2; op = create_table s a_columns ∷ []; inverse = []; tables = with_s }
 
 abbrev version_3 : PlainVersion
 version_3 = record {
   stamp = 4;
-  op = merge_table r s t;
-  inverse = partition_table t r low s ∷ [];
+  op = merge_table r s t ∷ [];
+  inverse = (partition_table t r low s ∷ []) ∷ [];
   tables = merged;
 }
 
@@ -147,16 +149,16 @@ past sizes vs last count states = record {
 
 -- what is stored after each command
 abbrev sizes_1 : List Size
-sizes_1 = sizes_evolved no_tables (create_table r a_columns) with_r from_1 0 []
+sizes_1 = sizes_evolved no_tables (create_table r a_columns ∷ []) with_r from_1 0 []
 
 abbrev sizes_2 : List Size
-sizes_2 = sizes_evolved with_r (create_table s a_columns) with_s from_2 1 sizes_1
+sizes_2 = sizes_evolved with_r (create_table s a_columns ∷ []) with_s from_2 1 sizes_1
 
 abbrev sizes_3 : List Size
 sizes_3 = sizes_changed from_2 from_3 sizes_2
 
 abbrev sizes_4 : List Size
-sizes_4 = sizes_evolved with_s (merge_table r s t) merged from_4 2 sizes_3
+sizes_4 = sizes_evolved with_s (merge_table r s t ∷ []) merged from_4 2 sizes_3
 
 abbrev sizes_6 : List Size
 sizes_6 = sizes_changed from_4 from_6 sizes_4
@@ -473,9 +475,9 @@ parting_accepted =
     (len (schema_after merged parting))) s_gone
     ∙ ap (parting_by (Some a_columns) None None) two_tables
 
-inverse_accepted : inverse_fault with_s (merge_table r s t) (parting ∷ []) ≡ None
-inverse_accepted = accepted_so with_s (merge_table r s t) (parting ∷ []) (parting_accepted, tt)
-    leads_back
+inverse_accepted : inverse_fault with_s (merge_table r s t ∷ []) ((parting ∷ []) ∷ []) ≡ None
+inverse_accepted = accepted_so with_s (merge_table r s t ∷ []) ((parting ∷ []) ∷ [])
+    (accepted_all merged (parting ∷ []) (parting_accepted, tt), tt) leads_back
 
 -- ---- the commands are a history: each is accepted after those before it
 
@@ -486,13 +488,15 @@ first_created : past_with beginning first_table ≡ past_1
 unfolding set_of
 first_created = refl
 
-first_create : op_fault no_tables (create_table r a_columns) ≡ None
+first_create : evolution_fault no_tables (create_table r a_columns ∷ []) ≡ None
 unfolding set_of
-first_create = creates no_tables r a_columns 1 (get-empty bytes_cmp r) one_table
+first_create = accepted_all no_tables (create_table r a_columns ∷ [])
+    (creates no_tables r a_columns 1 (get-empty bytes_cmp r) one_table, tt)
 
-second_create : op_fault with_r (create_table s a_columns) ≡ None
+second_create : evolution_fault with_r (create_table s a_columns ∷ []) ≡ None
 unfolding set_of
-second_create = creates with_r s a_columns 2 s_free both_tables
+second_create = accepted_all with_r (create_table s a_columns ∷ [])
+    (creates with_r s a_columns 2 s_free both_tables, tt)
 
 accepted_1 : command_fault beginning first_table ≡ None
 accepted_1 = ap (λ (o : Option OpRefusal). first_refusal (option_map operator_refusal o ∷ []))
@@ -527,9 +531,9 @@ merge_accepted =
 
 accepted_4 : command_fault (past sizes_3 before_merge 3 3 states_3) merging ≡ None
 accepted_4 =
-    ap (λ (o : Option OpRefusal). first_refusal
-    (option_map operator_refusal o ∷ inverse_tests with_s (merge_table r s t) (parting ∷ [])))
-    merge_accepted ∙ inverse_accepted
+    ap (λ (o : Option OpRefusal). first_refusal (option_map operator_refusal o
+    ∷ inverse_tests with_s (merge_table r s t ∷ []) ((parting ∷ []) ∷ [])))
+    (accepted_all with_s (merge_table r s t ∷ []) (merge_accepted, tt)) ∙ inverse_accepted
 
 accepted_6 : command_fault (past sizes_4 versions 4 4 states_4) giving_6 ≡ None
 accepted_6 = ap (λ (o : Option (List Column)).
@@ -560,13 +564,13 @@ is_past = subst IsPast past_is (history_is_past beginning commands beginning_is_
 -- and it holds valid values
 holds : PastHolds past_6
 holds = subst PastHolds past_is (history_holds beginning commands beginning_is_past is_history (
-  (tt, tt),
+  ((tt, tt), tt),
   (
-    (tt, tt),
+    ((tt, tt), tt),
     (
       ((small_number 1 (omega arith), tt), ((small_number 20 (omega arith), tt), tt)),
       (
-        (tt, (tt, tt)),
+        ((tt, tt), ((tt, tt), tt)),
         (
           (
             (small_number 7 (omega arith), tt),

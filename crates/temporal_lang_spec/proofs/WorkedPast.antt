@@ -28,6 +28,7 @@ use Rattle.smo_ops_spec.specs.Making.{from_one}
 use Rattle.smo_ops_spec.specs.Effects.{columns_of, relation_after, with_changed, after_each, gained}
 use Rattle.smo_ops_spec.specs.Effects.{lost, rows_under}
 use Rattle.smo_ops_spec.specs.After.{op_fault, schema_after, migrate}
+use Rattle.smo_ops_spec.specs.Evolutions.{evolution_fault}
 use Rattle.smo_ops_spec.specs.Past.{State, Past, a_state, no_tables, no_database, tables_of}
 use Rattle.smo_ops_spec.specs.Past.{version_at, database_at, beginning, changed_to, evolved_to}
 use Rattle.smo_ops_spec.specs.Past.{past_with, from_stamp}
@@ -39,6 +40,7 @@ use Rattle.smo_ops_spec.specs.Inverses.{inverse_tests, inverse_fault}
 use Rattle.smo_ops_spec.specs.Accepts.{operator_refusal, command_fault}
 use Rattle.smo_ops_spec.specs.ValidPast.{IsPast}
 use Rattle.smo_ops_spec.specs.ValidValues.{PastHolds}
+use Rattle.smo_ops_spec.proofs.MemberLaws.{accepted_all}
 use Rattle.smo_ops_spec.proofs.PastSteps.{beginning_is_past, stamp_accepted, counts_accepted}
 use Rattle.smo_ops_spec.proofs.PastSteps.{body_accepted, stays_valid}
 use Rattle.smo_ops_spec.proofs.ValueLaws.{beginning_holds, history_holds}
@@ -73,9 +75,9 @@ abbrev command : ℕ → PlainBody → PlainCommand
 command stamp body = record { stamp = stamp; body = body }
 
 abbrev commands : List PlainCommand
-commands = command 1 (evolving (create_table t ab_columns) [])
+commands = command 1 (evolving (create_table t ab_columns ∷ []) [])
     ∷ command 5 (changing (inserting ∷ [])) ∷ command 7 (changing (updating ∷ []))
-    ∷ command 9 (evolving (rename_table t u) (rename_table u t ∷ [])) ∷ []
+    ∷ command 9 (evolving (rename_table t u ∷ []) ((rename_table u t ∷ []) ∷ [])) ∷ []
 
 -- the rows of t at 5 and at 7
 abbrev x_rows : Relation
@@ -104,13 +106,13 @@ abbrev from_9 : Database
 from_9 = insert (remove from_7 t) u (Rows y_rows)
 
 abbrev version_1 : PlainVersion
-version_1 = record { stamp = 1; op = create_table t ab_columns; inverse = []; tables = tables_1 }
+version_1 = record { stamp = 1; op = create_table t ab_columns ∷ []; inverse = []; tables = tables_1 }
 
 abbrev version_2 : PlainVersion
 version_2 = record {
   stamp = 9;
-  op = rename_table t u;
-  inverse = rename_table u t ∷ [];
+  op = rename_table t u ∷ [];
+  inverse = (rename_table u t ∷ []) ∷ [];
   tables =
       tables_2;
 }
@@ -121,7 +123,7 @@ past_1 = record {
   last = Some 1;
   commands = 1;
   sizes =
-      sizes_evolved no_tables (create_table t ab_columns) tables_1 from_1 0 [];
+      sizes_evolved no_tables (create_table t ab_columns ∷ []) tables_1 from_1 0 [];
   states =
       a_state 0 no_database ∷ a_state 1 from_1 ∷ [];
 }
@@ -153,14 +155,14 @@ past_9 = record {
   versions = version_1 ∷ version_2 ∷ [];
   last = Some 9;
   commands = 4;
-  sizes = sizes_evolved tables_1 (rename_table t u) tables_2 from_9 1 past_7.sizes;
+  sizes = sizes_evolved tables_1 (rename_table t u ∷ []) tables_2 from_9 1 past_7.sizes;
   states = a_state 0 no_database ∷ a_state 1 from_1 ∷ a_state 5 from_5 ∷ a_state 7 from_7
       ∷ a_state 9 from_9 ∷ [];
 }
 
 -- ---- the past, command by command
 
-created : past_with beginning (command 1 (evolving (create_table t ab_columns) [])) ≡ past_1
+created : past_with beginning (command 1 (evolving (create_table t ab_columns ∷ []) [])) ≡ past_1
 unfolding set_of
 created = refl
 
@@ -218,7 +220,7 @@ at_7 : past_with past_5 (command 7 (changing (updating ∷ []))) ≡ past_7
 at_7 = ap (λ db. changed_to 7 db past_5) updated
     ∙ ap (λ n. changed past_7.sizes 7 3 n from_7 past_5.states) one_changed
 
-at_9 : past_with past_7 (command 9 (evolving (rename_table t u) (rename_table u t ∷ []))) ≡ past_9
+at_9 : past_with past_7 (command 9 (evolving (rename_table t u ∷ []) ((rename_table u t ∷ []) ∷ []))) ≡ past_9
 at_9 = ap (λ e. evolved_to version_2 (insert (remove from_7 t) u (from_one (λ rows. rows) e))
     past_7) (t_there from_5 (Rows y_rows))
 
@@ -228,10 +230,10 @@ past_is : past_of commands ≡ past_9
 past_is =
     ap (λ p. past_with (past_with (past_with p (command 5 (changing (inserting ∷ []))))
     (command 7 (changing (updating ∷ []))))
-    (command 9 (evolving (rename_table t u) (rename_table u t ∷ [])))) created
+    (command 9 (evolving (rename_table t u ∷ []) ((rename_table u t ∷ []) ∷ [])))) created
     ∙ ap (λ p. past_with (past_with p (command 7 (changing (updating ∷ []))))
-    (command 9 (evolving (rename_table t u) (rename_table u t ∷ [])))) at_5
-    ∙ ap (λ p. past_with p (command 9 (evolving (rename_table t u) (rename_table u t ∷ [])))) at_7
+    (command 9 (evolving (rename_table t u ∷ []) ((rename_table u t ∷ []) ∷ [])))) at_5
+    ∙ ap (λ p. past_with p (command 9 (evolving (rename_table t u ∷ []) ((rename_table u t ∷ []) ∷ [])))) at_7
     ∙ at_9
 
 -- ---- the versions in force, and the database of each moment
@@ -244,7 +246,7 @@ second_in_force : in_force past_9.versions 2 ≡ span 9 forever
 second_in_force = refl
 
 -- the inverse's counts are within their limits
-counted : first_excess (evolving (rename_table t u) (rename_table u t ∷ [])) ≡ None
+counted : first_excess (evolving (rename_table t u ∷ []) ((rename_table u t ∷ []) ∷ [])) ≡ None
 counted = refl
 
 -- just before the rename the table is t, and from it on u, in the version then in force and in the
@@ -401,11 +403,12 @@ one_table : len tables_1 ≡ 1
 one_table = one_more no_tables t ab_columns 0 (get-empty bytes_cmp t)
     (len-empty bytes_cmp (List Column))
 
-create_accepted : op_fault no_tables (create_table t ab_columns) ≡ None
+create_accepted : evolution_fault no_tables (create_table t ab_columns ∷ []) ≡ None
 unfolding set_of
-create_accepted = creates no_tables t ab_columns 1 (get-empty bytes_cmp t) one_table
+create_accepted = accepted_all no_tables (create_table t ab_columns ∷ [])
+    (creates no_tables t ab_columns 1 (get-empty bytes_cmp t) one_table, tt)
 
-accepted_1 : command_fault beginning (command 1 (evolving (create_table t ab_columns) [])) ≡ None
+accepted_1 : command_fault beginning (command 1 (evolving (create_table t ab_columns ∷ []) [])) ≡ None
 accepted_1 = ap (λ (o : Option OpRefusal). first_refusal (option_map operator_refusal o ∷ []))
     create_accepted
 
@@ -428,15 +431,17 @@ rename_accepted : op_fault tables_1 (rename_table t u) ≡ None
 rename_accepted = ap (λ (o : Option (List Column)). rename_by o (get tables_1 u)) columns_are
     ∙ ap (rename_by (Some ab_columns)) u_free
 
-inverse_accepted : inverse_fault tables_1 (rename_table t u) (rename_table u t ∷ []) ≡ None
+inverse_accepted : inverse_fault tables_1 (rename_table t u ∷ []) ((rename_table u t ∷ []) ∷ [])
+    ≡ None
 inverse_accepted = rename_inverse tables_1 t u rename_accepted
 
-accepted_9 : command_fault past_7 (command 9 (evolving (rename_table t u) (rename_table u t ∷ [])))
+accepted_9 : command_fault past_7 (command 9 (evolving (rename_table t u ∷ []) ((rename_table u t ∷ []) ∷ [])))
     ≡ None
 accepted_9 =
     ap (λ (o : Option OpRefusal). first_refusal
-    (option_map operator_refusal o ∷ inverse_tests tables_1 (rename_table t u)
-    (rename_table u t ∷ []))) rename_accepted ∙ inverse_accepted
+    (option_map operator_refusal o ∷ inverse_tests tables_1 (rename_table t u ∷ [])
+    ((rename_table u t ∷ []) ∷ [])))
+    (accepted_all tables_1 (rename_table t u ∷ []) (rename_accepted, tt)) ∙ inverse_accepted
 
 is_history : IsHistory commands
 is_history =
@@ -452,7 +457,7 @@ is_history =
           ap (λ p. command_fault p (command 7 (changing (updating ∷ [])))) third ∙ accepted_7,
           (
             ap (λ p. command_fault p (command 9
-                (evolving (rename_table t u) (rename_table u t ∷ [])))) fourth ∙ accepted_9,
+                (evolving (rename_table t u ∷ []) ((rename_table u t ∷ []) ∷ [])))) fourth ∙ accepted_9,
             tt,
           ),
         ),
@@ -489,5 +494,6 @@ one_is = small_number 1 (omega arith)
 
 holds : PastHolds past_9
 holds = subst PastHolds past_is (history_holds beginning commands beginning_is_past is_history
-    ((tt, tt), (((one_is, (x_is, tt)), tt), (((y_is, tt), tt), ((tt, (tt, tt)), tt))))
+    (((tt, tt), tt), (((one_is, (x_is, tt)), tt), (((y_is, tt), tt),
+    (((tt, tt), ((tt, tt), tt)), tt))))
     beginning_holds)

@@ -28,9 +28,10 @@ use Rattle.smo_ops_types.specs.Operators.{create_table, drop_table}
 use Rattle.smo_ops_types.specs.Changes.{PlainChange, insertion}
 use Rattle.smo_ops_types.specs.Commands.{PlainCommand, PlainVersion, changing, evolving}
 use Rattle.smo_ops_spec.specs.First.{unless, first_refusal}
-use Rattle.smo_ops_spec.specs.After.{op_fault}
+use Rattle.smo_ops_spec.specs.Evolutions.{evolution_fault}
 use Rattle.smo_ops_spec.specs.Accepts.{operator_refusal, command_fault}
 use Rattle.smo_ops_spec.specs.ValidPast.{IsPast}
+use Rattle.smo_ops_spec.proofs.MemberLaws.{accepted_all}
 use Rattle.smo_ops_spec.proofs.PastSteps.{beginning_is_past}
 use Rattle.cond_expr.proofs.ConstantLaws.{small_number}
 use Rattle.prima_base.specs.Columns.{Column, IsValid}
@@ -72,10 +73,10 @@ abbrev inserting : ℕ → PlainChange
 inserting n = insertion t ((a, int n) ∷ [])
 
 abbrev creating : ℕ → PlainCommand
-creating stamp = command stamp (evolving (create_table t a_columns) [])
+creating stamp = command stamp (evolving (create_table t a_columns ∷ []) [])
 
 abbrev dropping : PlainCommand
-dropping = command 4 (evolving (drop_table t) [])
+dropping = command 4 (evolving (drop_table t ∷ []) [])
 
 abbrev giving : ℕ → ℕ → PlainCommand
 giving stamp n = command stamp (changing (inserting n ∷ []))
@@ -111,10 +112,10 @@ abbrev from_7 : Database
 from_7 = insert from_6 t (Rows (row 2))
 
 abbrev version_1 : PlainVersion
-version_1 = record { stamp = 1; op = create_table t a_columns; inverse = []; tables = tables_1 }
+version_1 = record { stamp = 1; op = create_table t a_columns ∷ []; inverse = []; tables = tables_1 }
 
 abbrev version_2 : PlainVersion
-version_2 = record { stamp = 4; op = drop_table t; inverse = []; tables = tables_2 }
+version_2 = record { stamp = 4; op = drop_table t ∷ []; inverse = []; tables = tables_2 }
 
 abbrev past : List Size → List PlainVersion → ℕ → ℕ → List State → Past
 past sizes versions last count states = record {
@@ -128,16 +129,16 @@ past sizes versions last count states = record {
 
 -- what is stored after each command
 abbrev sizes_1 : List Size
-sizes_1 = sizes_evolved no_tables (create_table t a_columns) tables_1 from_1 0 []
+sizes_1 = sizes_evolved no_tables (create_table t a_columns ∷ []) tables_1 from_1 0 []
 
 abbrev sizes_2 : List Size
 sizes_2 = sizes_changed from_1 from_2 sizes_1
 
 abbrev sizes_4 : List Size
-sizes_4 = sizes_evolved tables_1 (drop_table t) tables_2 from_4 1 sizes_2
+sizes_4 = sizes_evolved tables_1 (drop_table t ∷ []) tables_2 from_4 1 sizes_2
 
 abbrev sizes_6 : List Size
-sizes_6 = sizes_evolved tables_2 (create_table t a_columns) tables_3 from_6 2 sizes_4
+sizes_6 = sizes_evolved tables_2 (create_table t a_columns ∷ []) tables_3 from_6 2 sizes_4
 
 abbrev sizes_7 : List Size
 sizes_7 = sizes_changed from_6 from_7 sizes_6
@@ -378,17 +379,21 @@ many_2 = one_less tables_1 t a_columns 1 columns_1 many_1
 many_3 : len tables_3 ≡ 1
 many_3 = one_more tables_2 t a_columns 0 free_2 many_2
 
-first_create : op_fault no_tables (create_table t a_columns) ≡ None
+first_create : evolution_fault no_tables (create_table t a_columns ∷ []) ≡ None
 unfolding set_of
-first_create = creates no_tables t a_columns 1 free_1 many_1
+first_create = accepted_all no_tables (create_table t a_columns ∷ [])
+    (creates no_tables t a_columns 1 free_1 many_1, tt)
 
-second_create : op_fault tables_2 (create_table t a_columns) ≡ None
+second_create : evolution_fault tables_2 (create_table t a_columns ∷ []) ≡ None
 unfolding set_of
-second_create = creates tables_2 t a_columns 1 free_2 many_3
+second_create = accepted_all tables_2 (create_table t a_columns ∷ [])
+    (creates tables_2 t a_columns 1 free_2 many_3, tt)
 
-drop_accepted : op_fault tables_1 (drop_table t) ≡ None
-drop_accepted = ap (λ (o : Option (List Column)).
-    first_refusal (unless (is_some o) (NoTable t) ∷ [])) columns_1
+drop_accepted : evolution_fault tables_1 (drop_table t ∷ []) ≡ None
+drop_accepted = accepted_all tables_1 (drop_table t ∷ []) (
+  ap (λ (o : Option (List Column)). first_refusal (unless (is_some o) (NoTable t) ∷ [])) columns_1,
+  tt,
+)
 
 accepted_1 : command_fault beginning (creating 1) ≡ None
 accepted_1 = ap (λ (o : Option OpRefusal). first_refusal (option_map operator_refusal o ∷ []))
@@ -447,6 +452,6 @@ two_is = small_number 2 (omega arith)
 
 holds : PastHolds dropped
 holds = subst PastHolds past_is (history_holds beginning commands beginning_is_past is_history (
-  (tt, tt),
-  (((one_is, tt), tt), ((tt, tt), ((tt, tt), (((two_is, tt), tt), tt)))),
+  ((tt, tt), tt),
+  (((one_is, tt), tt), (((tt, tt), tt), (((tt, tt), tt), (((two_is, tt), tt), tt)))),
 ) beginning_holds)
