@@ -9,7 +9,7 @@ use Rattle.prima_base.specs.Limits.{max_versions}
 use Rattle.schema_catalog.specs.Tables.{Tables}
 use Rattle.smo_ops_types.specs.Commands.{PlainBody, changing, evolving, PlainCommand}
 use Rattle.smo_ops_spec.specs.First.{unless, first_refusal}
-use Rattle.smo_ops_spec.specs.After.{op_fault}
+use Rattle.smo_ops_spec.specs.Evolutions.{evolution_fault}
 use Rattle.smo_ops_spec.specs.Counts.{first_excess}
 use Rattle.smo_ops_spec.specs.Checks.{Fault, changes_tests}
 use Rattle.smo_ops_spec.specs.Inverses.{inverse_tests}
@@ -22,7 +22,7 @@ abbrev tests_over : Tables → ℕ → PlainBody → List Fault
 tests_over tables n (changing changes) = changes_tests tables changes 0
 tests_over tables n (evolving op inverse) =
     unless (nat_lt n max_versions) (TooMany Versions max_versions)
-    ∷ option_map operator_refusal (op_fault tables op) ∷ inverse_tests tables op inverse
+    ∷ option_map operator_refusal (evolution_fault tables op) ∷ inverse_tests tables op inverse
 
 same_tests : (p q : Past) → newest_tables p ≡ newest_tables q
     → length p.versions ≡ length q.versions → (body : PlainBody)

@@ -13,8 +13,9 @@ use Rattle.smo_ops_types.specs.Operators.{join_table, add_column, drop_column, r
 use Rattle.smo_ops_types.specs.Commands.{evolving}
 use Rattle.smo_ops_spec.specs.First.{first_refusal}
 use Rattle.smo_ops_spec.specs.Counts.{at_most, tree_counts, test_counts, operator_counts}
+use Rattle.smo_ops_spec.specs.Counts.{evolution_counts}
 use Rattle.smo_ops_spec.specs.Counts.{first_excess}
-use Rattle.smo_ops_spec.specs.After.{HasFewNodes, HaveFewNodes}
+use Rattle.smo_ops_spec.specs.After.{HasFewNodes, HaveFewNodes, AllHaveFewNodes}
 use Rattle.smo_ops_spec.proofs.Firsts.{none_of_both, first_alone}
 use Rattle.smo_ops_spec.proofs.SmallTrees.{fits, small_tree, small_test}
 
@@ -44,26 +45,32 @@ operators_fit [] e = tt
 operators_fit (op ∷ ops) e = (let h = none_of_both (operator_counts op)
     (flat_map operator_counts ops) e in (operator_fits op h.0, operators_fit ops h.1))
 
-module _ (op : Operator) (inverse : List Operator)
-    (counted : first_excess (evolving op inverse) ≡ None) where
-  both_parts : (first_refusal (operator_counts op) ≡ None)
-      × (first_refusal (flat_map operator_counts (take 8 inverse)
-      ++ at_most Inverse 8 (length inverse) ∷ []) ≡ None)
-  both_parts = none_of_both (operator_counts op)
-      (flat_map operator_counts (take 8 inverse) ++ at_most Inverse 8 (length inverse) ∷ []) counted
+all_fit : (ops : List (List Operator)) → first_refusal (flat_map evolution_counts ops) ≡ None
+    → AllHaveFewNodes ops
+all_fit [] e = tt
+all_fit (op ∷ ops) e = (let h = none_of_both (evolution_counts op)
+    (flat_map evolution_counts ops) e in (operators_fit op h.0, all_fit ops h.1))
 
-  inverse_parts : (first_refusal (flat_map operator_counts (take 8 inverse)) ≡ None)
+module _ (op : List Operator) (inverse : List (List Operator))
+    (counted : first_excess (evolving op inverse) ≡ None) where
+  both_parts : (first_refusal (evolution_counts op) ≡ None)
+      × (first_refusal (flat_map evolution_counts (take 8 inverse)
+      ++ at_most Inverse 8 (length inverse) ∷ []) ≡ None)
+  both_parts = none_of_both (evolution_counts op)
+      (flat_map evolution_counts (take 8 inverse) ++ at_most Inverse 8 (length inverse) ∷ []) counted
+
+  inverse_parts : (first_refusal (flat_map evolution_counts (take 8 inverse)) ≡ None)
       × (first_refusal (at_most Inverse 8 (length inverse) ∷ []) ≡ None)
-  inverse_parts = none_of_both (flat_map operator_counts (take 8 inverse))
+  inverse_parts = none_of_both (flat_map evolution_counts (take 8 inverse))
       (at_most Inverse 8 (length inverse) ∷ []) both_parts.1
 
-  pub counted_operator : HasFewNodes op
-  counted_operator = operator_fits op both_parts.0
+  pub counted_operator : HaveFewNodes op
+  counted_operator = operators_fit op both_parts.0
 
   pub counted_length : length inverse ≤ 8
   counted_length = fits Inverse 8 (length inverse)
       (sym (first_alone (at_most Inverse 8 (length inverse))) ∙ inverse_parts.1)
 
-  pub counted_inverse : HaveFewNodes inverse
-  counted_inverse = subst HaveFewNodes (take_all 8 inverse counted_length)
-      (operators_fit (take 8 inverse) inverse_parts.0)
+  pub counted_inverse : AllHaveFewNodes inverse
+  counted_inverse = subst AllHaveFewNodes (take_all 8 inverse counted_length)
+      (all_fit (take 8 inverse) inverse_parts.0)

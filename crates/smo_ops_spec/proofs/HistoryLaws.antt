@@ -8,7 +8,7 @@ use Rattle.schema_catalog.specs.Databases.{Database}
 use Rattle.smo_ops_types.specs.Commands.{PlainBody, changing, evolving, PlainCommand, PlainVersion}
 use Rattle.smo_ops_spec.specs.First.{first_refusal}
 use Rattle.smo_ops_spec.specs.Effects.{after_each, gained, lost}
-use Rattle.smo_ops_spec.specs.After.{schema_after, migrate}
+use Rattle.smo_ops_spec.specs.Evolutions.{schema_after_each, carried_each}
 use Rattle.smo_ops_spec.specs.Past.{Past, no_tables, no_database, tables_from, tables_of}
 use Rattle.smo_ops_spec.specs.Past.{newest_from, newest_tables, version_at, database_at}
 use Rattle.smo_ops_spec.specs.Past.{latest_from}
@@ -66,11 +66,11 @@ newest_with past stamp (evolving op inverse) h e =
     let one_more : length (past.versions ++ v ∷ []) ≡ length past.versions + 1 =
     length-append past.versions (v ∷ []) in
     let tables : newest_from no_tables (past.versions ++ v ∷ [])
-    ≡ schema_after (newest_tables past) op = newest_added no_tables past.versions v in
+    ≡ schema_after_each (newest_tables past) op = newest_added no_tables past.versions v in
     let database : latest_from no_database (from_stamp stamp
-    (migrate (newest_tables past) op (newest_database past)) past.states)
-    ≡ migrate (newest_tables past) op (newest_database past)
-    = latest_is stamp (migrate (newest_tables past) op (newest_database past)) no_database
+    (carried_each (newest_tables past) op (newest_database past)) past.states)
+    ≡ carried_each (newest_tables past) op (newest_database past)
+    = latest_is stamp (carried_each (newest_tables past) op (newest_database past)) no_database
     past.states in
     λ i. version_state (one_more i) (tables i) (database i)
 

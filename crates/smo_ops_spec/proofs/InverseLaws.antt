@@ -26,9 +26,9 @@ use Rattle.smo_ops_types.specs.Operators.{Operator}
 use Rattle.smo_ops_spec.specs.First.{first_refusal}
 use Rattle.smo_ops_spec.specs.OneRow.{same}
 use Rattle.smo_ops_spec.specs.Preconditions.{same_columns}
-use Rattle.smo_ops_spec.specs.After.{op_fault, schema_after}
+use Rattle.smo_ops_spec.specs.Evolutions.{schema_after_each, evolution_fault}
 use Rattle.smo_ops_spec.specs.Inverses.{same_table, first_difference, way_back, inverse_fault}
-use Rattle.smo_ops_spec.specs.Inverses.{schema_after_each, AllOperatorsAccepted, IsFirstRefused}
+use Rattle.smo_ops_spec.specs.Inverses.{schema_after_all, AllAcceptedInTurn, IsFirstRefused}
 use Rattle.smo_ops_spec.specs.Inverses.{IsMissed}
 use Rattle.smo_ops_spec.proofs.Firsts.{first_at, first_later, first_alone}
 use Rattle.smo_ops_spec.proofs.NameLaws.{same_itself}
@@ -202,57 +202,57 @@ module _ (a b : Tables) where
       step (Some m) e = absurd ((differs_first m e).differs (ap (λ (t : Tables). get t m) i))
 
 -- the operators are checked one after the other
-pub turn_refused : (goal now : Tables) (i : ℕ) (earlier : List Operator) (op : Operator)
-    (later : List Operator) (refusal : OpRefusal)
-    → AllOperatorsAccepted now earlier → op_fault (schema_after_each now earlier) op ≡ Some refusal
+pub turn_refused : (goal now : Tables) (i : ℕ) (earlier : List (List Operator)) (op : List Operator)
+    (later : List (List Operator)) (refusal : OpRefusal)
+    → AllAcceptedInTurn now earlier → evolution_fault (schema_after_all now earlier) op ≡ Some refusal
     → first_refusal (way_back goal now i (earlier ++ op ∷ later))
     ≡ Some (InverseOp (i + length earlier) refusal)
 turn_refused goal now i [] op later refusal a e =
-    first_at (option_map (InverseOp i) (op_fault now op))
-    (way_back goal (schema_after now op) (i + 1) later) (InverseOp i refusal)
+    first_at (option_map (InverseOp i) (evolution_fault now op))
+    (way_back goal (schema_after_each now op) (i + 1) later) (InverseOp i refusal)
     (ap (option_map (InverseOp i)) e)
     ∙ ap (λ k. Some (InverseOp k refusal)) (omega arith)
 turn_refused goal now i (x ∷ earlier) op later refusal a e =
-    first_later (option_map (InverseOp i) (op_fault now x))
-    (way_back goal (schema_after now x) (i + 1) (earlier ++ op ∷ later))
+    first_later (option_map (InverseOp i) (evolution_fault now x))
+    (way_back goal (schema_after_each now x) (i + 1) (earlier ++ op ∷ later))
     (ap (option_map (InverseOp i)) a.0)
-    ∙ turn_refused goal (schema_after now x) (i + 1) earlier op later refusal a.1 e
+    ∙ turn_refused goal (schema_after_each now x) (i + 1) earlier op later refusal a.1 e
     ∙ ap (λ k. Some (InverseOp k refusal)) (omega arith)
 
-pub turn_ends : (goal now : Tables) (i : ℕ) (ops : List Operator) → AllOperatorsAccepted now ops
+pub turn_ends : (goal now : Tables) (i : ℕ) (ops : List (List Operator)) → AllAcceptedInTurn now ops
     → first_refusal (way_back goal now i ops)
-    ≡ option_map InverseMisses (first_difference goal (schema_after_each now ops))
+    ≡ option_map InverseMisses (first_difference goal (schema_after_all now ops))
 turn_ends goal now i [] a = first_alone (option_map InverseMisses (first_difference goal now))
 turn_ends goal now i (op ∷ ops) a =
-    first_later (option_map (InverseOp i) (op_fault now op))
-    (way_back goal (schema_after now op) (i + 1) ops) (ap (option_map (InverseOp i)) a.0)
-    ∙ turn_ends goal (schema_after now op) (i + 1) ops a.1
+    first_later (option_map (InverseOp i) (evolution_fault now op))
+    (way_back goal (schema_after_each now op) (i + 1) ops) (ap (option_map (InverseOp i)) a.0)
+    ∙ turn_ends goal (schema_after_each now op) (i + 1) ops a.1
 
-pub refused_so : (before : Tables) (op : Operator) (earlier : List Operator) (x : Operator)
-    (later : List Operator) (refusal : OpRefusal)
-    → IsFirstRefused (schema_after before op) earlier x refusal
+pub refused_so : (before : Tables) (op : List Operator) (earlier : List (List Operator)) (x : List Operator)
+    (later : List (List Operator)) (refusal : OpRefusal)
+    → IsFirstRefused (schema_after_each before op) earlier x refusal
     → inverse_fault before op (earlier ++ x ∷ later)
     ≡ Some (InverseOp (length earlier + 1) refusal)
-refused_so before op [] x later refusal h = turn_refused before (schema_after before op) 1 [] x
+refused_so before op [] x later refusal h = turn_refused before (schema_after_each before op) 1 [] x
     later refusal h.accepted h.refused
 refused_so before op (y ∷ earlier) x later refusal h =
-    turn_refused before (schema_after before op) 1 (y ∷ earlier) x later refusal h.accepted
+    turn_refused before (schema_after_each before op) 1 (y ∷ earlier) x later refusal h.accepted
     h.refused ∙ ap (λ k. Some (InverseOp k refusal)) (omega arith)
 
-pub missed_so : (before : Tables) (op x : Operator) (inverse : List Operator) (name : List ℕ)
-    → IsMissed before (schema_after before op) (x ∷ inverse) name
+pub missed_so : (before : Tables) (op x : List Operator) (inverse : List (List Operator)) (name : List ℕ)
+    → IsMissed before (schema_after_each before op) (x ∷ inverse) name
     → inverse_fault before op (x ∷ inverse) ≡ Some (InverseMisses name)
 missed_so before op x inverse name h =
-    turn_ends before (schema_after before op) 1 (x ∷ inverse) h.accepted
+    turn_ends before (schema_after_each before op) 1 (x ∷ inverse) h.accepted
     ∙ ap (option_map InverseMisses) (first_is before
-    (schema_after_each (schema_after before op) (x ∷ inverse)) name h.differs)
+    (schema_after_all (schema_after_each before op) (x ∷ inverse)) name h.differs)
 
-pub accepted_so : (before : Tables) (op : Operator) (inverse : List Operator)
-    → AllOperatorsAccepted (schema_after before op) inverse
-    → schema_after_each (schema_after before op) inverse ≡ before
+pub accepted_so : (before : Tables) (op : List Operator) (inverse : List (List Operator))
+    → AllAcceptedInTurn (schema_after_each before op) inverse
+    → schema_after_all (schema_after_each before op) inverse ≡ before
     → inverse_fault before op inverse ≡ None
 accepted_so before op [] a e = refl
 accepted_so before op (x ∷ inverse) a e =
-    turn_ends before (schema_after before op) 1 (x ∷ inverse) a
+    turn_ends before (schema_after_each before op) 1 (x ∷ inverse) a
     ∙ ap (option_map InverseMisses) (no_first before
-    (schema_after_each (schema_after before op) (x ∷ inverse)) (sym e))
+    (schema_after_all (schema_after_each before op) (x ∷ inverse)) (sym e))

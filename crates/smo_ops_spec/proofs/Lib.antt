@@ -39,6 +39,7 @@ pub mod DistinctStates
 pub mod VersionsInTurn
 pub mod VersionsInForce
 pub mod Checking
+pub mod MemberLaws
 pub mod PastSteps
 pub mod HistoryLaws
 pub mod ValueLaws
@@ -47,3 +48,5 @@ pub mod Places
 pub mod SortLaws
 pub mod EvolvedVersions
 pub mod HeldValues
+pub mod FaultPlaces
+pub mod OneMembers

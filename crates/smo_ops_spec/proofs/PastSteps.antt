@@ -17,7 +17,8 @@ use Rattle.smo_ops_types.specs.Changes.{PlainChange}
 use Rattle.smo_ops_types.specs.Commands.{PlainBody, changing, evolving, PlainCommand, PlainVersion}
 use Rattle.smo_ops_spec.specs.First.{unless, first_refusal}
 use Rattle.smo_ops_spec.specs.Effects.{after_each, gained, lost}
-use Rattle.smo_ops_spec.specs.After.{op_fault, schema_after, migrate, IsValid}
+use Rattle.smo_ops_spec.specs.After.{IsValid}
+use Rattle.smo_ops_spec.specs.Evolutions.{schema_after_each, carried_each, evolution_fault}
 use Rattle.smo_ops_spec.specs.Past.{State, Past, no_tables, no_database, beginning, tables_of}
 use Rattle.smo_ops_spec.specs.Past.{version_at, newest_from, newest_tables, database_from}
 use Rattle.smo_ops_spec.specs.Past.{database_at, latest_from, newest_database, from_stamp}
@@ -31,8 +32,7 @@ use Rattle.smo_ops_spec.specs.Accepts.{operator_refusal, count_fault, stamp_faul
 use Rattle.smo_ops_spec.specs.Accepts.{body_tests, command_fault}
 use Rattle.smo_ops_spec.proofs.Firsts.{none_of_first, none_mapped, met}
 use Rattle.smo_ops_spec.proofs.DatabaseLaws.{changes_keep}
-use Rattle.smo_ops_spec.proofs.NextSchemas.{next_is_valid}
-use Rattle.smo_ops_spec.proofs.MigratedDatabases.{migrated_database}
+use Rattle.smo_ops_spec.proofs.MemberLaws.{all_accepted, each_is_valid, each_database}
 use Rattle.smo_ops_spec.proofs.CountingLaws.{self_gains_nothing}
 use Rattle.smo_ops_spec.proofs.SameDatabases.{same_database}
 use Rattle.smo_ops_spec.proofs.PastLaws.{earlier_states, later_states, newest_holds, latest_is}
@@ -102,38 +102,38 @@ module _ (past : Past) (command : PlainCommand) (accepted : command_fault past c
   pub body_accepted : first_refusal (body_tests past command.body) ≡ None
   body_accepted = parts.1
 
-inverse_accepted : (past : Past) (op : Operator) (inverse : List Operator)
+inverse_accepted : (past : Past) (op : List Operator) (inverse : List (List Operator))
     → first_refusal (body_tests past (evolving op inverse)) ≡ None
     → inverse_fault (newest_tables past) op inverse ≡ None
 inverse_accepted past op inverse e =
     let rest = none_of_first (unless (nat_lt (length past.versions) max_versions)
     (TooMany Versions max_versions))
-    (option_map operator_refusal (op_fault (newest_tables past) op)
+    (option_map operator_refusal (evolution_fault (newest_tables past) op)
     ∷ inverse_tests (newest_tables past) op inverse) e in
-    (none_of_first (option_map operator_refusal (op_fault (newest_tables past) op))
+    (none_of_first (option_map operator_refusal (evolution_fault (newest_tables past) op))
     (inverse_tests (newest_tables past) op inverse) rest.1).1
 
-operator_accepted : (past : Past) (op : Operator) (inverse : List Operator)
+operator_accepted : (past : Past) (op : List Operator) (inverse : List (List Operator))
     → first_refusal (body_tests past (evolving op inverse)) ≡ None
-    → op_fault (newest_tables past) op ≡ None
+    → evolution_fault (newest_tables past) op ≡ None
 operator_accepted past op inverse e =
     let rest = none_of_first (unless (nat_lt (length past.versions) max_versions)
     (TooMany Versions max_versions))
-    (option_map operator_refusal (op_fault (newest_tables past) op)
+    (option_map operator_refusal (evolution_fault (newest_tables past) op)
     ∷ inverse_tests (newest_tables past) op inverse) e in
-    none_mapped operator_refusal (op_fault (newest_tables past) op)
-    (none_of_first (option_map operator_refusal (op_fault (newest_tables past) op))
+    none_mapped operator_refusal (evolution_fault (newest_tables past) op)
+    (none_of_first (option_map operator_refusal (evolution_fault (newest_tables past) op))
     (inverse_tests (newest_tables past) op inverse) rest.1).0
 
 -- where a version is accepted there is room for it
-one_more_version : (past : Past) (op : Operator) (inverse : List Operator) (version : PlainVersion)
+one_more_version : (past : Past) (op : List Operator) (inverse : List (List Operator)) (version : PlainVersion)
     → first_refusal (body_tests past (evolving op inverse)) ≡ None
     → length (past.versions ++ version ∷ []) ≤ max_versions
 one_more_version past op inverse version e =
     let h = met (nat_lt (length past.versions) max_versions) (TooMany Versions max_versions)
     (none_of_first (unless (nat_lt (length past.versions) max_versions)
     (TooMany Versions max_versions)) (option_map operator_refusal
-    (op_fault (newest_tables past) op) ∷ inverse_tests (newest_tables past) op inverse) e).0 in
+    (evolution_fault (newest_tables past) op) ∷ inverse_tests (newest_tables past) op inverse) e).0 in
     let more = length-append past.versions (version ∷ []) in
     let few : length past.versions < max_versions = grind (arith, nat_tests, h) in
     omega (arith, few, more)
@@ -191,7 +191,7 @@ before_command past stamp (changing changes) m l =
       | false ↦ earlier_states stamp new no_database past.states m l
     ]
 before_command past stamp (evolving op inverse) m l =
-    earlier_states stamp (migrate (newest_tables past) op (newest_database past)) no_database
+    earlier_states stamp (carried_each (newest_tables past) op (newest_database past)) no_database
     past.states m l
 
 -- moments from the stamp on
@@ -221,7 +221,7 @@ from_command past stamp (changing changes) h l e m w =
         h.database e) zero.0 zero.1
     step false q = later_states stamp new no_database past.states m w
 from_command past stamp (evolving op inverse) h l e m w =
-    later_states stamp (migrate (newest_tables past) op (newest_database past)) no_database
+    later_states stamp (carried_each (newest_tables past) op (newest_database past)) no_database
     past.states m w
 
 -- at each moment the database is one of the version then in force
@@ -246,7 +246,7 @@ still_each past stamp changes h l e m = elim (before_or_not m stamp) [
       e)))
 ]
 
-each_evolved : (past : Past) (stamp : ℕ) (op : Operator) (inverse : List Operator) → IsPast past
+each_evolved : (past : Past) (stamp : ℕ) (op : List Operator) (inverse : List (List Operator)) → IsPast past
     → last_or_nought past.last ≤ stamp
     → first_refusal (body_tests past (evolving op inverse)) ≡ None → (m : ℕ)
     → IsDatabase (tables_of (past_with past (record { stamp = stamp; body = evolving op inverse }))
@@ -268,13 +268,13 @@ each_evolved past stamp op inverse h l e m = elim (before_or_not m stamp) [
       let all : version_at next m ≡ length past.versions + 1 =
       all_with_one (last_or_nought past.last) m past.versions new h.versions low b in
       let one : length past.versions + 1 ≡ suc (length past.versions) = omega arith in
-      let tables : tables_of next (version_at next m) ≡ schema_after (newest_tables past) op =
+      let tables : tables_of next (version_at next m) ≡ schema_after_each (newest_tables past) op =
       ap (tables_of next) (all ∙ one) ∙ tables_added no_tables past.versions new in
       subst (λ (t : Tables). IsDatabase t (database_at next m)) (sym tables)
-      (subst (IsDatabase (schema_after (newest_tables past) op))
+      (subst (IsDatabase (schema_after_each (newest_tables past) op))
       (sym (from_command past stamp (evolving op inverse) h l e m b))
-      (migrated_database (newest_tables past) op (newest_database past) h.tables.schema
-      (operator_accepted past op inverse e) h.database)))
+      (each_database (newest_tables past) op (newest_database past) h.tables
+      (all_accepted (newest_tables past) op (operator_accepted past op inverse e)) h.database)))
 ]
   where
     new : PlainVersion
@@ -313,20 +313,20 @@ stays_valid past stamp (changing changes) h f c e =
     }
 stays_valid past stamp (evolving op inverse) h f c e =
     let l : last_or_nought past.last ≤ stamp = stamp_is_later past.last stamp f in
-    let accepted : op_fault (newest_tables past) op ≡ None = operator_accepted past op inverse e in
-    let new : Database = migrate (newest_tables past) op (newest_database past) in
+    let accepted : evolution_fault (newest_tables past) op ≡ None = operator_accepted past op inverse e in
+    let new : Database = carried_each (newest_tables past) op (newest_database past) in
     let version : PlainVersion = next_version stamp op inverse past in
     let tables : newest_from no_tables (past.versions ++ next_version stamp op inverse past ∷ [])
-    ≡ schema_after (newest_tables past) op =
+    ≡ schema_after_each (newest_tables past) op =
     newest_added no_tables past.versions (next_version stamp op inverse past) in
     record {
-      tables = subst IsValid (sym tables) (next_is_valid (newest_tables past) op h.tables accepted);
+      tables = subst IsValid (sym tables) (each_is_valid (newest_tables past) op h.tables (all_accepted (newest_tables past) op accepted));
       database = subst (λ (t : Tables). IsDatabase t
           (latest_from no_database (from_stamp stamp new past.states))) (sym tables)
-          (subst (IsDatabase (schema_after (newest_tables past) op))
+          (subst (IsDatabase (schema_after_each (newest_tables past) op))
           (sym (latest_is stamp new no_database past.states))
-          (migrated_database (newest_tables past) op (newest_database past) h.tables.schema
-          accepted h.database));
+          (each_database (newest_tables past) op (newest_database past) h.tables
+          (all_accepted (newest_tables past) op accepted) h.database));
       each = each_evolved past stamp op inverse h l e;
       versions = in_force_added stamp past.versions (next_version stamp op inverse past)
           (in_force_later (last_or_nought past.last) stamp past.versions l h.versions)

@@ -50,6 +50,9 @@ use Rattle.smo_ops_spec.specs.ValidValues.{PastHolds, AreValues, HoldValues, Ent
 use Rattle.smo_ops_spec.specs.ValidValues.{HoldsValues}
 use Rattle.smo_ops_spec.specs.ValidValues.{OperatorHolds, OperatorsHold, CellsHold, SetsHold}
 use Rattle.smo_ops_spec.specs.ValidValues.{ChangeHolds, ChangesHold}
+use Rattle.smo_ops_spec.specs.ValidValues.{AllOperatorsHold}
+use Rattle.smo_ops_spec.specs.Evolutions.{carried_each}
+use Rattle.smo_ops_spec.specs.After.{schema_after}
 
 -- ---- rows
 
@@ -285,6 +288,12 @@ changes_values tables [] db g h = h
 changes_values tables (c ∷ changes) db g h = changes_values tables changes
     (database_after tables c db) g.1 (one_change tables c db g.0 h)
 
+pub each_values : (now : Tables) (ops : List Operator) (db : Database) → OperatorsHold ops
+    → HoldsValues db → HoldsValues (carried_each now ops db)
+each_values now [] db g h = h
+each_values now (op ∷ ops) db g h = each_values (schema_after now op) ops (migrate now op db) g.1
+    (migrated_values now op db g.0 h)
+
 -- ---- moments
 
 module _ (past : Past) (command : PlainCommand) (is : IsPast past)
@@ -300,7 +309,7 @@ module _ (past : Past) (command : PlainCommand) (is : IsPast past)
   after_values : (body : PlainBody) → BodyHolds body → HoldsValues (next_database body past)
   after_values (changing changes) g = changes_values (newest_tables past) changes
       (newest_database past) g newest_values
-  after_values (evolving op inverse) g = migrated_values (newest_tables past) op
+  after_values (evolving op inverse) g = each_values (newest_tables past) op
       (newest_database past) g.0 newest_values
 
   values_stay : BodyHolds command.body → EachHolds (past_with past command)
@@ -314,7 +323,7 @@ module _ (past : Past) (command : PlainCommand) (is : IsPast past)
 -- ---- versions
 
 one_version_more : (versions : List PlainVersion) (v : PlainVersion) → VersionsHold versions
-    → OperatorHolds v.op × OperatorsHold v.inverse → VersionsHold (versions ++ v ∷ [])
+    → OperatorsHold v.op × AllOperatorsHold v.inverse → VersionsHold (versions ++ v ∷ [])
 one_version_more [] v h g = (g, tt)
 one_version_more (w ∷ versions) v h g = (h.0, one_version_more versions v h.1 g)
 

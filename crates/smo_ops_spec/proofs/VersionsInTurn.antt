@@ -3,7 +3,8 @@ use Rattle.std.proofs.Common.{◌≡◌, ◌<◌, ℕ, zero, suc, List, [], ◌�
 use Rattle.std.specs.Prelude.{nat_lt, Option, Some, None, ⊤}
 use Rattle.prima_base.specs.declared.refusal.Refusal.TheVariants.{StampNotLater}
 use Rattle.schema_catalog.specs.Tables.{Tables}
-use Rattle.smo_ops_spec.specs.After.{op_fault, schema_after, IsValid}
+use Rattle.smo_ops_spec.specs.After.{IsValid}
+use Rattle.smo_ops_spec.specs.Evolutions.{schema_after_each, evolution_fault}
 use Rattle.smo_ops_spec.specs.Counts.{first_excess}
 use Rattle.smo_ops_spec.specs.Inverses.{inverse_fault}
 use Rattle.smo_ops_types.specs.Commands.{evolving, PlainVersion}
@@ -11,7 +12,7 @@ use Rattle.smo_ops_spec.specs.Past.{newest_from, tables_from}
 use Rattle.smo_ops_spec.specs.Accepts.{stamp_fault}
 use Rattle.smo_ops_spec.specs.ValidPast.{AllInForce, last_or_nought, IsLater, AreVersions}
 use Rattle.smo_ops_spec.proofs.Firsts.{met}
-use Rattle.smo_ops_spec.proofs.NextSchemas.{next_is_valid}
+use Rattle.smo_ops_spec.proofs.MemberLaws.{all_accepted, each_is_valid}
 
 -- each of the versions begins before the moment
 abbrev AllEarlier : ℕ → List PlainVersion → Type 0
@@ -38,9 +39,9 @@ all_earlier (Some last) stamp versions w h e =
 one_more : (last : Option ℕ) (before : Tables) (versions : List PlainVersion) (v : PlainVersion)
     → AreVersions last before versions → IsLater last v.stamp → AllEarlier v.stamp versions
     → first_excess (evolving v.op v.inverse) ≡ None
-    → op_fault (newest_from before versions) v.op ≡ None
+    → evolution_fault (newest_from before versions) v.op ≡ None
     → inverse_fault (newest_from before versions) v.op v.inverse ≡ None
-    → v.tables ≡ schema_after (newest_from before versions) v.op
+    → v.tables ≡ schema_after_each (newest_from before versions) v.op
     → AreVersions last before (versions ++ v ∷ [])
 one_more last before [] v h later earlier counted accepted inverse tables = (
   record {
@@ -64,9 +65,9 @@ pub versions_with : (before : Tables) (versions : List PlainVersion) (last : Opt
     (v : PlainVersion) → (last ≡ None → versions ≡ []) → AllInForce (last_or_nought last) versions
     → AreVersions None before versions → stamp_fault last v.stamp ≡ None
     → first_excess (evolving v.op v.inverse) ≡ None
-    → op_fault (newest_from before versions) v.op ≡ None
+    → evolution_fault (newest_from before versions) v.op ≡ None
     → inverse_fault (newest_from before versions) v.op v.inverse ≡ None
-    → v.tables ≡ schema_after (newest_from before versions) v.op
+    → v.tables ≡ schema_after_each (newest_from before versions) v.op
     → AreVersions None before (versions ++ v ∷ [])
 versions_with before versions last v w h are e counted accepted inverse tables =
     one_more None before versions v are tt (all_earlier last v.stamp versions w h e) counted
@@ -79,4 +80,5 @@ valid_from last before [] k h are = h
 valid_from last before (v ∷ versions) zero h are = h
 valid_from last before (v ∷ versions) (suc k) h are =
     valid_from (Some v.stamp) v.tables versions k
-    (subst IsValid (sym are.0.tables) (next_is_valid before v.op h are.0.accepted)) are.1
+    (subst IsValid (sym are.0.tables) (each_is_valid before v.op h
+    (all_accepted before v.op are.0.accepted))) are.1

@@ -21,7 +21,7 @@ use Rattle.cond_expr.specs.declared.expr.Whose.TheVariants.{Free, Atom}
 use Rattle.cond_expr.specs.declared.expr.CmpOp.TheVariants.{Eq, Gt}
 use Rattle.cond_expr.specs.Trees.{Tree, column, constant, length_of, joined, no_trees, a_tree}
 use Rattle.cond_expr.specs.Trees.{always, compared}
-use Rattle.smo_ops_types.specs.Operators.{nop, create_table, drop_table, rename_table, merge_table}
+use Rattle.smo_ops_types.specs.Operators.{Operator, nop, create_table, drop_table, rename_table, merge_table}
 use Rattle.smo_ops_types.specs.Operators.{add_column}
 use Rattle.smo_ops_types.specs.Changes.{insertion, deletion, update}
 use Rattle.smo_ops_types.specs.Commands.{evolving, PlainVersion}
@@ -168,15 +168,18 @@ named_twice = refl
 
 nine_parts : first_excess (evolving (add_column a
     (joined (a_tree (own a) (a_tree (own a) (a_tree (own a) (a_tree (own a) (a_tree (own a)
-    (a_tree (own a) (a_tree (own a) (a_tree (own a) (a_tree (own a) no_trees)))))))))) t) [])
+    (a_tree (own a) (a_tree (own a) (a_tree (own a) (a_tree (own a) no_trees)))))))))) t ∷ []) [])
     ≡ Some (Parts, 8)
 nine_parts = refl
 
-long_inverse : first_excess (evolving nop (nop ∷ nop ∷ nop ∷ nop ∷ nop ∷ nop ∷ nop ∷ nop ∷ nop ∷ nop
+abbrev one : List Operator
+one = nop ∷ []
+
+long_inverse : first_excess (evolving one (one ∷ one ∷ one ∷ one ∷ one ∷ one ∷ one ∷ one ∷ one ∷ one
     ∷ [])) ≡ Some (Inverse, 8)
 long_inverse = refl
 
-short_inverse : first_excess (evolving nop (nop ∷ nop ∷ nop ∷ nop ∷ nop ∷ nop ∷ nop ∷ nop ∷ []))
+short_inverse : first_excess (evolving one (one ∷ one ∷ one ∷ one ∷ one ∷ one ∷ one ∷ one ∷ []))
     ≡ None
 short_inverse = refl
 
@@ -202,8 +205,8 @@ nothing_made = refl
 -- versions of the stamps 1 and 9: version 0 is in force up to 1, version 1 up to 9, and version 2
 -- to the end of time
 abbrev two_versions : List PlainVersion
-two_versions = record { stamp = 1; op = create_table t t_columns; inverse = []; tables = no_tables }
-    ∷ record { stamp = 9; op = nop; inverse = []; tables = no_tables } ∷ []
+two_versions = record { stamp = 1; op = create_table t t_columns ∷ []; inverse = []; tables = no_tables }
+    ∷ record { stamp = 9; op = nop ∷ []; inverse = []; tables = no_tables } ∷ []
 
 before_all : in_force two_versions 0 ≡ span 0 1
 before_all = refl
@@ -264,17 +267,17 @@ one_byte_too_long = too_long_is_refused 4097 (omega arith)
 
 -- t renamed to z, with the inverse: no constant of these is kept
 abbrev renamed : List PlainVersion
-renamed = record { stamp = 1; op = create_table t t_columns; inverse = []; tables = no_tables }
+renamed = record { stamp = 1; op = create_table t t_columns ∷ []; inverse = []; tables = no_tables }
     ∷ record {
       stamp = 9;
-      op = rename_table t z;
-      inverse = rename_table z t ∷ [];
+      op = rename_table t z ∷ [];
+      inverse = (rename_table z t ∷ []) ∷ [];
       tables =
           no_tables;
     } ∷ []
 
 renamed_hold : VersionsHold renamed
-renamed_hold = ((tt, tt), ((tt, (tt, tt)), tt))
+renamed_hold = (((tt, tt), tt), (((tt, tt), ((tt, tt), tt)), tt))
 
 -- ADD COLUMN b AS 1 INTO t keeps its constant
 column_added : OperatorHolds (add_column b (constant (int 1)) t) ≡ IsValid (int 1)

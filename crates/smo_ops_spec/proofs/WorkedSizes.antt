@@ -2,7 +2,6 @@
 -- renamed.
 use Rattle.std.specs.Prelude.{◌≡◌, ℕ, ◌∷◌, [], List, pos, Option, Some, None, codes, refl}
 use Rattle.std.specs.FinMap.{get}
-use Rattle.prima_base.specs.declared.value.Value.{Value}
 use Rattle.prima_base.specs.declared.value.Value.TheVariants.{Int, Text}
 use Rattle.prima_base.specs.declared.value.ColType.TheVariants.{Int as INT, Text as TEXT}
 use Rattle.prima_base.specs.Columns.{Column}
@@ -68,7 +67,7 @@ three_cells : cells_in (written 1 9 ∷ written 2 9 ∷ []) ≡ 3
 three_cells = refl
 
 -- renamed in version 2 the one lifeline ends, and that of the new name begins with all rows
-ends : (tables : Tables) → size_after tables (rename_table t u) 1
+ends : (tables : Tables) → size_after tables (rename_table t u ∷ []) 1
     (size t 1 None 1 (written 1 9 ∷ written 2 9 ∷ []))
     ≡ size t 1 (Some 1) 1 (written 1 9 ∷ written 2 9 ∷ [])
 ends tables = refl

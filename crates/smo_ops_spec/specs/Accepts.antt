@@ -22,7 +22,7 @@ use Rattle.prima_base.specs.declared.refusal.Refusal.TheVariants.{TooMany as Ove
 use Rattle.prima_base.specs.Limits.{max_versions}
 use Rattle.smo_ops_types.specs.Commands.{PlainBody, changing, evolving, PlainCommand}
 use Rattle.smo_ops_spec.specs.First.{unless, first_refusal}
-use Rattle.smo_ops_spec.specs.After.{op_fault}
+use Rattle.smo_ops_spec.specs.Evolutions.{evolution_fault}
 use Rattle.smo_ops_spec.specs.Inverses.{inverse_tests}
 use Rattle.smo_ops_spec.specs.Past.{Past, newest_tables}
 use Rattle.smo_ops_spec.specs.Checks.{Fault, changes_tests}
@@ -53,7 +53,7 @@ abbrev pub body_tests : Past → PlainBody → List Fault
 body_tests past (changing changes) = changes_tests (newest_tables past) changes 0
 body_tests past (evolving op inverse) =
     unless (nat_lt (length past.versions) max_versions) (OverLimit Versions max_versions)
-    ∷ option_map operator_refusal (op_fault (newest_tables past) op)
+    ∷ option_map operator_refusal (evolution_fault (newest_tables past) op)
     ∷ inverse_tests (newest_tables past) op inverse
 
 -- counts, then the stamp, then what the command does

@@ -67,3 +67,7 @@ HasFewNodes (rename_column b r c) = ⊤
 abbrev pub HaveFewNodes : List Operator → Type 0
 HaveFewNodes [] = ⊤
 HaveFewNodes (op ∷ ops) = HasFewNodes op × HaveFewNodes ops
+
+abbrev pub AllHaveFewNodes : List (List Operator) → Type 0
+AllHaveFewNodes [] = ⊤
+AllHaveFewNodes (op ∷ ops) = HaveFewNodes op × AllHaveFewNodes ops

@@ -53,12 +53,15 @@ operator_counts (add_column c e r) = tree_counts e
 operator_counts (drop_column c r) = []
 operator_counts (rename_column b r c) = []
 
+abbrev pub evolution_counts : List Operator → List Excess
+evolution_counts ops = flat_map operator_counts ops
+
 -- a member too many stands where it begins, after those before it
 abbrev pub body_counts : PlainBody → List Excess
 body_counts (changing changes) = flat_map change_counts (take max_changes changes)
     ++ at_most Changes max_changes (length changes) ∷ []
-body_counts (evolving op inverse) = operator_counts op
-    ++ (flat_map operator_counts (take max_inverse inverse)
+body_counts (evolving op inverse) = evolution_counts op
+    ++ (flat_map evolution_counts (take max_inverse inverse)
     ++ at_most Inverse max_inverse (length inverse) ∷ [])
 
 abbrev pub first_excess : PlainBody → Excess

@@ -6,7 +6,7 @@ use Rattle.schema_catalog.specs.Tables.{Tables}
 use Rattle.schema_catalog.specs.Databases.{Database, IsDatabase}
 use Rattle.smo_ops_types.specs.Commands.{PlainBody, changing, evolving, PlainCommand}
 use Rattle.smo_ops_spec.specs.Effects.{after_each}
-use Rattle.smo_ops_spec.specs.After.{schema_after, migrate}
+use Rattle.smo_ops_spec.specs.Evolutions.{schema_after_each, carried_each}
 use Rattle.smo_ops_spec.specs.Past.{Past, no_tables, no_database, beginning, tables_of, version_at}
 use Rattle.smo_ops_spec.specs.Past.{database_at, past_with}
 use Rattle.smo_ops_spec.specs.Accepts.{command_fault}
@@ -51,8 +51,8 @@ nothing_yet = version_state 0 no_tables no_database
 abbrev pub stands_after : VersionState → PlainBody → VersionState
 stands_after s (changing changes) = version_state s.version s.tables
     (after_each s.tables changes s.database)
-stands_after s (evolving op inverse) = version_state (s.version + 1) (schema_after s.tables op)
-    (migrate s.tables op s.database)
+stands_after s (evolving op inverse) = version_state (s.version + 1) (schema_after_each s.tables op)
+    (carried_each s.tables op s.database)
 
 abbrev pub stands_after_all : VersionState → List PlainCommand → VersionState
 stands_after_all s [] = s

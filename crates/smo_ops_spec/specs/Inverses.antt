@@ -18,7 +18,7 @@ use Rattle.smo_ops_types.specs.declared.op.InverseFault.TheVariants.{Op, Misses,
 use Rattle.smo_ops_types.specs.Operators.{Operator}
 use Rattle.smo_ops_spec.specs.First.{first_refusal}
 use Rattle.smo_ops_spec.specs.Preconditions.{same_columns}
-use Rattle.smo_ops_spec.specs.After.{op_fault, schema_after}
+use Rattle.smo_ops_spec.specs.Evolutions.{schema_after_each, evolution_fault}
 use Rattle.smo_ops_spec.specs.Checks.{Fault}
 
 -- the same columns, or none on both sides
@@ -35,17 +35,18 @@ first_difference a b = find (λ n. not (same_table (get a n) (get b n)))
 
 -- the operators of an inverse one after the other, from `now` on, the first one number `i`; they
 -- are to lead back to `before`
-abbrev pub way_back : Tables → Tables → ℕ → List Operator → List Fault
+abbrev pub way_back : Tables → Tables → ℕ → List (List Operator) → List Fault
 way_back before now i [] = option_map InverseMisses (first_difference before now) ∷ []
-way_back before now i (op ∷ inverse) = option_map (InverseOp i) (op_fault now op)
-    ∷ way_back before (schema_after now op) (i + 1) inverse
+way_back before now i (op ∷ inverse) = option_map (InverseOp i) (evolution_fault now op)
+    ∷ way_back before (schema_after_each now op) (i + 1) inverse
 
 -- without operators no inverse is named
-abbrev pub inverse_tests : Tables → Operator → List Operator → List Fault
+abbrev pub inverse_tests : Tables → List Operator → List (List Operator) → List Fault
 inverse_tests before op [] = []
-inverse_tests before op (x ∷ inverse) = way_back before (schema_after before op) 1 (x ∷ inverse)
+inverse_tests before op (x ∷ inverse) = way_back before (schema_after_each before op) 1
+    (x ∷ inverse)
 
-abbrev pub inverse_fault : Tables → Operator → List Operator → Fault
+abbrev pub inverse_fault : Tables → List Operator → List (List Operator) → Fault
 inverse_fault before op inverse = first_refusal (inverse_tests before op inverse)
 
 -- what `check_inverse` answers
@@ -63,31 +64,31 @@ IsNumbered count (Err (Misses name)) = ⊤
 IsNumbered count (Err NoMemory) = ⊤
 
 -- what is answered of operators one after the other: the last schema, where none is refused
-abbrev pub IsInTurn : Tables → List Operator → Result Tables InverseFault → Type 0
+abbrev pub IsInTurn : Tables → List (List Operator) → Result Tables InverseFault → Type 0
 IsInTurn now ops (Ok last) = (goal : Tables) → first_refusal (way_back goal now 1 ops)
     ≡ option_map InverseMisses (first_difference goal last)
 IsInTurn now ops (Err fault) = (goal : Tables)
     → IsInverse (first_refusal (way_back goal now 1 ops)) (Err fault)
 
--- the schema after these operators, one after the other
-abbrev pub schema_after_each : Tables → List Operator → Tables
-schema_after_each now [] = now
-schema_after_each now (op ∷ ops) = schema_after_each (schema_after now op) ops
+-- the schema after the operators of an inverse
+abbrev pub schema_after_all : Tables → List (List Operator) → Tables
+schema_after_all now [] = now
+schema_after_all now (op ∷ ops) = schema_after_all (schema_after_each now op) ops
 
--- each operator is accepted on the schema that stands then
-abbrev pub AllOperatorsAccepted : Tables → List Operator → Type 0
-AllOperatorsAccepted now [] = ⊤
-AllOperatorsAccepted now (op ∷ ops) = (op_fault now op ≡ None)
-    × AllOperatorsAccepted (schema_after now op) ops
+-- each of them is accepted on the schema that stands then
+abbrev pub AllAcceptedInTurn : Tables → List (List Operator) → Type 0
+AllAcceptedInTurn now [] = ⊤
+AllAcceptedInTurn now (op ∷ ops) = (evolution_fault now op ≡ None)
+    × AllAcceptedInTurn (schema_after_each now op) ops
 
 -- the operator after those `before` it is the first that is refused
-pub record IsFirstRefused (now : Tables) (before : List Operator) (op : Operator)
+pub record IsFirstRefused (now : Tables) (before : List (List Operator)) (op : List Operator)
     (refusal : OpRefusal) : Type 0 where
-  pub accepted : AllOperatorsAccepted now before
-  pub refused : op_fault (schema_after_each now before) op ≡ Some refusal
+  pub accepted : AllAcceptedInTurn now before
+  pub refused : evolution_fault (schema_after_all now before) op ≡ Some refusal
 
 -- all are accepted, and do not lead back to `goal`: the name is the first under which the two
 -- schemas differ
-pub record IsMissed (goal now : Tables) (ops : List Operator) (name : List ℕ) : Type 0 where
-  pub accepted : AllOperatorsAccepted now ops
-  pub differs : IsFirstDifference (get goal) (get (schema_after_each now ops)) name
+pub record IsMissed (goal now : Tables) (ops : List (List Operator)) (name : List ℕ) : Type 0 where
+  pub accepted : AllAcceptedInTurn now ops
+  pub differs : IsFirstDifference (get goal) (get (schema_after_all now ops)) name

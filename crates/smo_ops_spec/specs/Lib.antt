@@ -14,6 +14,7 @@ pub mod After
 pub mod WaysBack
 pub mod Checks
 pub mod Counts
+pub mod Evolutions
 pub mod Inverses
 pub mod Past
 pub mod InForce

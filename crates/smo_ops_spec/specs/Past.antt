@@ -9,7 +9,7 @@ use Rattle.schema_catalog.specs.Databases.{Database}
 use Rattle.smo_ops_types.specs.Operators.{Operator}
 use Rattle.smo_ops_types.specs.Commands.{PlainBody, changing, evolving, PlainCommand, PlainVersion}
 use Rattle.smo_ops_spec.specs.Effects.{after_each, gained, lost}
-use Rattle.smo_ops_spec.specs.After.{schema_after, migrate}
+use Rattle.smo_ops_spec.specs.Evolutions.{schema_after_each, carried_each}
 use Rattle.smo_ops_spec.specs.Sizes.{Size, sizes_changed, sizes_evolved}
 
 -- from a moment on the database is this one
@@ -123,20 +123,20 @@ evolved_to version new past = record {
   states = from_stamp version.stamp new past.states;
 }
 
-abbrev pub next_version : ℕ → Operator → List Operator → Past → PlainVersion
+abbrev pub next_version : ℕ → List Operator → List (List Operator) → Past → PlainVersion
 next_version stamp op inverse past = record {
   stamp = stamp;
   op = op;
   inverse = inverse;
   tables =
-      schema_after (newest_tables past) op;
+      schema_after_each (newest_tables past) op;
 }
 
 -- the database from the stamp on: the newest one changed, or carried over the operator
 abbrev pub next_database : PlainBody → Past → Database
 next_database (changing changes) past = after_each (newest_tables past) changes
     (newest_database past)
-next_database (evolving op inverse) past = migrate (newest_tables past) op (newest_database past)
+next_database (evolving op inverse) past = carried_each (newest_tables past) op (newest_database past)
 
 abbrev pub next_past : ℕ → PlainBody → Past → Past
 next_past stamp (changing changes) past = changed_to stamp (next_database (changing changes) past)

@@ -14,7 +14,7 @@ use Rattle.schema_catalog.specs.Databases.{Database}
 use Rattle.smo_ops_types.specs.Operators.{Operator}
 use Rattle.smo_ops_spec.specs.OneRow.{Relation}
 use Rattle.smo_ops_spec.specs.Effects.{rows_under, gained_rows}
-use Rattle.smo_ops_spec.specs.Touching.{makes, consumes}
+use Rattle.smo_ops_spec.specs.Evolutions.{one_makes, one_consumes}
 
 -- of one column: its cells, and the bytes of the values that were written in them
 pub record Written : Type 0 where
@@ -119,8 +119,8 @@ ended_with k s = record {
       s.columns;
 }
 
-abbrev pub size_after : Tables → Operator → ℕ → Size → Size
-size_after before op k s = if_living s.last (if consumes before op s.table then ended_with k s
+abbrev pub size_after : Tables → List Operator → ℕ → Size → Size
+size_after before op k s = if_living s.last (if one_consumes before op s.table then ended_with k s
     else s) s
 
 -- and those of the tables that it makes begin, with all their rows
@@ -138,8 +138,8 @@ size_begun k database t =
 
 -- after the operator of version k + 1, of which these are the tables and this the database; new
 -- ones stand after the others, in the order of their names
-abbrev pub sizes_evolved : Tables → Operator → Tables → Database → ℕ → List Size → List Size
+abbrev pub sizes_evolved : Tables → List Operator → Tables → Database → ℕ → List Size → List Size
 sizes_evolved before op after database k sizes =
     map (size_after before op k) sizes
-    ++ map (size_begun (k + 1) database) (filter (λ (t : List ℕ × List Column). makes before op t.0)
+    ++ map (size_begun (k + 1) database) (filter (λ (t : List ℕ × List Column). one_makes before op t.0)
     (entries after))

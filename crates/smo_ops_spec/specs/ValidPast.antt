@@ -4,7 +4,8 @@ use Rattle.prima_base.specs.Limits.{max_versions}
 use Rattle.schema_catalog.specs.Databases.{Database, IsDatabase}
 use Rattle.smo_ops_types.specs.Commands.{evolving, PlainVersion}
 use Rattle.schema_catalog.specs.Tables.{Tables}
-use Rattle.smo_ops_spec.specs.After.{op_fault, schema_after, IsValid}
+use Rattle.smo_ops_spec.specs.After.{IsValid}
+use Rattle.smo_ops_spec.specs.Evolutions.{schema_after_each, evolution_fault}
 use Rattle.smo_ops_spec.specs.Counts.{first_excess}
 use Rattle.smo_ops_spec.specs.Inverses.{inverse_fault}
 use Rattle.smo_ops_spec.specs.Past.{State, Past, no_tables, tables_of, newest_tables, version_at}
@@ -72,9 +73,9 @@ IsLater (Some last) moment = last < moment
 pub record IsVersion (last : Option ℕ) (before : Tables) (v : PlainVersion) : Type 0 where
   pub later : IsLater last v.stamp
   pub counted : first_excess (evolving v.op v.inverse) ≡ None
-  pub accepted : op_fault before v.op ≡ None
+  pub accepted : evolution_fault before v.op ≡ None
   pub inverse : inverse_fault before v.op v.inverse ≡ None
-  pub tables : v.tables ≡ schema_after before v.op
+  pub tables : v.tables ≡ schema_after_each before v.op
 
 -- each version is accepted after the one before
 abbrev pub AreVersions : Option ℕ → Tables → List PlainVersion → Type 0

@@ -62,6 +62,10 @@ abbrev pub OperatorsHold : List Operator → Type 0
 OperatorsHold [] = ⊤
 OperatorsHold (op ∷ ops) = OperatorHolds op × OperatorsHold ops
 
+abbrev pub AllOperatorsHold : List (List Operator) → Type 0
+AllOperatorsHold [] = ⊤
+AllOperatorsHold (op ∷ ops) = OperatorsHold op × AllOperatorsHold ops
+
 abbrev pub CellsHold : List (List ℕ × Value) → Type 0
 CellsHold [] = ⊤
 CellsHold (c ∷ cells) = IsValid c.1 × CellsHold cells
@@ -81,7 +85,7 @@ ChangesHold (c ∷ changes) = ChangeHolds c × ChangesHold changes
 
 abbrev pub BodyHolds : PlainBody → Type 0
 BodyHolds (changing changes) = ChangesHold changes
-BodyHolds (evolving op inverse) = OperatorHolds op × OperatorsHold inverse
+BodyHolds (evolving op inverse) = OperatorsHold op × AllOperatorsHold inverse
 
 abbrev pub CommandsHold : List PlainCommand → Type 0
 CommandsHold [] = ⊤
@@ -92,7 +96,8 @@ CommandsHold (c ∷ commands) = BodyHolds c.body × CommandsHold commands
 -- the constants of each version's operator, and of its inverse, are valid
 abbrev pub VersionsHold : List PlainVersion → Type 0
 VersionsHold [] = ⊤
-VersionsHold (v ∷ versions) = (OperatorHolds v.op × OperatorsHold v.inverse) × VersionsHold versions
+VersionsHold (v ∷ versions) = (OperatorsHold v.op × AllOperatorsHold v.inverse)
+    × VersionsHold versions
 
 -- a past that holds valid values: in its database at each moment, and in what leads from version to
 -- version and back

@@ -16,10 +16,11 @@ ghost use Rattle.smo_ops_spec.specs.First.{first_refusal};
 ghost use Rattle.smo_ops_spec.specs.OneRow.{Row, Relation};
 ghost use Rattle.smo_ops_spec.specs.Effects.{relation_after, after_each, gained_rows, gained, lost};
 ghost use Rattle.smo_ops_spec.specs.Inserting.{relation_after_each, insertions};
-ghost use Rattle.smo_ops_spec.specs.After.{op_fault, schema_after, migrate, IsValid, HasFewNodes};
-ghost use Rattle.smo_ops_spec.specs.After.{HaveFewNodes};
-ghost use Rattle.smo_ops_spec.specs.Inverses.{inverse_fault, schema_after_each};
-ghost use Rattle.smo_ops_spec.specs.Inverses.{AllOperatorsAccepted, IsFirstRefused, IsMissed};
+ghost use Rattle.smo_ops_spec.specs.After.{op_fault, schema_after, migrate, IsValid};
+ghost use Rattle.smo_ops_spec.specs.After.{HaveFewNodes, AllHaveFewNodes};
+ghost use Rattle.smo_ops_spec.specs.Evolutions.{schema_after_each, evolution_fault};
+ghost use Rattle.smo_ops_spec.specs.Inverses.{inverse_fault, schema_after_all};
+ghost use Rattle.smo_ops_spec.specs.Inverses.{AllAcceptedInTurn, IsFirstRefused, IsMissed};
 ghost use Rattle.smo_ops_spec.specs.Checks.{tests_after, changes_fault};
 ghost use Rattle.smo_ops_types.specs.Commands.{PlainCommand, PlainVersion, evolving};
 ghost use Rattle.smo_ops_spec.specs.Counts.{first_excess};
@@ -79,9 +80,9 @@ pub fn create_table_is_valid()
 /// Where a command's counts are within their limits, its operator and those of its inverse have few
 /// nodes, and the inverse has at most 8 of them.
 pub fn counted_operators_are_few()
-    ensures { (op : Operator) → (inverse : List Operator)
+    ensures { (op : List Operator) → (inverse : List (List Operator))
         → first_excess (evolving op inverse) ≡ None
-        → HasFewNodes op × HaveFewNodes inverse × (length inverse ≤ 8) }
+        → HaveFewNodes op × AllHaveFewNodes inverse × (length inverse ≤ 8) }
 {}
 
 /// An inverse is refused at the first of its operators that is refused on the schema that stands
@@ -90,24 +91,24 @@ pub fn counted_operators_are_few()
 /// it names no operator. So of a named inverse that is not refused each operator is accepted on the
 /// schema that stands then, and the last schema is the one before the operator.
 pub fn an_inverse_leads_back()
-    ensures refused { (before : Tables) → (op : Operator) → (earlier : List Operator)
-        → (x : Operator) → (later : List Operator) → (refusal : OpRefusal)
-        → IsFirstRefused (schema_after before op) earlier x refusal
+    ensures refused { (before : Tables) → (op : List Operator) → (earlier : List (List Operator))
+        → (x : List Operator) → (later : List (List Operator)) → (refusal : OpRefusal)
+        → IsFirstRefused (schema_after_each before op) earlier x refusal
         → inverse_fault before op (earlier ++ x ∷ later)
         ≡ Some (InverseOp (length earlier + 1) refusal) }
-    ensures misses { (before : Tables) → (op : Operator) → (x : Operator)
-        → (inverse : List Operator) → (name : List ℕ)
-        → IsMissed before (schema_after before op) (x ∷ inverse) name
+    ensures misses { (before : Tables) → (op : List Operator) → (x : List Operator)
+        → (inverse : List (List Operator)) → (name : List ℕ)
+        → IsMissed before (schema_after_each before op) (x ∷ inverse) name
         → inverse_fault before op (x ∷ inverse) ≡ Some (InverseMisses name) }
-    ensures accepted { (before : Tables) → (op : Operator) → (inverse : List Operator)
-        → AllOperatorsAccepted (schema_after before op) inverse
-        → schema_after_each (schema_after before op) inverse ≡ before
+    ensures accepted { (before : Tables) → (op : List Operator) → (inverse : List (List Operator))
+        → AllAcceptedInTurn (schema_after_each before op) inverse
+        → schema_after_all (schema_after_each before op) inverse ≡ before
         → inverse_fault before op inverse ≡ None }
-    ensures leads { (before : Tables) → (op : Operator) → (x : Operator) → (inverse : List Operator)
+    ensures leads { (before : Tables) → (op : List Operator) → (x : List Operator) → (inverse : List (List Operator))
         → inverse_fault before op (x ∷ inverse) ≡ None
-        → AllOperatorsAccepted (schema_after before op) (x ∷ inverse)
-        × (schema_after_each (schema_after before op) (x ∷ inverse) ≡ before) }
-    ensures unnamed { (before : Tables) → (op : Operator) → inverse_fault before op [] ≡ None }
+        → AllAcceptedInTurn (schema_after_each before op) (x ∷ inverse)
+        × (schema_after_all (schema_after_each before op) (x ∷ inverse) ≡ before) }
+    ensures unnamed { (before : Tables) → (op : List Operator) → inverse_fault before op [] ≡ None }
 {}
 
 /// The rows gained and lost fit the numbers of rows before and after.
@@ -158,13 +159,13 @@ pub fn commands_make_valid_pasts()
         → first_excess (evolving v.op v.inverse) ≡ None }
     ensures accepted { (past : Past) → (k : ℕ) → (v : PlainVersion) → IsPast past
         → slice_get past.versions k ≡ Some v
-        → op_fault (tables_of past k) v.op ≡ None }
+        → evolution_fault (tables_of past k) v.op ≡ None }
     ensures inverse { (past : Past) → (k : ℕ) → (v : PlainVersion) → IsPast past
         → slice_get past.versions k ≡ Some v
         → inverse_fault (tables_of past k) v.op v.inverse ≡ None }
     ensures evolved { (past : Past) → (k : ℕ) → (v : PlainVersion) → IsPast past
         → slice_get past.versions k ≡ Some v
-        → v.tables ≡ schema_after (tables_of past k) v.op }
+        → v.tables ≡ schema_after_each (tables_of past k) v.op }
 {}
 
 /// Whether a command is accepted depends on the newest schema, on how many versions there are, and

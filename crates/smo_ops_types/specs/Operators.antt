@@ -1,5 +1,5 @@
 -- Schema modification operators as plain data, and the one that an operator of the code stands for.
-use Rattle.std.specs.Prelude.{ℕ, List, map}
+use Rattle.std.specs.Prelude.{ℕ, List, [], ◌∷◌, map}
 use Rattle.prima_base.specs.Columns.{Column}
 use Rattle.cond_expr.specs.Trees.{Tree, Test}
 use Rattle.cond_expr.specs.Seen.{tree, test}
@@ -48,3 +48,11 @@ operator_of (RenameColumn b r c) = rename_column b r c
 
 abbrev pub operators_of : List Op → List Operator
 operators_of ops = map operator_of ops
+
+-- what makes a version is a list of operators, its members, one after the other: an operator of the
+-- code is the one member
+abbrev pub evolution_of : Op → List Operator
+evolution_of op = operator_of op ∷ []
+
+abbrev pub evolutions_of : List Op → List (List Operator)
+evolutions_of ops = map (λ o. o ∷ []) (operators_of ops)
