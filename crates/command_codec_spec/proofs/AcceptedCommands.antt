@@ -33,14 +33,16 @@ use Rattle.cond_expr.specs.Faults.{first_unknown}
 use Rattle.smo_ops_spec.specs.OneRow.{own_kinds}
 use Rattle.smo_ops_spec.specs.First.{unless, where_so, first_refusal}
 use Rattle.smo_ops_spec.specs.Counts.{Excess, at_most, tree_counts, test_counts, set_counts}
-use Rattle.smo_ops_spec.specs.Counts.{change_counts, operator_counts, first_excess}
+use Rattle.smo_ops_spec.specs.Counts.{change_counts, operator_counts, evolution_counts}
+use Rattle.smo_ops_spec.specs.Counts.{first_excess}
 use Rattle.smo_ops_types.specs.Changes.{PlainChange, insertion, deletion, update, table_of}
 use Rattle.smo_ops_types.specs.Commands.{PlainBody, changing, evolving, PlainCommand}
 use Rattle.smo_ops_spec.specs.Effects.{columns_of}
 use Rattle.smo_ops_spec.specs.Making.{joined_columns}
 use Rattle.smo_ops_spec.specs.Preconditions.{among, again_after, first_again, first_not_among}
 use Rattle.smo_ops_spec.specs.Preconditions.{test_known_in}
-use Rattle.smo_ops_spec.specs.After.{op_fault, schema_after, IsValid}
+use Rattle.smo_ops_spec.specs.After.{op_fault, IsValid}
+use Rattle.smo_ops_spec.specs.Evolutions.{schema_after_each, evolution_fault}
 use Rattle.smo_ops_spec.specs.Inverses.{way_back, inverse_tests}
 use Rattle.smo_ops_spec.specs.Checks.{pair_names, names_after, name_faults, missing_fault}
 use Rattle.smo_ops_spec.specs.Checks.{cell_faults, reference_fault, set_references, set_faults}
@@ -58,13 +60,15 @@ use Rattle.smo_ops_spec.proofs.Firsts.{first_later}
 use Rattle.smo_ops_spec.proofs.FewNames.{few_names}
 use Rattle.smo_ops_spec.proofs.SmallTrees.{fits}
 use Rattle.smo_ops_spec.proofs.CountedOperators.{counted_length}
-use Rattle.smo_ops_spec.proofs.NextSchemas.{all_preconditions, next_is_valid}
+use Rattle.smo_ops_spec.proofs.NextSchemas.{all_preconditions}
+use Rattle.smo_ops_spec.proofs.MemberLaws.{all_accepted, each_is_valid}
 use Rattle.smo_ops_spec.proofs.MetPreconditions.{create_met, partition_met, decompose_met}
 use Rattle.smo_ops_spec.proofs.MetPreconditions.{join_met, add_met}
 use Rattle.command_codec_spec.specs.Encoding.{number_of}
 use Rattle.command_codec_spec.specs.Valid.{TreeFits, TreesFit, TestFits, TestsFit, IsWritableTree}
 use Rattle.command_codec_spec.specs.Valid.{IsWritableTest, IsWritableOperator, IsWritableChange}
-use Rattle.command_codec_spec.specs.Valid.{IsWritableBody, IsWritable}
+use Rattle.command_codec_spec.specs.Valid.{HasOneMember, IsWritableEvolution, IsWritableBody}
+use Rattle.command_codec_spec.specs.Valid.{IsWritable, HaveOneMember}
 use Rattle.command_codec_spec.proofs.Correctness.{by_test, true_false}
 use Rattle.command_codec_spec.proofs.Numbers.{of_both}
 
@@ -307,19 +311,30 @@ module _ (tables : Tables) (valid : IsValid tables) where
   operator_writable (drop_column c r) e k = tt
   operator_writable (rename_column b r c) e k = tt
 
+-- of one member
+evolution_writable : (tables : Tables) → IsValid tables → (op : List Operator) → HasOneMember op
+    → evolution_fault tables op ≡ None → first_refusal (evolution_counts op) ≡ None
+    → IsWritableEvolution op
+evolution_writable tables l [] one e k = absurd one
+evolution_writable tables l (op ∷ []) one e k =
+    operator_writable tables l op (all_accepted tables (op ∷ []) e).0
+    (none_of_both (operator_counts op) [] k).0
+evolution_writable tables l (op ∷ p ∷ ops) one e k = absurd one
+
 -- an inverse's operators, each on the schema that stands then
-inverse_writable : (before now : Tables) → IsValid now → (i : ℕ) (ops : List Operator)
-    → first_refusal (way_back before now i ops) ≡ None
-    → first_refusal (flat_map operator_counts ops) ≡ None → AllByRecursion IsWritableOperator ops
-inverse_writable before now l i [] e k = tt
-inverse_writable before now l i (op ∷ ops) e k =
-    let h = none_of_first (option_map (refusal.InverseOp i) (op_fault now op))
-    (way_back before (schema_after now op) (i + 1) ops) e in
-    let accepted = none_mapped (refusal.InverseOp i) (op_fault now op) h.0 in
-    let c = none_of_both (operator_counts op) (flat_map operator_counts ops) k in (
-      operator_writable now l op accepted c.0,
-      inverse_writable before (schema_after now op) (next_is_valid now op l accepted) (i + 1) ops
-          h.1 c.1,
+inverse_writable : (before now : Tables) → IsValid now → (i : ℕ) (ops : List (List Operator))
+    → AllByRecursion HasOneMember ops → first_refusal (way_back before now i ops) ≡ None
+    → first_refusal (flat_map evolution_counts ops) ≡ None
+    → AllByRecursion IsWritableEvolution ops
+inverse_writable before now l i [] one e k = tt
+inverse_writable before now l i (op ∷ ops) one e k =
+    let h = none_of_first (option_map (refusal.InverseOp i) (evolution_fault now op))
+    (way_back before (schema_after_each now op) (i + 1) ops) e in
+    let accepted = none_mapped (refusal.InverseOp i) (evolution_fault now op) h.0 in
+    let c = none_of_both (evolution_counts op) (flat_map evolution_counts ops) k in (
+      evolution_writable now l op one.0 accepted c.0,
+      inverse_writable before (schema_after_each now op)
+          (each_is_valid now op l (all_accepted now op accepted)) (i + 1) ops one.1 h.1 c.1,
     )
 
 -- ---- changes
@@ -410,18 +425,20 @@ no_excess : (e : Excess) → count_fault e ≡ None → e ≡ None
 no_excess None h = refl
 no_excess (Some x) h = cc
 
-inverse_of : (tables : Tables) → IsValid tables → (op : Operator) → op_fault tables op ≡ None
-    → (ops : List Operator) → first_refusal (inverse_tests tables op ops) ≡ None
-    → first_refusal (flat_map operator_counts ops) ≡ None
-    → AllByRecursion IsWritableOperator ops
-inverse_of tables l op accepted [] h c = tt
-inverse_of tables l op accepted (x ∷ ops) h c =
-    inverse_writable tables (schema_after tables op) (next_is_valid tables op l accepted) 1
-    (x ∷ ops) h c
+inverse_of : (tables : Tables) → IsValid tables → (op : List Operator)
+    → evolution_fault tables op ≡ None → (ops : List (List Operator))
+    → AllByRecursion HasOneMember ops → first_refusal (inverse_tests tables op ops) ≡ None
+    → first_refusal (flat_map evolution_counts ops) ≡ None
+    → AllByRecursion IsWritableEvolution ops
+inverse_of tables l op accepted [] one h c = tt
+inverse_of tables l op accepted (x ∷ ops) one h c =
+    inverse_writable tables (schema_after_each tables op)
+    (each_is_valid tables op l (all_accepted tables op accepted)) 1 (x ∷ ops) one h c
 
 body_writable : (past : Past) → IsValid (newest_tables past) → (body : PlainBody)
-    → first_refusal (body_tests past body) ≡ None → first_excess body ≡ None → IsWritableBody body
-body_writable past l (changing changes) e k =
+    → HaveOneMember body → first_refusal (body_tests past body) ≡ None → first_excess body ≡ None
+    → IsWritableBody body
+body_writable past l (changing changes) one e k =
     let few = few_changes changes k in
     let parts = none_of_both (flat_map change_counts (take 65536 changes))
     (at_most Changes 65536 (length changes) ∷ []) k in
@@ -430,31 +447,32 @@ body_writable past l (changing changes) e k =
       changes_writable (newest_tables past) l changes 0 e
           (subst P (take_all 65536 changes few) parts.0),
     )
-body_writable past l (evolving op inverse) e k =
+body_writable past l (evolving op inverse) one e k =
     let tables : Tables = newest_tables past in
     let versions = none_of_first (unless (nat_lt (length past.versions) max_versions)
     (refusal.TooMany Versions max_versions))
-    (option_map operator_refusal (op_fault tables op) ∷ inverse_tests tables op inverse) e in
-    let tests = none_of_first (option_map operator_refusal (op_fault tables op))
+    (option_map operator_refusal (evolution_fault tables op) ∷ inverse_tests tables op inverse) e in
+    let tests = none_of_first (option_map operator_refusal (evolution_fault tables op))
     (inverse_tests tables op inverse) versions.1 in
-    let accepted = none_mapped operator_refusal (op_fault tables op) tests.0 in
+    let accepted = none_mapped operator_refusal (evolution_fault tables op) tests.0 in
     let few = counted_length op inverse k in
-    let counts = none_of_both (operator_counts op)
-    (flat_map operator_counts (take 8 inverse) ++ at_most Inverse 8 (length inverse) ∷ []) k in
-    let after_op = none_of_both (flat_map operator_counts (take 8 inverse))
+    let counts = none_of_both (evolution_counts op)
+    (flat_map evolution_counts (take 8 inverse) ++ at_most Inverse 8 (length inverse) ∷ []) k in
+    let after_op = none_of_both (flat_map evolution_counts (take 8 inverse))
     (at_most Inverse 8 (length inverse) ∷ []) counts.1 in
-    let P : List Operator → Type 0 = λ ops. first_refusal (flat_map operator_counts ops) ≡ None in
+    let P : List (List Operator) → Type 0 = λ ops. first_refusal (flat_map evolution_counts ops)
+    ≡ None in
     let all = subst P (take_all 8 inverse few) after_op.0 in (
-      operator_writable tables l op accepted counts.0,
+      evolution_writable tables l op one.0 accepted counts.0,
       omega (arith, few),
-      inverse_of tables l op accepted inverse tests.1 all,
+      inverse_of tables l op accepted inverse one.1 tests.1 all,
     )
 
 pub accepted_writable : (past : Past) (command : PlainCommand) → IsValid (newest_tables past)
-    → command_fault past command ≡ None → IsWritable command
-accepted_writable past command l e =
+    → HaveOneMember command.body → command_fault past command ≡ None → IsWritable command
+accepted_writable past command l one e =
     let counts = none_of_first (count_fault (first_excess command.body))
     (stamp_fault past.last command.stamp ∷ body_tests past command.body) e in
     let stamp = none_of_first (stamp_fault past.last command.stamp) (body_tests past command.body)
     counts.1 in
-    body_writable past l command.body stamp.1 (no_excess (first_excess command.body) counts.0)
+    body_writable past l command.body one stamp.1 (no_excess (first_excess command.body) counts.0)

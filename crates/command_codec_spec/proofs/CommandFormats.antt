@@ -1,6 +1,6 @@
 -- The readers of operators, changes and commands are good for their formats.
 use Rattle.std.proofs.Common.{◌≡◌, ℕ, zero, suc, ◌*◌, ◌^◌, ◌<◌, ◌≤◌, true, List, [], ◌∷◌, ◌++◌}
-use Rattle.std.proofs.Common.{length, refl, arith}
+use Rattle.std.proofs.Common.{length, refl, ap, ◌∙◌, subst, arith}
 use Rattle.std.specs.List.{AllByRecursion}
 use Rattle.std.proofs.lemmas.Bool.{leb-true}
 use Rattle.prima_base.specs.Bytes.{IsName}
@@ -33,6 +33,8 @@ use Rattle.command_codec_spec.specs.Reader.{delete_of, update_of, evolved}
 use Rattle.command_codec_spec.proofs.Correctness.{retold, mapped_correct, pair_correct, ArmCorrect}
 use Rattle.command_codec_spec.proofs.Correctness.{parts_correct, parts_read, tagged_correct}
 use Rattle.command_codec_spec.proofs.Numbers.{number_correct}
+use Rattle.command_codec_spec.proofs.OneMember.{ones, same_length, listed_as_members}
+use Rattle.command_codec_spec.proofs.OneMember.{writable_ones, named_ones, all_ones}
 use Rattle.command_codec_spec.proofs.PartFormats.{name_correct, value_correct, column_type_correct}
 use Rattle.command_codec_spec.proofs.PartFormats.{items_correct, list_correct}
 use Rattle.command_codec_spec.proofs.TreeFormats.{expr_correct_outermost, cond_correct_outermost}
@@ -432,13 +434,13 @@ changes_correct = many_correct change IsChange change_bytes 4 4294967295 (omega 
 
 -- ---- commands
 
-abbrev Evolution : Operator × List Operator → Type 0
-Evolution x = IsOperator x.0 × Operators x.1
+abbrev Evolved : Operator × List Operator → Type 0
+Evolved x = IsOperator x.0 × Operators x.1
 
-abbrev evolution_bytes : Operator × List Operator → List ℕ
-evolution_bytes x = operator_bytes x.0 ++ list_bytes 4 operator_bytes x.1
+abbrev evolved_bytes : Operator × List Operator → List ℕ
+evolved_bytes x = operator_bytes x.0 ++ list_bytes 4 operator_bytes x.1
 
-evolve_parts : IsCorrectParser (pair operator operators) Evolution evolution_bytes
+evolve_parts : IsCorrectParser (pair operator operators) Evolved evolved_bytes
 evolve_parts = pair_correct operator IsOperator operator_bytes operators Operators
     (list_bytes 4 operator_bytes) operator_correct operators_correct
 
@@ -447,17 +449,36 @@ some_changes : (l : List PlainChange) → Changes l → IsBody (changing l)
 some_changes l h = let r = each_of_both IsWritableChange ChangeNamed l h.1 in
     ((((let a = h.0 in omega (arith, a)), r.0), r.1), refl)
 
-an_evolution : (x : Operator × List Operator) → Evolution x → IsBody (evolving x.0 x.1)
-    × (body_bytes (evolving x.0 x.1) ≡ 1 ∷ evolution_bytes x)
-an_evolution x h = let r = each_of_both IsWritableOperator OperatorNamed x.1 h.1.1 in
-    (((h.0.0, (let a = h.1.0 in omega (arith, a)), r.0), (h.0.1, r.1)), refl)
+an_evolution : (x : Operator × List Operator) → Evolved x
+    → IsBody (evolving (x.0 ∷ []) (ones x.1))
+    × (body_bytes (evolving (x.0 ∷ []) (ones x.1)) ≡ 1 ∷ evolved_bytes x)
+an_evolution x h =
+    let r = each_of_both IsWritableOperator OperatorNamed x.1 h.1.1 in
+    let few = h.1.0 in
+    let same = same_length x.1 in (
+      (
+        (h.0.0, omega (arith, few, same), writable_ones x.1 r.0),
+        ((h.0.1, tt), named_ones x.1 r.1),
+      ),
+      ap (λ (bytes : List ℕ). 1 ∷ operator_bytes x.0 ++ bytes) (listed_as_members x.1),
+    )
 
 body_arms : (x : ℕ) → up_to 1 x ≡ true → ArmCorrect IsBody body_bytes x (body_arm x)
 body_arms zero t = parts_correct changes Changes (list_bytes 4 change_bytes) changes_correct
     changing IsBody body_bytes 0 some_changes
-body_arms (suc zero) t = parts_correct (pair operator operators) Evolution evolution_bytes
+body_arms (suc zero) t = parts_correct (pair operator operators) Evolved evolved_bytes
     evolve_parts evolved IsBody body_bytes 1 an_evolution
 body_arms (suc (suc n)) t = absurd (omega (arith, leb-true (suc (suc n)) 1 t))
+
+evolved_again : (op : Operator) (ops : List Operator) → IsOperator op → Operators ops
+    → (rest : List ℕ)
+    → by_tag (up_to 1) body_arm (body_bytes (evolving (op ∷ []) (ones ops)) ++ rest)
+    ≡ Parsed (evolving (op ∷ []) (ones ops)) rest
+evolved_again op ops h k rest =
+    ap (λ (bytes : List ℕ). by_tag (up_to 1) body_arm ((1 ∷ operator_bytes op ++ bytes) ++ rest))
+    (listed_as_members ops)
+    ∙ parts_read (pair operator operators) Evolved evolved_bytes evolve_parts evolved IsBody
+    body_bytes 1 an_evolution (op, ops) (h, k) rest
 
 body_again : (b : PlainBody) → IsBody b → (rest : List ℕ)
     → by_tag (up_to 1) body_arm (body_bytes b ++ rest) ≡ Parsed b rest
@@ -465,15 +486,17 @@ body_again (changing l) h rest = parts_read changes Changes (list_bytes 4 change
     changes_correct changing IsBody body_bytes 0 some_changes l
     ((let a = h.0.0 in omega (arith, a)), both_of_each IsWritableChange ChangeNamed l h.0.1 h.1)
     rest
-body_again (evolving op l) h rest =
-    parts_read (pair operator operators) Evolution evolution_bytes evolve_parts
-    evolved IsBody body_bytes 1 an_evolution (op, l) (
-      (h.0.0, h.1.0),
-      (
-        (let a = h.0.1 in omega (arith, a)),
-        both_of_each IsWritableOperator OperatorNamed l h.0.2 h.1.1,
-      ),
-    ) rest
+body_again (evolving [] l) h rest = absurd h.0.0
+body_again (evolving (op ∷ []) l) h rest =
+    let all = all_ones l h.0.2 h.1.1 in
+    let few = h.0.1 in
+    let same = same_length all.0 in
+    let long : length (ones all.0) ≡ length l = ap length all.2 in
+    subst (λ (k : List (List Operator)).
+    by_tag (up_to 1) body_arm (body_bytes (evolving (op ∷ []) k) ++ rest)
+    ≡ Parsed (evolving (op ∷ []) k) rest) all.2
+    (evolved_again op all.0 (h.0.0, h.1.0.0) (omega (arith, few, same, long), all.1) rest)
+body_again (evolving (op ∷ p ∷ ops) l) h rest = absurd h.0.0
 
 pub body_correct : IsCorrectParser body IsBody body_bytes
 unfolding body

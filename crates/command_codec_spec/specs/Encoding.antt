@@ -106,6 +106,12 @@ operator_bytes (add_column c e r) = 9 ∷ name_bytes r ++ name_bytes c ++ tree_b
 operator_bytes (drop_column c r) = 10 ∷ name_bytes r ++ name_bytes c
 operator_bytes (rename_column b r c) = 11 ∷ name_bytes r ++ name_bytes b ++ name_bytes c
 
+-- an operator of a version: one member is spelled as itself; several have a tag of their own, and
+-- then how many and each
+abbrev pub evolution_bytes : List Operator → List ℕ
+evolution_bytes (op ∷ []) = operator_bytes op
+evolution_bytes ops = 12 ∷ list_bytes 1 operator_bytes ops
+
 -- a column's name, and its value or what it is set to
 abbrev pub cell_bytes : List ℕ × Value → List ℕ
 cell_bytes c = name_bytes c.0 ++ value_bytes c.1
@@ -121,7 +127,7 @@ change_bytes (update t sets c) = 2 ∷ name_bytes t ++ list_bytes 4 set_bytes se
 -- changes; or an operator, and its inverse
 abbrev pub body_bytes : PlainBody → List ℕ
 body_bytes (changing changes) = 0 ∷ list_bytes 4 change_bytes changes
-body_bytes (evolving op inverse) = 1 ∷ operator_bytes op ++ list_bytes 4 operator_bytes inverse
+body_bytes (evolving op inverse) = 1 ∷ evolution_bytes op ++ list_bytes 4 evolution_bytes inverse
 
 abbrev pub command_bytes : PlainCommand → List ℕ
 command_bytes c = number 8 c.stamp ++ body_bytes c.body

@@ -1,7 +1,7 @@
 -- Reading names, values, expressions, conditions, operators, changes and commands, from left to
 -- right.
 use Rattle.std.specs.Prelude.{ℕ, zero, suc, Bool, ◌==◌, ◌&&◌, not, nat_le, nat_lt, if◌then◌else◌}
-use Rattle.std.specs.Prelude.{List, ◌∷◌}
+use Rattle.std.specs.Prelude.{List, [], ◌∷◌, map}
 use Rattle.std.specs.Int.{w64, cast_signed}
 use Rattle.prima_base.specs.Bytes.{is_text_byte, is_digit, is_name_byte}
 use Rattle.prima_base.specs.Columns.{Column}
@@ -243,8 +243,9 @@ change = by_tag (up_to 2) change_arm
 unfoldable pub changes : Parser (List PlainChange)
 changes = list_parser 4 4294967295 change
 
+-- each operator that is read is the one member of its version's operator
 abbrev pub evolved : Operator × List Operator → PlainBody
-evolved (op, inverse) = evolving op inverse
+evolved (op, inverse) = evolving (op ∷ []) (map (λ o. o ∷ []) inverse)
 
 abbrev pub body_arm : ℕ → Parser PlainBody
 body_arm tag = if tag == 0 then map_to changing changes

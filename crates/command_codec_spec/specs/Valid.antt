@@ -1,5 +1,5 @@
 -- Which commands have a spelling.
-use Rattle.std.specs.Prelude.{◌≡◌, ℕ, ◌<◌, ◌≤◌, ◌^◌, length, ⊤}
+use Rattle.std.specs.Prelude.{◌≡◌, ℕ, ◌<◌, ◌≤◌, ◌^◌, List, [], ◌∷◌, length, ⊤}
 use Rattle.std.specs.List.{AllByRecursion}
 use Rattle.relations_spec.specs.Spans.{forever}
 use Rattle.prima_base.specs.Bytes.{IsName}
@@ -65,6 +65,15 @@ IsWritableOperator (add_column c e r) = IsWritableTree e
 IsWritableOperator (drop_column c r) = ⊤
 IsWritableOperator (rename_column b r c) = ⊤
 
+-- an operator of a version that has one member; of several none is written
+abbrev pub HasOneMember : List Operator → Type 0
+HasOneMember (op ∷ []) = ⊤
+HasOneMember ops = ⊥
+
+abbrev pub IsWritableEvolution : List Operator → Type 0
+IsWritableEvolution (op ∷ []) = IsWritableOperator op
+IsWritableEvolution ops = ⊥
+
 abbrev pub IsWritableChange : PlainChange → Type 0
 IsWritableChange (insertion t cells) = length cells < 2 ^ 32
 IsWritableChange (deletion t c) = IsWritableTest c
@@ -74,11 +83,16 @@ IsWritableChange (update t sets c) = (length sets < 2 ^ 32)
 abbrev pub IsWritableBody : PlainBody → Type 0
 IsWritableBody (changing changes) = (length changes < 2 ^ 32)
     × AllByRecursion IsWritableChange changes
-IsWritableBody (evolving op inverse) = IsWritableOperator op × (length inverse < 2 ^ 32)
-    × AllByRecursion IsWritableOperator inverse
+IsWritableBody (evolving op inverse) = IsWritableEvolution op × (length inverse < 2 ^ 32)
+    × AllByRecursion IsWritableEvolution inverse
 
 abbrev pub IsWritable : PlainCommand → Type 0
 IsWritable c = IsWritableBody c.body
+
+-- each operator of a command, and of its inverse, has one member
+abbrev pub HaveOneMember : PlainBody → Type 0
+HaveOneMember (changing changes) = ⊤
+HaveOneMember (evolving op inverse) = HasOneMember op × AllByRecursion HasOneMember inverse
 
 -- ---- what the types of names, texts, numbers and commands keep: each is a valid one
 
@@ -121,6 +135,9 @@ OperatorNamed (add_column c e r) = IsName r × IsName c × TreeNamed e
 OperatorNamed (drop_column c r) = IsName r × IsName c
 OperatorNamed (rename_column b r c) = IsName r × IsName b × IsName c
 
+abbrev pub EvolutionNamed : List Operator → Type 0
+EvolutionNamed ops = AllByRecursion OperatorNamed ops
+
 abbrev pub ChangeNamed : PlainChange → Type 0
 ChangeNamed (insertion t cells) = IsName t × AllByRecursion (λ c. IsName c.0 × IsValid c.1) cells
 ChangeNamed (deletion t c) = IsName t × TestNamed c
@@ -129,7 +146,7 @@ ChangeNamed (update t sets c) = IsName t × AllByRecursion (λ s. IsName s.0 × 
 
 abbrev pub BodyNamed : PlainBody → Type 0
 BodyNamed (changing changes) = AllByRecursion ChangeNamed changes
-BodyNamed (evolving op inverse) = OperatorNamed op × AllByRecursion OperatorNamed inverse
+BodyNamed (evolving op inverse) = EvolutionNamed op × AllByRecursion EvolutionNamed inverse
 
 -- ---- what has a spelling
 

@@ -2,8 +2,9 @@
 
 ghost use Rattle.std.specs.Prelude.{◌≡◌, ◌++◌, ℕ, List, [], None};
 ghost use Rattle.prima_base.specs.declared.value.Value.{Value};
-ghost use Rattle.smo_ops_types.specs.Operators.{Operator};
-ghost use Rattle.smo_ops_types.specs.Commands.{PlainCommand};
+ghost use Rattle.smo_ops_types.specs.declared.op.Op.{Op};
+ghost use Rattle.smo_ops_types.specs.Operators.{Operator, evolution_of, evolutions_of};
+ghost use Rattle.smo_ops_types.specs.Commands.{PlainCommand, evolving};
 ghost use Rattle.smo_ops_spec.specs.After.{IsValid};
 ghost use Rattle.smo_ops_spec.specs.Past.{Past, newest_tables};
 ghost use Rattle.smo_ops_spec.specs.ValidPast.{IsPast};
@@ -14,7 +15,7 @@ ghost use Rattle.command_codec_spec.specs.Reading.{IsCorrectParser};
 ghost use Rattle.command_codec_spec.specs.Reader as spec;
 ghost use Rattle.command_codec_spec.specs.Encoding.{name_bytes, value_bytes, operator_bytes};
 ghost use Rattle.command_codec_spec.specs.Encoding.{command_bytes};
-ghost use Rattle.command_codec_spec.specs.Valid.{IsOperator, IsCommand, IsWritable};
+ghost use Rattle.command_codec_spec.specs.Valid.{IsOperator, IsCommand, IsWritable, HaveOneMember};
 ghost use Rattle.command_codec_spec.specs.Found.{Encodes, EncodesName, EncodesValue};
 ghost use Rattle.command_codec_spec.specs.Found.{EncodesOperator};
 ghost use Rattle.command_codec_spec.specs.Found.{Decoding, IsDecoding};
@@ -55,12 +56,15 @@ pub fn parts_are_read()
     ensures command { IsCorrectParser spec.command IsCommand command_bytes }
 {}
 
-/// A command that is accepted after a past of valid tables can be written: its counts fit their
-/// fields, its references are to atom 0, and its trees are at most 32 deep. Every past that
-/// accepted commands make is one of these (`past`).
+/// A command of operators of one member, as each of the code is (`code`), that is accepted after a
+/// past of valid tables can be written: its counts fit their fields, its references are to atom 0,
+/// and its trees are at most 32 deep. Every past that accepted commands make is one of these
+/// (`past`).
 pub fn accepted_commands_can_be_written()
     ensures tables { (past : Past) (command : PlainCommand) → IsValid (newest_tables past)
-        → command_fault past command ≡ None → IsWritable command }
+        → HaveOneMember command.body → command_fault past command ≡ None → IsWritable command }
     ensures past { (past : Past) (command : PlainCommand) → IsPast past
-        → command_fault past command ≡ None → IsWritable command }
+        → HaveOneMember command.body → command_fault past command ≡ None → IsWritable command }
+    ensures code { (op : Op) (inverse : List Op)
+        → HaveOneMember (evolving (evolution_of op) (evolutions_of inverse)) }
 {}

@@ -9,7 +9,7 @@ ghost use Rattle.smo_ops_types.specs.Changes.{change_of, changes_of, set_of_expr
 ghost use Rattle.smo_ops_types.specs.Changes.{insertion};
 ghost use Rattle.smo_ops_types.specs.Changes.{deletion, update};
 ghost use Rattle.smo_ops_types.specs.Commands.{changing, evolving};
-ghost use Rattle.smo_ops_types.specs.Operators.{operator_of, operators_of};
+ghost use Rattle.smo_ops_types.specs.Operators.{evolution_of, evolutions_of};
 ghost use Rattle.command_codec_spec.specs.Encoding.{cell_bytes, set_bytes, list_bytes};
 ghost use Rattle.command_codec_spec.specs.Encoding.{change_bytes};
 ghost use Rattle.command_codec_spec.specs.Encoding.{body_bytes, name_bytes, test_bytes};
@@ -184,11 +184,11 @@ pub(crate) fn write_changing(out: &mut Vec<u8>, changes: &[Change]) -> Result<()
 
 /// Writes an operator and its inverse as what a command does, after what is there.
 pub(crate) fn write_evolving(out: &mut Vec<u8>, op: &Op, inverse: &[Op]) -> Result<(), NoMemory>
-    requires { IsWritableBody (evolving (operator_of op.now) (operators_of inverse.now)) }
+    requires { IsWritableBody (evolving (evolution_of op.now) (evolutions_of inverse.now)) }
     ensures ok { OnOk result (out.new.items ≡ out.old.items
-        ++ body_bytes (evolving (operator_of op.now) (operators_of inverse.now))) }
+        ++ body_bytes (evolving (evolution_of op.now) (evolutions_of inverse.now))) }
     ensures named { OnOk result (BodyNamed
-        (evolving (operator_of op.now) (operators_of inverse.now))) }
+        (evolving (evolution_of op.now) (evolutions_of inverse.now))) }
 {
     put(out, &[1])?;
     write_op(out, op)?;

@@ -2,7 +2,7 @@
 
 ghost use Rattle.std.specs.Prelude.{◌≡◌, ◌<◌, ◌++◌, IfOk, OnOk, OnErr};
 ghost use Rattle.relations_spec.specs.Spans.{forever};
-ghost use Rattle.smo_ops_types.specs.Operators.{operator_of, operators_of};
+ghost use Rattle.smo_ops_types.specs.Operators.{operator_of, evolution_of, evolutions_of};
 ghost use Rattle.smo_ops_types.specs.Changes.{changes_of};
 ghost use Rattle.smo_ops_types.specs.Commands.{changing, evolving, command_of};
 ghost use Rattle.command_codec_spec.specs.Found.{Appends, Encodes, EncodesOperator};
@@ -56,10 +56,10 @@ pub fn encode_operator(
     inverse: &[Op],
 ) -> Result<Vec<u8>, NoMemory>
     requires valid { stamp < forever }
-    requires writable { IsWritableBody (evolving (operator_of op.now) (operators_of inverse.now)) }
+    requires writable { IsWritableBody (evolving (evolution_of op.now) (evolutions_of inverse.now)) }
     ensures { IfOk result (λ v. Encodes (record {
       stamp = stamp;
-      body = evolving (operator_of op.now) (operators_of inverse.now);
+      body = evolving (evolution_of op.now) (evolutions_of inverse.now);
     }) v.items) }
 {
     let size = evolving_size(op, inverse).saturating_add(8);

@@ -4,13 +4,15 @@ ghost use Rattle.std.specs.Prelude.{◌≡◌, ◌<◌, ◌^◌, ◌++◌, ◌�
 ghost use Rattle.std.specs.List.{flat_map, AllByRecursion};
 ghost use Rattle.prima_base.specs.Bytes.{IsName};
 ghost use Rattle.cond_expr.specs.Seen.{tree, test};
-ghost use Rattle.smo_ops_types.specs.Operators.{operator_of, operators_of, create_table};
+ghost use Rattle.smo_ops_types.specs.Operators.{operator_of, evolutions_of, create_table};
 ghost use Rattle.smo_ops_types.specs.Operators.{partition_table, decompose_table, join_table};
 ghost use Rattle.smo_ops_types.specs.Operators.{add_column};
 ghost use Rattle.command_codec_spec.specs.Encoding.{type_tag, name_bytes, column_bytes, list_bytes};
 ghost use Rattle.command_codec_spec.specs.Encoding.{tree_bytes, test_bytes, operator_bytes};
+ghost use Rattle.command_codec_spec.specs.Encoding.{evolution_bytes};
 ghost use Rattle.command_codec_spec.specs.Valid.{TreeFits, TestFits, TreeNamed, TestNamed};
 ghost use Rattle.command_codec_spec.specs.Valid.{IsWritableOperator, OperatorNamed};
+ghost use Rattle.command_codec_spec.specs.Valid.{IsWritableEvolution, EvolutionNamed};
 
 use crate::part::{put, put_u8, put_u32, write_name};
 use crate::tree_writer::{write_cond, write_expr};
@@ -289,10 +291,10 @@ pub fn write_op(out: &mut Vec<u8>, op: &Op) -> Result<(), NoMemory>
 
 // Operators, one after the other.
 fn write_each_op(out: &mut Vec<u8>, ops: &[Op]) -> Result<(), NoMemory>
-    requires { AllByRecursion IsWritableOperator (operators_of ops.now) }
+    requires { AllByRecursion IsWritableEvolution (evolutions_of ops.now) }
     ensures ok { OnOk result (out.new.items ≡ out.old.items
-        ++ flat_map operator_bytes (operators_of ops.now)) }
-    ensures named { OnOk result (AllByRecursion OperatorNamed (operators_of ops.now)) }
+        ++ flat_map evolution_bytes (evolutions_of ops.now)) }
+    ensures named { OnOk result (AllByRecursion EvolutionNamed (evolutions_of ops.now)) }
 {
     for op in ops {
         write_op(out, op)?;
@@ -304,10 +306,10 @@ fn write_each_op(out: &mut Vec<u8>, ops: &[Op]) -> Result<(), NoMemory>
 /// error is `NoMemory`, where memory runs out; a part of them may then stand there.
 pub fn write_ops(out: &mut Vec<u8>, ops: &[Op]) -> Result<(), NoMemory>
     requires counted { length ops.now < 2 ^ 32 }
-    requires writable { AllByRecursion IsWritableOperator (operators_of ops.now) }
+    requires writable { AllByRecursion IsWritableEvolution (evolutions_of ops.now) }
     ensures ok { OnOk result (out.new.items ≡ out.old.items
-        ++ list_bytes 4 operator_bytes (operators_of ops.now)) }
-    ensures named { OnOk result (AllByRecursion OperatorNamed (operators_of ops.now)) }
+        ++ list_bytes 4 evolution_bytes (evolutions_of ops.now)) }
+    ensures named { OnOk result (AllByRecursion EvolutionNamed (evolutions_of ops.now)) }
 {
     put_u32(out, ops.len() as u32)?;
     write_each_op(out, ops)?;

@@ -5,13 +5,15 @@ ghost use Rattle.std.specs.List.{flat_map};
 ghost use Rattle.prima_base.specs.Columns.{IsValid};
 ghost use Rattle.prima_base.specs.Order.{shown};
 ghost use Rattle.cond_expr.specs.Seen.{tree, test, trees_of, tests_of};
-ghost use Rattle.smo_ops_types.specs.Operators.{operator_of, operators_of, decompose_table};
+ghost use Rattle.smo_ops_types.specs.Operators.{operator_of, evolution_of, evolutions_of};
+ghost use Rattle.smo_ops_types.specs.Operators.{decompose_table};
 ghost use Rattle.smo_ops_types.specs.Changes.{change_of, changes_of, sets_of};
 ghost use Rattle.smo_ops_types.specs.Commands.{changing, evolving};
 ghost use Rattle.command_codec_spec.specs.Encoding.{name_bytes, value_bytes, tree_bytes};
 ghost use Rattle.command_codec_spec.specs.Encoding.{trees_bytes};
 ghost use Rattle.command_codec_spec.specs.Encoding.{test_bytes, tests_bytes, column_bytes};
-ghost use Rattle.command_codec_spec.specs.Encoding.{operator_bytes, cell_bytes, set_bytes};
+ghost use Rattle.command_codec_spec.specs.Encoding.{operator_bytes, evolution_bytes, cell_bytes};
+ghost use Rattle.command_codec_spec.specs.Encoding.{set_bytes};
 ghost use Rattle.command_codec_spec.specs.Encoding.{change_bytes, body_bytes};
 
 use cond_expr::{Cond, Expr};
@@ -206,7 +208,7 @@ pub fn op_size(op: &Op) -> u64
 /// The bytes of operators, without their count, up to `u64::MAX`.
 #[tactic(auto, using(crate::proofs::Lengths::lengths))]
 pub fn ops_size(list: &[Op]) -> u64
-    ensures { result ≡ min (length (flat_map operator_bytes (operators_of list.now))) u64.MAX }
+    ensures { result ≡ min (length (flat_map evolution_bytes (evolutions_of list.now))) u64.MAX }
 {
     let mut size: u64 = 0;
     for item in list {
@@ -279,7 +281,7 @@ pub(crate) fn changing_size(changes: &[Change]) -> u64
 #[tactic(auto, using(crate::proofs::Lengths::lengths))]
 pub(crate) fn evolving_size(op: &Op, inverse: &[Op]) -> u64
     ensures { result ≡ min (length (body_bytes
-        (evolving (operator_of op.now) (operators_of inverse.now)))) u64.MAX }
+        (evolving (evolution_of op.now) (evolutions_of inverse.now)))) u64.MAX }
 {
     let ops = op_size(op).saturating_add(ops_size(inverse));
     ops.saturating_add(5)

@@ -4,20 +4,23 @@ use Rattle.std.proofs.Common.{length, get_or, drop-cons, add-one, append_assoc, 
 use Rattle.std.proofs.Common.{subst, ◌∙◌, ⊎_elim, arith}
 use Rattle.std.specs.Prelude.{◌==◌, true, false, Option, Some, None}
 use Rattle.std.specs.FinMap.{get}
-use Rattle.std.proofs.lemmas.List.{map-append, take_all, length-map}
+use Rattle.std.proofs.lemmas.List.{map-append, take_all}
 use Rattle.relations_spec.specs.Sets.{In}
 use Rattle.relations_spec.proofs.SetLaws.{in_map, in_append}
 use Rattle.schema_catalog.specs.Tables.{Tables}
-use Rattle.smo_ops_types.specs.Operators.{Operator, operator_of, operators_of}
+use Rattle.smo_ops_types.specs.Operators.{Operator, operator_of, operators_of, evolution_of}
+use Rattle.smo_ops_types.specs.Operators.{evolutions_of}
 use Rattle.smo_ops_types.specs.declared.op.Op.{Op}
 use Rattle.smo_ops_types.specs.declared.version.Version.{Version}
 use Rattle.smo_ops_types.specs.Commands.{PlainVersion, version_of}
 use Rattle.smo_ops_spec.specs.After.{op_fault, schema_after, IsValid, HaveFewNodes}
-use Rattle.smo_ops_spec.specs.Inverses.{inverse_fault, schema_after_each, AllOperatorsAccepted}
+use Rattle.smo_ops_spec.specs.Evolutions.{schema_after_each, AllOperatorsAccepted}
+use Rattle.smo_ops_spec.specs.Inverses.{inverse_fault}
 use Rattle.smo_ops_spec.specs.Past.{no_tables, tables_from}
 use Rattle.smo_ops_spec.specs.ValidPast.{AreVersions}
 use Rattle.smo_ops_spec.proofs.ValidInverses.{accepted_leads_back}
 use Rattle.smo_ops_spec.proofs.NextSchemas.{next_is_valid}
+use Rattle.smo_ops_spec.proofs.OneMembers.{members_of_ones, schema_after_ones}
 use Rattle.smo_ops_spec.specs.Losses.{Loss}
 use Rattle.smo_ops_versions_spec.proofs.WayLeads.{valid_at, step_leads}
 use Rattle.smo_ops_spec.specs.WaysBack.{WayBack, by_inverse, by_filling, no_way, way_back_over}
@@ -297,29 +300,32 @@ module _ (vs : List Version) (are : AreVersions None no_tables (map version_of v
   back_typed ps some y = step v.inverse.items some (sides vs are k v l e).inverse
     where
       step : (ops : List Op) → (length ops ≡ 0 → ⊥)
-          → inverse_fault (at k) (operator_of v.op) (operators_of ops) ≡ None
+          → inverse_fault (at k) (evolution_of v.op) (evolutions_of ops) ≡ None
           → AllTyped (schema_after_each v.schema (operators_of ops)) ps
       step [] s i = absurd (s refl)
       step (x ∷ inverse) s i =
           subst (λ (t : Tables). AllTyped t ps)
           (sym (ap (λ (t : Tables). schema_after_each t (operators_of (x ∷ inverse)))
           (sides vs are k v l e).tables
-          ∙ (accepted_leads_back (at k) (operator_of v.op) (operator_of x) (operators_of inverse)
+          ∙ sym (schema_after_ones (schema_after (at k) (operator_of v.op))
+          (operators_of (x ∷ inverse)))
+          ∙ (accepted_leads_back (at k) (evolution_of v.op) (evolution_of x) (evolutions_of inverse)
           i).1)) y
 
-  named_back : (book : Book) (ps : List PlainPiece) (ops : List Operator)
-      → (ops ≡ [] → ⊥) → through_each book v.schema ops ps
-      ≡ taken_back (brought book) (back_over (k + 1) (at k) (operator_of v.op) v.schema ops) ps
+  named_back : (book : Book) (ps : List PlainPiece) (ops : List Op)
+      → (length ops ≡ 0 → ⊥) → through_each book v.schema (operators_of ops) ps
+      ≡ taken_back (brought book) (back_over (k + 1) (at k) (evolution_of v.op) v.schema
+      (evolutions_of ops)) ps
   named_back book ps [] h = absurd (h refl)
-  named_back book ps (x ∷ ops) h = refl
+  named_back book ps (x ∷ ops) h =
+      ap (λ (members : List Operator). through_each book v.schema members ps)
+      (sym (members_of_ones (operators_of (x ∷ ops))))
 
   pub back_is : (book : Book) (ps news : List PlainPiece) → (length v.inverse.items ≡ 0 → ⊥)
       → news ≡ through_each book v.schema (operators_of v.inverse.items) ps
       → news ≡ to_next book (map version_of vs) k ps
   back_is book ps news some is =
-      is ∙ named_back book ps (operators_of v.inverse.items)
-      (λ (e : operators_of v.inverse.items ≡ []). some (sym (length-map v.inverse.items operator_of)
-      ∙ ap length e))
+      is ∙ named_back book ps v.inverse.items some
       ∙ ap (λ o. taken_back (brought book) (back_over_version (k + 1) (at k) o) ps)
       (sym (here vs are k v l e))
 
@@ -336,7 +342,7 @@ module _ (vs : List Version) (are : AreVersions None no_tables (map version_of v
     where
       step : (ops : List Op) → length ops ≡ 0
           → brought book (step_back (k + 1, 1) (at k) (operator_of v.op)) ps
-          ≡ taken_back (brought book) (back_over (k + 1) (at k) (operator_of v.op) v.schema
-          (operators_of ops)) ps
+          ≡ taken_back (brought book) (back_over (k + 1) (at k) (evolution_of v.op) v.schema
+          (evolutions_of ops)) ps
       step [] z = refl
       step (x ∷ ops) z = absurd (omega arith)

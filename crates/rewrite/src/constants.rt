@@ -2,9 +2,9 @@
 //! each is met once.
 
 ghost use Rattle.std.specs.Prelude.{map};
-ghost use Rattle.smo_ops_types.specs.Operators.{operator_of, operators_of};
+ghost use Rattle.smo_ops_types.specs.Operators.{operator_of, evolutions_of};
 ghost use Rattle.smo_ops_types.specs.Commands.{version_of, versions_of};
-ghost use Rattle.smo_ops_spec.specs.ValidValues.{OperatorHolds, OperatorsHold, VersionsHold};
+ghost use Rattle.smo_ops_spec.specs.ValidValues.{OperatorHolds, AllOperatorsHold, VersionsHold};
 
 use cond_expr::expr_size;
 use smo_ops_types::{Op, Version, Versions};
@@ -19,7 +19,7 @@ fn meet_operator(op: &Op)
 }
 
 fn meet_operators(ops: &[Op])
-    ensures { OperatorsHold (operators_of ops.now) }
+    ensures { AllOperatorsHold (evolutions_of ops.now) }
 {
     for op in ops {
         meet_operator(op);

@@ -1,14 +1,15 @@
 -- Back over one operator by its derived inverse.
-use Rattle.std.proofs.Common.{◌≡◌, ℕ, List, [], ◌∷◌, length, refl, sym, ap, subst, ◌∙◌}
+use Rattle.std.proofs.Common.{◌≡◌, ℕ, List, ◌∷◌, refl, sym, ap, subst, ◌∙◌}
 use Rattle.std.specs.Prelude.{Option, Some, None}
 use Rattle.std.proofs.lemmas.Option.{same_Some}
 use Rattle.schema_catalog.specs.Tables.{Tables}
 use Rattle.smo_ops_types.specs.declared.op.Op.{Op}
-use Rattle.smo_ops_types.specs.Operators.{Operator, operators_of}
+use Rattle.smo_ops_types.specs.Operators.{Operator, operators_of, evolutions_of}
 use Rattle.smo_ops_spec.specs.Losses.{Loss}
 use Rattle.smo_ops_spec.specs.After.{op_fault, schema_after, IsValid}
 use Rattle.smo_ops_spec.specs.WaysBack.{WayBack, by_inverse, by_filling, no_way, way_back_over}
 use Rattle.smo_ops_spec.specs.WaysBack.{derived}
+use Rattle.smo_ops_spec.proofs.OneMembers.{members_of_ones}
 use Rattle.smo_ops_versions_spec.specs.TableColumns.{HaveColumns}
 use Rattle.smo_ops_spec.specs.WaysBack.{operator_of_way, WayLeadsBack}
 use Rattle.smo_ops_versions_spec.specs.Ways.{step_by, step_back, back_over}
@@ -54,12 +55,14 @@ module _ (before : Tables) (op : Operator) where
       → ◌≡◌ {A = Option Operator} None (derived before op) → ⊥
   some_inverse i e = no_inverse (way_back_over before op) i e
 
-pub back_named : (k : ℕ) (before : Tables) (op : Operator) (after : Tables) (ops : List Op)
-    (l : Losses) → (length ops ≡ 0 → ⊥)
-    → taken losses_stepped (carrying_each after (operators_of ops)) l
-    ≡ taken losses_stepped (back_over k before op after (operators_of ops)) l
-back_named k before op after [] l h = absurd (h refl)
-back_named k before op after (x ∷ ops) l h = refl
+-- over the operators of an inverse, each of them one member
+pub back_named : (k : ℕ) (before : Tables) (op : List Operator) (after : Tables) (x : Op)
+    (ops : List Op) (l : Losses)
+    → taken losses_stepped (carrying_each after (operators_of (x ∷ ops))) l
+    ≡ taken losses_stepped (back_over k before op after (evolutions_of (x ∷ ops))) l
+back_named k before op after x ops l =
+    ap (λ (members : List Operator). taken losses_stepped (carrying_each after members) l)
+    (sym (members_of_ones (operators_of (x ∷ ops))))
 
 -- what is lost over it is what is lost back over the operator
 pub told : (before : Tables) (op : Operator) (after : Tables) (back : Operator) (loss : Loss)

@@ -1,7 +1,8 @@
 ghost use Rattle.std.specs.Prelude.{◌≡◌, OnOk, None};
-ghost use Rattle.smo_ops_types.specs.Operators.{operator_of, operators_of};
+ghost use Rattle.smo_ops_types.specs.Operators.{operator_of, operators_of, evolution_of};
+ghost use Rattle.smo_ops_types.specs.Operators.{evolutions_of};
 ghost use Rattle.smo_ops_spec.specs.After.{op_fault, schema_after, IsValid, HaveFewNodes};
-ghost use Rattle.smo_ops_spec.specs.Inverses.{AllOperatorsAccepted};
+ghost use Rattle.smo_ops_spec.specs.Evolutions.{AllOperatorsAccepted};
 ghost use Rattle.smo_ops_versions_spec.specs.TableColumns.{HaveColumns};
 ghost use Rattle.smo_ops_spec.specs.WaysBack.{way_back_over};
 ghost use Rattle.smo_ops_versions_spec.specs.Ways.{step_back, back_over};
@@ -102,6 +103,7 @@ fn lose_over_each(
 }
 
 /// Back over the operator of version `k`, by its inverse or with none named.
+#[tactic(auto, using(crate::proofs::OneBack::back_named))]
 pub(crate) fn lose_back(
     alloc: Global,
     k: u32,
@@ -118,7 +120,7 @@ pub(crate) fn lose_back(
     requires inverse { AllOperatorsAccepted after.now (operators_of inverse.now) }
     requires few { HaveFewNodes (operators_of inverse.now) }
     ensures { OnOk result (losses.new ≡ taken losses_stepped (back_over k before.now
-        (operator_of op.now) after.now (operators_of inverse.now)) losses.old) }
+        (evolution_of op.now) after.now (evolutions_of inverse.now)) losses.old) }
 {
     match inverse {
         [] => lose_one(alloc, (k, 1), before, after, op, losses),

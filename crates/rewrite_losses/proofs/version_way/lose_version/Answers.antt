@@ -1,9 +1,9 @@
 use Rattle.std.proofs.Common.{◌≡◌, ◌+◌, ◌-◌, ◌<◌, ◌∙◌, ℕ, List, length, ap, sym, subst, arith}
 use Rattle.std.proofs.lemmas.Result.{IfOk-weaker}
 use Rattle.smo_ops_types.specs.declared.op.Op.{Op}
-use Rattle.smo_ops_types.specs.Operators.{operator_of, operators_of}
+use Rattle.smo_ops_types.specs.Operators.{operators_of, evolution_of, evolutions_of}
 use Rattle.smo_ops_spec.specs.After.{HaveFewNodes}
-use Rattle.smo_ops_spec.specs.Inverses.{AllOperatorsAccepted}
+use Rattle.smo_ops_spec.specs.Evolutions.{AllOperatorsAccepted}
 use Rattle.smo_ops_versions_spec.specs.Steps.{taken}
 use Rattle.smo_ops_versions_spec.specs.Ways.{back_over}
 use Rattle.smo_ops_versions_spec.specs.LostNames.{losses_stepped}
@@ -70,9 +70,9 @@ returns c =
     c.index-version.result.now below c.index-version.ensures c.tables_at-before.result.now
     c.args.losses.now c.lose_back.new.losses c.tables_at-before.ensures
     (h ∙ ap (λ (n : ℕ). taken losses_stepped (back_over n c.tables_at-before.result.now
-    (operator_of c.index-version.result.now.op) c.index-version.result.now.schema
-    (operators_of c.deref.result.now)) c.args.losses.now) same
+    (evolution_of c.index-version.result.now.op) c.index-version.result.now.schema
+    (evolutions_of c.deref.result.now)) c.args.losses.now) same
     ∙ ap (λ (ops : List Op). taken losses_stepped (back_over (c.args.number - 1 + 1)
-    c.tables_at-before.result.now (operator_of c.index-version.result.now.op)
-    c.index-version.result.now.schema (operators_of ops)) c.args.losses.now)
+    c.tables_at-before.result.now (evolution_of c.index-version.result.now.op)
+    c.index-version.result.now.schema (evolutions_of ops)) c.args.losses.now)
     c.deref.ensures.value)) c.lose_back.ensures
