@@ -1,7 +1,7 @@
 -- Operators one after the other: where none is refused each is accepted, and what an operator keeps
 -- they keep.
 use Rattle.std.proofs.Common.{◌≡◌, ◌+◌, ℕ, Bool, true, false, List, [], ◌∷◌, ◌++◌, refl, ap, ◌∙◌}
-use Rattle.std.specs.Prelude.{◌||◌, Option, Some, None}
+use Rattle.std.specs.Prelude.{◌||◌, is_some, Option, Some, None}
 use Rattle.std.specs.FinMap.{get}
 use Rattle.std.specs.Option.{option_map, option_or}
 use Rattle.prima_base.specs.declared.refusal.OpRefusal.{OpRefusal}
@@ -18,6 +18,7 @@ use Rattle.smo_ops_spec.proofs.Firsts.{none_mapped}
 use Rattle.smo_ops_spec.proofs.NextSchemas.{next_is_valid}
 use Rattle.smo_ops_spec.proofs.MigratedDatabases.{migrated_database}
 use Rattle.smo_ops_spec.proofs.TouchedTables.{neither, table_stays, entry_stays, table_gone}
+use Rattle.smo_ops_spec.proofs.TouchedTables.{made_is_free}
 
 none_of_or : {X : Type 0} (a b : Option X) → option_or a b ≡ None → (a ≡ None) × (b ≡ None)
 none_of_or None b e = (refl, e)
@@ -126,3 +127,22 @@ each_table_gone now (op ∷ ops) n m c =
         → get (schema_after_each (schema_after now op) ops) n ≡ None
     step more p r true q h = not_there (schema_after now op) ops n r (table_gone now op n p q)
     step more p r false q h = more h
+
+-- what one of them makes is free, or one of them consumes it
+pub each_made_is_free : (now : Tables) (ops : List Operator) (n : List ℕ)
+    → AllOperatorsAccepted now ops → one_makes now ops n ≡ true → is_some (get now n) ≡ true
+    → one_consumes now ops n ≡ true
+each_made_is_free now [] n a m t = absurd (cc)
+each_made_is_free now (op ∷ ops) n a m t =
+    step (each_made_is_free (schema_after now op) ops n a.1) (makes now op n) refl
+    (consumes now op n) refl m
+  where
+    step : (one_makes (schema_after now op) ops n ≡ true
+        → is_some (get (schema_after now op) n) ≡ true
+        → one_consumes (schema_after now op) ops n ≡ true) → (x : Bool) → makes now op n ≡ x
+        → (y : Bool) → consumes now op n ≡ y
+        → (x || one_makes (schema_after now op) ops n) ≡ true
+        → (y || one_consumes (schema_after now op) ops n) ≡ true
+    step more x p true q h = refl
+    step more true p false q h = absurd (let f = made_is_free now op n a.0 p t in cc)
+    step more false p false q h = more h (ap is_some (table_stays now op n p q) ∙ t)

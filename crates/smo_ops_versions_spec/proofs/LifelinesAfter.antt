@@ -1,5 +1,5 @@
--- The lifelines after one operator: those of each version up to its own stay, and those of the next
--- are its tables'.
+-- The lifelines after the members of an operator: those of each version up to its own stay, and
+-- those of the next are its tables'.
 use Rattle.std.proofs.Common.{◌≡◌, ◌≤◌, ◌<◌, ◌+◌, ℕ, Bool, true, false, List, [], ◌∷◌, ◌++◌, map, T}
 use Rattle.std.proofs.Common.{refl, sym, ap, subst, ◌∙◌, arith, inl, inr, is_some}
 use Rattle.std.specs.Prelude.{cond, Option, Some, None, ◌⊎◌}
@@ -12,9 +12,9 @@ use Rattle.prima_base.specs.Columns.{Column}
 use Rattle.prima_base.specs.Order.{bytes_cmp}
 use Rattle.schema_catalog.specs.Tables.{Tables}
 use Rattle.smo_ops_types.specs.Commands.{PlainVersion}
-use Rattle.smo_ops_spec.specs.After.{op_fault, schema_after}
-use Rattle.smo_ops_spec.specs.Touching.{makes, consumes}
-use Rattle.smo_ops_spec.proofs.TouchedTables.{table_stays, table_gone, made_is_free}
+use Rattle.smo_ops_spec.specs.Evolutions.{schema_after_each, AllOperatorsAccepted}
+use Rattle.smo_ops_spec.specs.Evolutions.{one_makes, one_consumes}
+use Rattle.smo_ops_spec.proofs.MemberLaws.{each_table_stays, each_table_gone, each_made_is_free}
 use Rattle.smo_ops_versions_spec.specs.Lifelines.{Lifeline, last_after, line_after, line_begun}
 use Rattle.smo_ops_versions_spec.specs.Lifelines.{made_tables}
 use Rattle.smo_ops_versions_spec.specs.Lifelines.{lifelines_after, IsUpTo, Covers, AreApart}
@@ -66,7 +66,7 @@ was_up_to b k (Some last) j h = h
 
 module _ (before : Tables) (k : ℕ) (lines : List Lifeline) (v : PlainVersion) where
   abbrev consumed : List ℕ → Bool
-  consumed = consumes before v.op
+  consumed = one_consumes before v.op
 
   abbrev made : List (List ℕ × List Column)
   made = made_tables before v.op v.tables
@@ -135,8 +135,9 @@ module _ (before : Tables) (k : ℕ) (lines : List Lifeline) (v : PlainVersion) 
 
   -- ---- the next version
 
-  module _ (accepted : op_fault before v.op ≡ None) (is : v.tables ≡ schema_after before v.op)
-      (h : HaveTables k before lines) (b : HaveBegun k lines) where
+  module _ (accepted : AllOperatorsAccepted before v.op)
+      (is : v.tables ≡ schema_after_each before v.op) (h : HaveTables k before lines)
+      (b : HaveBegun k lines) where
     -- one that goes on was of the version before, and is not consumed
     goes_on : (l : Lifeline) → In l lines → Of (k + 1) (line_after consumed k l) → Of k l
         × (consumed l.table ≡ false)
@@ -159,11 +160,11 @@ module _ (before : Tables) (k : ℕ) (lines : List Lifeline) (v : PlainVersion) 
 
     -- a table that stood is made only where it is consumed
     unmade : (l : Lifeline) → In l lines → Of k l → consumed l.table ≡ false
-        → makes before v.op l.table ≡ false
-    unmade l m c e = step (makes before v.op l.table) refl
+        → one_makes before v.op l.table ≡ false
+    unmade l m c e = step (one_makes before v.op l.table) refl
       where
-        step : (x : Bool) → makes before v.op l.table ≡ x → x ≡ false
-        step true q = absurd (let f = made_is_free before v.op l.table accepted q
+        step : (x : Bool) → one_makes before v.op l.table ≡ x → x ≡ false
+        step true q = absurd (let f = each_made_is_free before v.op l.table accepted q
             (ap is_some (h.has l m c)) in cc)
         step false q = refl
 
@@ -172,11 +173,11 @@ module _ (before : Tables) (k : ℕ) (lines : List Lifeline) (v : PlainVersion) 
     stays l m c =
         let g = goes_on l m c in
         ap (λ (x : Tables). get x l.table) is
-        ∙ table_stays before v.op l.table (unmade l m g.0 g.1) g.1 ∙ h.has l m g.0
+        ∙ each_table_stays before v.op l.table (unmade l m g.0 g.1) g.1 ∙ h.has l m g.0
 
     is_made : (t : List ℕ × List Column) → In t made → In t (entries v.tables)
-        × (makes before v.op t.0 ≡ true)
-    is_made t m = from_filter (λ (x : List ℕ × List Column). makes before v.op x.0) t
+        × (one_makes before v.op t.0 ≡ true)
+    is_made t m = from_filter (λ (x : List ℕ × List Column). one_makes before v.op x.0) t
         (entries v.tables) m
 
     has_next : (l : Lifeline) → In l next → Of (k + 1) l → get v.tables l.table ≡ Some l.columns
@@ -191,10 +192,10 @@ module _ (before : Tables) (k : ℕ) (lines : List Lifeline) (v : PlainVersion) 
     Found name = (l : Lifeline) × In l next × Of (k + 1) l × (l.table ≡ name)
 
     begins_here : (name : List ℕ) (columns : List Column) → get v.tables name ≡ Some columns
-        → makes before v.op name ≡ true → Found name
+        → one_makes before v.op name ≡ true → Found name
     begins_here name columns e q = (
       line_begun (k + 1) (name, columns),
-      begins (name, columns) (in_filter (λ (x : List ℕ × List Column). makes before v.op x.0)
+      begins (name, columns) (in_filter (λ (x : List ℕ × List Column). one_makes before v.op x.0)
           (name, columns) (entries v.tables) (entry_under v.tables name columns e) q),
       (omega arith, tt),
       refl,
@@ -208,14 +209,14 @@ module _ (before : Tables) (k : ℕ) (lines : List Lifeline) (v : PlainVersion) 
 
     each_next : (name : List ℕ) (columns : List Column) → get v.tables name ≡ Some columns
         → Found name
-    each_next name columns e = step (makes before v.op name) refl (consumed name) refl
+    each_next name columns e = step (one_makes before v.op name) refl (consumed name) refl
       where
-        step : (x : Bool) → makes before v.op name ≡ x → (y : Bool) → consumed name ≡ y → Found name
+        step : (x : Bool) → one_makes before v.op name ≡ x → (y : Bool) → consumed name ≡ y → Found name
         step true q y p = begins_here name columns e q
-        step false q true p = absurd (let g = table_gone before v.op name q p in let f =
+        step false q true p = absurd (let g = each_table_gone before v.op name q p in let f =
             ap (λ (x : Tables). get x name) (sym is) in cc)
         step false q false p = lives_here name columns
-            (sym (table_stays before v.op name q p) ∙ ap (λ (x : Tables). get x name) (sym is) ∙ e)
+            (sym (each_table_stays before v.op name q p) ∙ ap (λ (x : Tables). get x name) (sym is) ∙ e)
             p
 
     stood_apart : (ls : List Lifeline) → ((l : Lifeline) → In l ls → In l lines) → AreApart k ls
@@ -257,7 +258,7 @@ module _ (before : Tables) (k : ℕ) (lines : List Lifeline) (v : PlainVersion) 
         let q = (is_made t.0 t.1).1 in
         let same : x.0.table ≡ t.0.0 = ap (λ (y : Lifeline). y.table) x.2 ∙ e
         ∙ ap (λ (y : Lifeline). y.table) (sym t.2) in
-        let f = ap (makes before v.op) same in
+        let f = ap (one_makes before v.op) same in
         absurd (cc)
 
     pub tables_next : HaveTables (k + 1) v.tables next
@@ -266,7 +267,7 @@ module _ (before : Tables) (k : ℕ) (lines : List Lifeline) (v : PlainVersion) 
       each = each_next;
       once = both_apart (k + 1) (map (line_after consumed k) lines) (map (line_begun (k + 1)) made)
           (stood_apart lines (λ l m. m) h.once)
-          (begun_apart (λ (x : List ℕ × List Column). makes before v.op x.0) (entries v.tables)
+          (begun_apart (λ (x : List ℕ × List Column). one_makes before v.op x.0) (entries v.tables)
           (entries_sorted v.tables)) none_twice;
     }
 

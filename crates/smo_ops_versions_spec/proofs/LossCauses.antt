@@ -1,5 +1,6 @@
--- What is lost on a way is lost by a version that is gone back over, names no inverse, and has none
--- derived.
+-- What is lost on a way is lost by a version that is gone back over, names no inverse, and has a
+-- member with none derived.
+use Rattle.std.proofs.Common.{◌++◌, length, length-append, append_assoc}
 use Rattle.std.proofs.Common.{◌≡◌, ◌+◌, ◌<◌, ◌≤◌, ℕ, Bool, true, false, List, []}
 use Rattle.std.proofs.Common.{◌∷◌, refl, sym, ap, subst, ◌∙◌, arith}
 use Rattle.std.proofs.lemmas.Option.{same_Some}
@@ -24,13 +25,15 @@ use Rattle.smo_ops_spec.specs.OperatorTable.{Made, line, made_names}
 use Rattle.smo_ops_spec.specs.Touching.{made_of}
 use Rattle.smo_ops_spec.specs.Losses.{Loss, first_loss}
 use Rattle.smo_ops_spec.specs.After.{schema_after}
+use Rattle.smo_ops_spec.specs.Evolutions.{schema_after_each, members_of_all}
+use Rattle.smo_ops_spec.proofs.MemberLaws.{schema_after_both}
 use Rattle.smo_ops_spec.specs.Past.{no_tables, tables_from}
 use Rattle.smo_ops_spec.specs.WaysBack.{FilledColumn, WayBack, by_inverse, by_filling, no_way}
 use Rattle.smo_ops_spec.specs.WaysBack.{way_back_over}
 use Rattle.smo_ops_versions_spec.specs.Steps.{Step, carrying, filling, undoing, carrying_each}
 use Rattle.smo_ops_versions_spec.specs.Steps.{taken, AllSteps}
-use Rattle.smo_ops_versions_spec.specs.Ways.{step_by, back_over, over_version, back_over_version}
-use Rattle.smo_ops_versions_spec.specs.Ways.{way}
+use Rattle.smo_ops_versions_spec.specs.Ways.{step_by, step_back, back_over_members, back_over}
+use Rattle.smo_ops_versions_spec.specs.Ways.{over_version, back_over_version, way}
 use Rattle.smo_ops_versions_spec.specs.ColumnLosses.{TableLoss, WholeTable, OfColumns, Losses}
 use Rattle.smo_ops_versions_spec.specs.ColumnLosses.{whole_loss, lost_columns, table_loss}
 use Rattle.smo_ops_versions_spec.specs.ColumnLosses.{column_loss, put_loss, gathered}
@@ -39,7 +42,7 @@ use Rattle.smo_ops_versions_spec.specs.LostNames.{made_column_loss, made_as, non
 use Rattle.smo_ops_versions_spec.specs.LostNames.{with_made, losses_over, filled_at}
 use Rattle.smo_ops_versions_spec.specs.LostNames.{losses_filled, losses_undone, losses_stepped}
 use Rattle.smo_ops_versions_spec.specs.LostNames.{lost_names, Loses, IsUnnamed}
-use Rattle.smo_ops_versions_spec.proofs.StepLaws.{taken_kept}
+use Rattle.smo_ops_versions_spec.proofs.StepLaws.{taken_kept, all_both}
 use Rattle.smo_ops_versions_spec.proofs.WaySteps.{way_all}
 
 -- the first loss of several is that of one of them
@@ -257,40 +260,63 @@ module _ (versions : List PlainVersion) (v q : ℕ) where
   over_next : (before : Tables) (o : Option PlainVersion)
       → AllSteps (Brings Cause) (over_version before o)
   over_next before None = tt
-  over_next before (Some w) = (tt, tt)
+  over_next before (Some w) = carrying_brings Cause before w.op
 
-  cause : (k : ℕ) (w : PlainVersion) → q ≤ k → k < v → slice_get versions k ≡ Some w
-      → w.inverse ≡ [] → Loses (way_back_over (tables_from no_tables versions k) w.op)
-      → Cause (k + 1, 1)
-  cause k w a b is e u = record {
+  cause : (k : ℕ) (w : PlainVersion) (earlier : List Operator) (op : Operator)
+      (later : List Operator) → q ≤ k → k < v → slice_get versions k ≡ Some w → w.inverse ≡ []
+      → w.op ≡ earlier ++ op ∷ later → (place : ℕ) → place ≡ length earlier + 1 → (t : Tables)
+      → t ≡ schema_after_each (tables_from no_tables versions k) earlier
+      → Loses (way_back_over t op) → Cause (k + 1, place)
+  cause k w earlier op later a b is e m place p t s u = record {
     before = k;
     by = w;
     is = is;
     unnamed = e;
-    underived = u;
+    earlier = earlier;
+    member = op;
+    later = later;
+    members = m;
+    underived = subst (λ (x : Tables). Loses (way_back_over x op)) s u;
     from = a;
     to = b;
-    lost = refl;
+    lost = ap (λ (x : ℕ). (k + 1, x)) p;
   }
 
-  by_one : (k : ℕ) (w : PlainVersion) → q ≤ k → k < v → slice_get versions k ≡ Some w
-      → w.inverse ≡ [] → (way : WayBack) → way_back_over (tables_from no_tables versions k) w.op
-      ≡ way
-      → Brings Cause (step_by (k + 1, 1) (tables_from no_tables versions k) w.op way)
-  by_one k w a b is e (by_inverse d) n = tt
-  by_one k w a b is e (by_filling f) n = cause k w a b is e (subst Loses (sym n) tt)
-  by_one k w a b is e no_way n = cause k w a b is e (subst Loses (sym n) tt)
+  by_one : (k : ℕ) (w : PlainVersion) (earlier : List Operator) (op : Operator)
+      (later : List Operator) → q ≤ k → k < v → slice_get versions k ≡ Some w → w.inverse ≡ []
+      → w.op ≡ earlier ++ op ∷ later → (place : ℕ) → place ≡ length earlier + 1 → (t : Tables)
+      → t ≡ schema_after_each (tables_from no_tables versions k) earlier
+      → (way : WayBack) → way_back_over t op ≡ way
+      → Brings Cause (step_by (k + 1, place) t op way)
+  by_one k w earlier op later a b is e m place p t s (by_inverse d) n = tt
+  by_one k w earlier op later a b is e m place p t s (by_filling f) n =
+      cause k w earlier op later a b is e m place p t s (subst Loses (sym n) tt)
+  by_one k w earlier op later a b is e m place p t s no_way n =
+      cause k w earlier op later a b is e m place p t s (subst Loses (sym n) tt)
 
-  back_one : (k : ℕ) (w : PlainVersion) (ops : List Operator) → q ≤ k → k < v
+  back_members : (k : ℕ) (w : PlainVersion) (earlier ops : List Operator) → q ≤ k → k < v
+      → slice_get versions k ≡ Some w → w.inverse ≡ [] → w.op ≡ earlier ++ ops → (place : ℕ)
+      → place ≡ length earlier + 1 → (t : Tables)
+      → t ≡ schema_after_each (tables_from no_tables versions k) earlier
+      → AllSteps (Brings Cause) (back_over_members (k + 1) place t ops)
+  back_members k w earlier [] a b is e m place p t s = tt
+  back_members k w earlier (op ∷ ops) a b is e m place p t s =
+      all_both (Brings Cause) (back_over_members (k + 1) (place + 1) (schema_after t op) ops)
+      (step_back (k + 1, place) t op ∷ [])
+      (back_members k w (earlier ++ op ∷ []) ops a b is e
+      (m ∙ sym (append_assoc earlier (op ∷ []) ops)) (place + 1)
+      (let l = length-append earlier (op ∷ []) in omega (arith, p, l)) (schema_after t op)
+      (ap (λ (x : Tables). schema_after x op) s
+      ∙ sym (schema_after_both (tables_from no_tables versions k) earlier (op ∷ []))))
+      (by_one k w earlier op ops a b is e m place p t s (way_back_over t op) refl, tt)
+
+  back_one : (k : ℕ) (w : PlainVersion) (ops : List (List Operator)) → q ≤ k → k < v
       → slice_get versions k ≡ Some w → w.inverse ≡ ops
       → AllSteps (Brings Cause) (back_over (k + 1) (tables_from no_tables versions k) w.op w.tables
       ops)
-  back_one k w [] a b is e = (
-    by_one k w a b is e
-        (way_back_over (tables_from no_tables versions k) w.op) refl,
-    tt,
-  )
-  back_one k w (i ∷ ops) a b is e = carrying_brings Cause w.tables (i ∷ ops)
+  back_one k w [] a b is e = back_members k w [] w.op a b is e refl 1 refl
+      (tables_from no_tables versions k) refl
+  back_one k w (i ∷ ops) a b is e = carrying_brings Cause w.tables (members_of_all (i ∷ ops))
 
   back_next : (k : ℕ) (o : Option PlainVersion) → q ≤ k → k < v → slice_get versions k ≡ o
       → AllSteps (Brings Cause) (back_over_version (k + 1) (tables_from no_tables versions k) o)

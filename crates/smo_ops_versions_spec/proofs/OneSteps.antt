@@ -12,54 +12,71 @@ use Rattle.smo_ops_spec.specs.OneRow.{same}
 use Rattle.smo_ops_spec.specs.Preconditions.{among}
 use Rattle.smo_ops_spec.specs.OperatorTable.{line, made_names}
 use Rattle.smo_ops_spec.specs.Touching.{makes, consumes}
-use Rattle.smo_ops_spec.specs.After.{lose_all, schema_after}
+use Rattle.smo_ops_spec.specs.After.{schema_after, migrate, lose_all}
+use Rattle.smo_ops_spec.specs.Evolutions.{carried_each, members_of_all}
 use Rattle.smo_ops_spec.specs.Losses.{Loss}
 use Rattle.smo_ops_spec.specs.Past.{no_tables, tables_from}
 use Rattle.smo_ops_spec.proofs.TouchedTables.{lost_others}
 use Rattle.smo_ops_spec.specs.WaysBack.{FilledColumn, WayBack, by_inverse, by_filling, no_way}
 use Rattle.smo_ops_spec.specs.WaysBack.{way_back_over}
-use Rattle.smo_ops_versions_spec.specs.Steps.{carrying, filling, undoing, carrying_each}
-use Rattle.smo_ops_versions_spec.specs.Ways.{step_by, step_back, back_over, over_version}
-use Rattle.smo_ops_versions_spec.specs.Ways.{back_over_version, to_next, from_next}
-use Rattle.smo_ops_versions_spec.specs.Migration.{lost_by, undone}
+use Rattle.smo_ops_versions_spec.specs.Steps.{Step, carrying, filling, undoing, carrying_each}
+use Rattle.smo_ops_versions_spec.specs.Steps.{taken}
+use Rattle.smo_ops_versions_spec.specs.Ways.{step_by, step_back, back_over_members, back_over}
+use Rattle.smo_ops_versions_spec.specs.Ways.{over_version, back_over_version, to_next, from_next}
+use Rattle.smo_ops_versions_spec.specs.Migration.{stepped, lost_by, undone}
+use Rattle.smo_ops_versions_spec.proofs.StepLaws.{taken_both}
 
 module _ (versions : List PlainVersion) (k : ℕ) (v : PlainVersion)
     (is : slice_get versions k ≡ Some v) where
   abbrev before : Tables
   before = tables_from no_tables versions k
 
-  pub over_is : to_next versions k ≡ carrying (tables_from no_tables versions k) v.op ∷ []
+  pub over_is : to_next versions k ≡ carrying_each (tables_from no_tables versions k) v.op
   over_is = ap (λ (o : Option PlainVersion). over_version before o) is
 
   back_is : from_next versions k ≡ back_over (k + 1) before v.op v.tables v.inverse
   back_is = ap (λ (o : Option PlainVersion). back_over_version (k + 1) before o) is
 
-  pub named_is : (i : Operator) (rest : List Operator) → v.inverse ≡ i ∷ rest
-      → from_next versions k ≡ carrying_each v.tables v.inverse
+  pub named_is : (i : List Operator) (rest : List (List Operator)) → v.inverse ≡ i ∷ rest
+      → from_next versions k ≡ carrying_each v.tables (members_of_all v.inverse)
   named_is i rest e =
-      back_is ∙ ap (λ (ops : List Operator). back_over (k + 1) before v.op v.tables ops) e
-      ∙ sym (ap (λ (ops : List Operator). carrying_each v.tables ops) e)
+      back_is ∙ ap (λ (ops : List (List Operator)). back_over (k + 1) before v.op v.tables ops) e
+      ∙ sym (ap (λ (ops : List (List Operator)). carrying_each v.tables (members_of_all ops)) e)
 
   pub unnamed_is : v.inverse ≡ []
-      → from_next versions k ≡ step_back (k + 1, 1) (tables_from no_tables versions k) v.op ∷ []
-  unnamed_is e = back_is ∙ ap (λ (ops : List Operator).
+      → from_next versions k ≡ back_over_members (k + 1) 1 (tables_from no_tables versions k) v.op
+  unnamed_is e = back_is ∙ ap (λ (ops : List (List Operator)).
       back_over (k + 1) before v.op v.tables ops) e
 
-  pub derived_is : (op : Operator) → v.inverse ≡ []
-      → way_back_over (tables_from no_tables versions k) v.op ≡ by_inverse op
-      → from_next versions k
-      ≡ carrying (schema_after (tables_from no_tables versions k) v.op) op ∷ []
-  derived_is op e n = unnamed_is e ∙ ap (λ (w : WayBack). step_by (k + 1, 1) before v.op w ∷ []) n
+-- over operators, first to last
+pub carried_over_each : (tables : Tables) (ops : List Operator) (db : Database)
+    → taken stepped (carrying_each tables ops) db ≡ carried_each tables ops db
+carried_over_each tables [] db = refl
+carried_over_each tables (op ∷ ops) db = carried_over_each (schema_after tables op) ops
+    (migrate tables op db)
 
-  pub filled_is : (f : FilledColumn) → v.inverse ≡ []
-      → way_back_over (tables_from no_tables versions k) v.op ≡ by_filling f
-      → from_next versions k
-      ≡ filling (k + 1, 1) (schema_after (tables_from no_tables versions k) v.op) f ∷ []
-  filled_is f e n = unnamed_is e ∙ ap (λ (w : WayBack). step_by (k + 1, 1) before v.op w ∷ []) n
+-- and back over them, the last first
+pub back_over_first : {X : Type 0} (by : Step → X → X) (k i : ℕ) (before : Tables) (op : Operator)
+    (ops : List Operator) (x : X) → taken by (back_over_members k i before (op ∷ ops)) x
+    ≡ by (step_back (k, i) before op)
+    (taken by (back_over_members k (i + 1) (schema_after before op) ops) x)
+back_over_first by k i before op ops x = taken_both by
+    (back_over_members k (i + 1) (schema_after before op) ops) (step_back (k, i) before op ∷ []) x
 
-  pub no_way_is : v.inverse ≡ [] → way_back_over (tables_from no_tables versions k) v.op ≡ no_way
-      → from_next versions k ≡ undoing (k + 1, 1) (tables_from no_tables versions k) v.op ∷ []
-  no_way_is e n = unnamed_is e ∙ ap (λ (w : WayBack). step_by (k + 1, 1) before v.op w ∷ []) n
+-- ---- back over one operator
+
+module _ (loss : Loss) (before : Tables) (op : Operator) where
+  pub derived_is : (inverse : Operator) → way_back_over before op ≡ by_inverse inverse
+      → step_back loss before op ≡ carrying (schema_after before op) inverse
+  derived_is inverse n = ap (λ (w : WayBack). step_by loss before op w) n
+
+  pub filled_is : (f : FilledColumn) → way_back_over before op ≡ by_filling f
+      → step_back loss before op ≡ filling loss (schema_after before op) f
+  filled_is f n = ap (λ (w : WayBack). step_by loss before op w) n
+
+  pub no_way_is : way_back_over before op ≡ no_way
+      → step_back loss before op ≡ undoing loss before op
+  no_way_is n = ap (λ (w : WayBack). step_by loss before op w) n
 
 -- ---- back over an operator with no inverse, table by table
 

@@ -33,6 +33,7 @@ use Rattle.smo_ops_spec.proofs.NextSchemas.{all_preconditions, is_table}
 use Rattle.smo_ops_spec.proofs.MetPreconditions.{RenameMet, rename_met, PartitionMet}
 use Rattle.smo_ops_spec.proofs.MetPreconditions.{partition_met}
 use Rattle.smo_ops_spec.proofs.TouchedTables.{opposite, free_name}
+use Rattle.smo_ops_spec.proofs.MemberLaws.{accepted_all}
 use Rattle.smo_ops_spec.proofs.InverseLaws.{alike_itself, accepted_so}
 use Rattle.smo_ops_spec.proofs.WholeTables.{found, in_parts}
 
@@ -202,8 +203,12 @@ module _ (tables : Tables) (r t : List ℕ) (e : op_fault tables (rename_table r
       ∙ renamed_back tables r t (columns_of tables r) (sym (found (get tables r) rename_is))
       rename_free
 
-  pub rename_inverse : inverse_fault tables (rename_table r t) (rename_table t r ∷ []) ≡ None
-  rename_inverse = accepted_so tables (rename_table r t) (rename_table t r ∷ []) (back_accepted, tt)
+  pub rename_inverse : inverse_fault tables (rename_table r t ∷ []) ((rename_table t r ∷ []) ∷ []) ≡ None
+  rename_inverse = accepted_so tables (rename_table r t ∷ []) ((rename_table t r ∷ []) ∷ []) (
+    accepted_all (schema_after tables (rename_table r t)) (rename_table t r ∷ [])
+        (back_accepted, tt),
+    tt,
+  )
       back_schema
 
   pub rename_back : (db : Database) → IsDatabaseWithLosses tables db
@@ -237,8 +242,12 @@ module _ (tables : Tables) (r t : List ℕ) (e : op_fault tables (copy_table r t
   pub copy_back_schema : schema_after (schema_after tables (copy_table r t)) (drop_table t) ≡ tables
   copy_back_schema = dropped_again tables t (columns_of tables r) copy_free
 
-  pub copy_inverse : inverse_fault tables (copy_table r t) (drop_table t ∷ []) ≡ None
-  copy_inverse = accepted_so tables (copy_table r t) (drop_table t ∷ []) (copy_back_accepted, tt)
+  pub copy_inverse : inverse_fault tables (copy_table r t ∷ []) ((drop_table t ∷ []) ∷ []) ≡ None
+  copy_inverse = accepted_so tables (copy_table r t ∷ []) ((drop_table t ∷ []) ∷ []) (
+    accepted_all (schema_after tables (copy_table r t)) (drop_table t ∷ [])
+        (copy_back_accepted, tt),
+    tt,
+  )
       copy_back_schema
 
   pub copy_back : (db : Database) → IsDatabaseWithLosses tables db
@@ -338,10 +347,10 @@ module _ (tables : Tables) (r s t : List ℕ) (c : Test)
       ∙ merged_back tables r s t its its its (sym (found (get tables r) part_is)) first_free
       second_free
 
-  pub partition_inverse : inverse_fault tables (partition_table r s c t) (merge_table s t r ∷ [])
+  pub partition_inverse : inverse_fault tables (partition_table r s c t ∷ []) ((merge_table s t r ∷ []) ∷ [])
       ≡ None
-  partition_inverse = accepted_so tables (partition_table r s c t) (merge_table s t r ∷ [])
-      (merge_accepted, tt) merge_schema
+  partition_inverse = accepted_so tables (partition_table r s c t ∷ []) ((merge_table s t r ∷ []) ∷ [])
+      (accepted_all parts (merge_table s t r ∷ []) (merge_accepted, tt), tt) merge_schema
 
   pub partition_back : (db : Database) → IsDatabaseWithLosses tables db
       → migrate (schema_after tables (partition_table r s c t)) (merge_table s t r)

@@ -35,6 +35,8 @@ use Rattle.smo_ops_spec.proofs.MetPreconditions.{create_met, decompose_met, drop
 use Rattle.smo_ops_spec.proofs.MadeRows.{column_named, both}
 use Rattle.smo_ops_spec.proofs.TouchedTables.{neither}
 use Rattle.smo_ops_spec.proofs.WholeTables.{found}
+use Rattle.smo_ops_spec.specs.Evolutions.{schema_after_each, AllOperatorsAccepted}
+use Rattle.smo_ops_spec.proofs.MemberLaws.{all_accepted, each_is_valid}
 use Rattle.smo_ops_versions_spec.specs.TableColumns.{HaveColumns}
 
 -- a list of columns that is not empty
@@ -178,6 +180,14 @@ no_tables_have n columns e =
     none_some : ◌≡◌ {A = Option (List Column)} None (Some columns) → ⊥
     none_some q = cc
 
+-- operators one after the other
+pub each_has_columns : (now : Tables) (ops : List Operator) → IsValid now → HaveColumns now
+    → AllOperatorsAccepted now ops → HaveColumns (schema_after_each now ops)
+each_has_columns now [] good have a = have
+each_has_columns now (op ∷ ops) good have a =
+    each_has_columns (schema_after now op) ops (next_is_valid now op good a.0)
+    (next_has_columns now op good.schema have a.0) a.1
+
 -- the tables of each version
 pub columns_from : (last : Option ℕ) (before : Tables) (versions : List PlainVersion) (k : ℕ)
     → IsValid before → HaveColumns before → AreVersions last before versions
@@ -185,7 +195,7 @@ pub columns_from : (last : Option ℕ) (before : Tables) (versions : List PlainV
 columns_from last before [] k good have are = have
 columns_from last before (v ∷ versions) zero good have are = have
 columns_from last before (v ∷ versions) (suc k) good have are =
+    let a = all_accepted before v.op are.0.accepted in
     columns_from (Some v.stamp) v.tables versions k
-    (subst IsValid (sym are.0.tables) (next_is_valid before v.op good are.0.accepted))
-    (subst HaveColumns (sym are.0.tables)
-    (next_has_columns before v.op good.schema have are.0.accepted)) are.1
+    (subst IsValid (sym are.0.tables) (each_is_valid before v.op good a))
+    (subst HaveColumns (sym are.0.tables) (each_has_columns before v.op good have a)) are.1

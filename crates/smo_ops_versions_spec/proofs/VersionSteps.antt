@@ -4,7 +4,7 @@ use Rattle.std.specs.Prelude.{Option, Some, None, slice_get}
 use Rattle.schema_catalog.specs.Tables.{Tables}
 use Rattle.smo_ops_types.specs.Commands.{evolving, PlainVersion}
 use Rattle.smo_ops_spec.specs.Counts.{first_excess}
-use Rattle.smo_ops_spec.specs.After.{op_fault, schema_after}
+use Rattle.smo_ops_spec.specs.Evolutions.{schema_after_each, evolution_fault}
 use Rattle.smo_ops_spec.specs.Inverses.{inverse_fault}
 use Rattle.smo_ops_spec.specs.Past.{tables_from}
 use Rattle.smo_ops_spec.specs.ValidPast.{AreVersions}
@@ -12,9 +12,9 @@ use Rattle.smo_ops_spec.specs.ValidPast.{AreVersions}
 -- the version that comes after the tables `before`, and leads to `next`
 pub record Leads (before after : Tables) (v : PlainVersion) : Type 0 where
   pub counted : first_excess (evolving v.op v.inverse) ≡ None
-  pub accepted : op_fault before v.op ≡ None
+  pub accepted : evolution_fault before v.op ≡ None
   pub inverse : inverse_fault before v.op v.inverse ≡ None
-  pub tables : v.tables ≡ schema_after before v.op
+  pub tables : v.tables ≡ schema_after_each before v.op
   pub next : after ≡ v.tables
 
 pub leads : (last : Option ℕ) (before : Tables) (versions : List PlainVersion) (k : ℕ)

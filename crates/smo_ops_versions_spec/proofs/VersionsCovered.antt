@@ -8,6 +8,7 @@ use Rattle.schema_catalog.specs.Tables.{Tables}
 use Rattle.smo_ops_types.specs.Commands.{PlainVersion}
 use Rattle.smo_ops_spec.specs.ValidPast.{AreVersions}
 use Rattle.smo_ops_spec.specs.Past.{no_tables, tables_from}
+use Rattle.smo_ops_spec.proofs.MemberLaws.{all_accepted}
 use Rattle.smo_ops_versions_spec.specs.Lifelines.{Lifeline, lifelines_after, lifelines_from}
 use Rattle.smo_ops_versions_spec.specs.Lifelines.{lifelines_of}
 use Rattle.smo_ops_versions_spec.specs.Lifelines.{HaveTables}
@@ -36,9 +37,9 @@ all_covered last before k lines (v ∷ versions) are h b zero j l e =
     (still_covered before k before k lines (v ∷ versions) (omega arith) h)
 all_covered last before k lines (v ∷ versions) are h b (suc i) j l e =
     all_covered (Some v.stamp) v.tables (k + 1) (lifelines_after before k lines v) versions are.1
-    (tables_next before k lines v are.0.accepted are.0.tables h b)
-    (begun_next before k lines v are.0.accepted are.0.tables h b) i j (omega (arith, l))
-    (omega (arith, e))
+    (tables_next before k lines v (all_accepted before v.op are.0.accepted) are.0.tables h b)
+    (begun_next before k lines v (all_accepted before v.op are.0.accepted) are.0.tables h b) i j
+    (omega (arith, l)) (omega (arith, e))
 
 pub each_covered : (versions : List PlainVersion) (k : ℕ) → AreVersions None no_tables versions
     → k ≤ length versions → HaveTables k (tables_from no_tables versions k) (lifelines_of versions)

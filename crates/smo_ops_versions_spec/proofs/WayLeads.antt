@@ -12,7 +12,8 @@ use Rattle.smo_ops_types.specs.Operators.{copy_table, merge_table, partition_tab
 use Rattle.smo_ops_types.specs.Operators.{join_table, add_column, drop_column, rename_column}
 use Rattle.smo_ops_types.specs.Commands.{PlainVersion}
 use Rattle.smo_ops_spec.specs.After.{op_fault, schema_after, IsValid}
-use Rattle.smo_ops_spec.specs.Inverses.{inverse_fault, schema_after_each, AllOperatorsAccepted}
+use Rattle.smo_ops_spec.specs.Inverses.{inverse_fault, schema_after_all, AllAcceptedInTurn}
+use Rattle.smo_ops_spec.specs.Evolutions.{schema_after_each, AllOperatorsAccepted, members_of_all}
 use Rattle.std.specs.FinMap.{get}
 use Rattle.smo_ops_spec.specs.Effects.{columns_of}
 use Rattle.smo_ops_spec.specs.Losses.{Loss}
@@ -26,13 +27,15 @@ use Rattle.smo_ops_spec.proofs.WholeTables.{found}
 use Rattle.smo_ops_spec.proofs.PastSteps.{beginning_is_past}
 use Rattle.smo_ops_spec.proofs.VersionsInTurn.{valid_from}
 use Rattle.smo_ops_spec.proofs.ValidInverses.{accepted_leads_back}
+use Rattle.smo_ops_spec.proofs.MemberLaws.{all_accepted, each_is_valid, schema_after_both}
+use Rattle.smo_ops_spec.proofs.MemberLaws.{accepted_both}
 use Rattle.smo_ops_versions_spec.specs.TableColumns.{HaveColumns}
-use Rattle.smo_ops_versions_spec.specs.Steps.{carrying_each, Lead}
-use Rattle.smo_ops_versions_spec.specs.Ways.{step_by, step_back, back_over, over_version, back_over_version}
-use Rattle.smo_ops_versions_spec.specs.Ways.{to_next, from_next}
+use Rattle.smo_ops_versions_spec.specs.Steps.{carrying, carrying_each, Lead}
+use Rattle.smo_ops_versions_spec.specs.Ways.{step_by, step_back, back_over_members, back_over}
+use Rattle.smo_ops_versions_spec.specs.Ways.{over_version, back_over_version, to_next, from_next}
 use Rattle.smo_ops_versions_spec.specs.Ways.{forward, backward, way}
 use Rattle.smo_ops_versions_spec.proofs.StepLaws.{lead_both}
-use Rattle.smo_ops_versions_spec.proofs.SomeColumns.{no_tables_have, columns_from}
+use Rattle.smo_ops_versions_spec.proofs.SomeColumns.{no_tables_have, columns_from, next_has_columns}
 use Rattle.smo_ops_versions_spec.proofs.RoundTrips.{back_accepted, back_schema, copy_back_accepted}
 use Rattle.smo_ops_versions_spec.proofs.RoundTrips.{copy_back_schema, merge_accepted, merge_schema}
 use Rattle.smo_ops_versions_spec.proofs.WaysBackLaws.{create_back_accepted, create_back_schema}
@@ -114,16 +117,42 @@ step_leads loss before op good have a =
         (record { valid = next; accepted = filled.accepted }, refl, filled.leads)
     by_way no_way h = (record { valid = good; accepted = a }, refl, refl)
 
-back_leads_over : (k : ℕ) (before : Tables) (op : Operator) (inverse : List Operator)
-    → IsValid before → HaveColumns before → op_fault before op ≡ None
+-- back over members, from the last to the first
+members_lead : (k i : ℕ) (before : Tables) (ops : List Operator) → IsValid before
+    → HaveColumns before → AllOperatorsAccepted before ops
+    → Lead (schema_after_each before ops) (back_over_members k i before ops) before
+members_lead k i before [] good have a = refl
+members_lead k i before (op ∷ ops) good have a =
+    lead_both (schema_after_each (schema_after before op) ops) (schema_after before op) before
+    (back_over_members k (i + 1) (schema_after before op) ops) (step_back (k, i) before op ∷ [])
+    (members_lead k (i + 1) (schema_after before op) ops (next_is_valid before op good a.0)
+    (next_has_columns before op good.schema have a.0) a.1)
+    (step_leads (k, i) before op good have a.0)
+
+-- the members of the operators of an inverse
+accepted_members : (now : Tables) (ops : List (List Operator)) → AllAcceptedInTurn now ops
+    → AllOperatorsAccepted now (members_of_all ops)
+    × (schema_after_each now (members_of_all ops) ≡ schema_after_all now ops)
+accepted_members now [] a = (tt, refl)
+accepted_members now (op ∷ ops) a =
+    let r = accepted_members (schema_after_each now op) ops a.1 in (
+      accepted_both now op (members_of_all ops) (all_accepted now op a.0) r.0,
+      schema_after_both now op (members_of_all ops) ∙ r.1,
+    )
+
+back_leads_over : (k : ℕ) (before : Tables) (op : List Operator) (inverse : List (List Operator))
+    → IsValid before → HaveColumns before → AllOperatorsAccepted before op
     → inverse_fault before op inverse ≡ None
-    → Lead (schema_after before op) (back_over k before op (schema_after before op) inverse) before
-back_leads_over k before op [] good have a i = step_leads (k, 1) before op good have a
+    → Lead (schema_after_each before op) (back_over k before op (schema_after_each before op)
+    inverse) before
+back_leads_over k before op [] good have a i = members_lead k 1 before op good have a
 back_leads_over k before op (x ∷ inverse) good have a i =
     let r = accepted_leads_back before op x inverse i in
-    subst (λ t. Lead (schema_after before op) (carrying_each (schema_after before op)
-    (x ∷ inverse)) t) r.1
-    (carrying_leads (schema_after before op) (x ∷ inverse) (next_is_valid before op good a) r.0)
+    let m = accepted_members (schema_after_each before op) (x ∷ inverse) r.0 in
+    subst (λ t. Lead (schema_after_each before op) (carrying_each (schema_after_each before op)
+    (members_of_all (x ∷ inverse))) t) (m.1 ∙ r.1)
+    (carrying_leads (schema_after_each before op) (members_of_all (x ∷ inverse))
+    (each_is_valid before op good a) m.0)
 
 module _ (versions : List PlainVersion) (are : AreVersions None no_tables versions) where
   abbrev at : ℕ → Tables
@@ -144,7 +173,8 @@ module _ (versions : List PlainVersion) (are : AreVersions None no_tables versio
       step None e = sym (stands no_tables versions k e)
       step (Some v) e =
           let s = leads None no_tables versions k v are e in
-          (record { valid = valid_at k; accepted = s.accepted }, refl, sym (s.next ∙ s.tables))
+          subst (λ t. Lead (at k) (carrying_each (at k) v.op) t) (sym (s.next ∙ s.tables))
+          (carrying_leads (at k) v.op (valid_at k) (all_accepted (at k) v.op s.accepted))
 
   pub back_leads : (k : ℕ) → Lead (tables_from no_tables versions (k + 1)) (from_next versions k)
       (tables_from no_tables versions k)
@@ -157,10 +187,10 @@ module _ (versions : List PlainVersion) (are : AreVersions None no_tables versio
           let s = leads None no_tables versions k v are e in
           subst (λ t. Lead t (back_over (k + 1) (at k) v.op v.tables v.inverse) (at k))
           (sym (s.next ∙ s.tables))
-          (subst (λ t. Lead (schema_after (at k) v.op) (back_over (k + 1) (at k) v.op t v.inverse)
+          (subst (λ t. Lead (schema_after_each (at k) v.op) (back_over (k + 1) (at k) v.op t v.inverse)
           (at k)) (sym s.tables)
-          (back_leads_over (k + 1) (at k) v.op v.inverse (valid_at k) (columns_at k) s.accepted
-          s.inverse))
+          (back_leads_over (k + 1) (at k) v.op v.inverse (valid_at k) (columns_at k)
+          (all_accepted (at k) v.op s.accepted) s.inverse))
 
   forward_leads : (v n : ℕ) → Lead (at v) (forward (to_next versions) v n) (at (v + n))
   forward_leads v zero = (let here : v ≡ v + 0 = omega arith in

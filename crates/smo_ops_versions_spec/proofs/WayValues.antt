@@ -1,6 +1,6 @@
 -- Valid values stay valid on the way.
-use Rattle.std.proofs.Common.{◌+◌, ℕ, zero, suc, true, false, List, [], ◌∷◌, refl, sym, subst}
-use Rattle.std.proofs.Common.{arith}
+use Rattle.std.proofs.Common.{◌++◌, ◌+◌, ℕ, zero, suc, true, false, List, [], ◌∷◌, refl, sym}
+use Rattle.std.proofs.Common.{subst, arith}
 use Rattle.std.specs.Prelude.{cond, Option, Some, None, slice_get, ⊤}
 use Rattle.std.specs.FinMap.{get}
 use Rattle.schema_catalog.specs.Tables.{Tables}
@@ -13,8 +13,9 @@ use Rattle.prima_base.specs.declared.value.ColType.TheVariants.{Int as INT, Text
 use Rattle.prima_base.specs.Columns.{IsValid}
 use Rattle.smo_ops_spec.specs.WaysBack.{blank, filled_with}
 use Rattle.smo_ops_types.specs.Commands.{PlainVersion}
-use Rattle.smo_ops_spec.specs.ValidValues.{EntryHolds, HoldsValues, OperatorHolds, OperatorsHold}
-use Rattle.smo_ops_spec.specs.ValidValues.{VersionsHold}
+use Rattle.smo_ops_spec.specs.ValidValues.{EntryHolds, HoldsValues, OperatorsHold}
+use Rattle.smo_ops_spec.specs.ValidValues.{VersionsHold, AllOperatorsHold}
+use Rattle.smo_ops_spec.specs.Evolutions.{members_of_all}
 use Rattle.smo_ops_spec.specs.Preconditions.{among}
 use Rattle.smo_ops_spec.specs.OperatorTable.{line, made_names}
 use Rattle.smo_ops_spec.specs.After.{schema_after, lose_all}
@@ -22,14 +23,14 @@ use Rattle.smo_ops_spec.specs.Losses.{Loss}
 use Rattle.smo_ops_spec.specs.Past.{no_tables, tables_from}
 use Rattle.smo_ops_versions_spec.specs.Steps.{Step, carrying, filling, undoing, carrying_each}
 use Rattle.smo_ops_versions_spec.specs.Steps.{AllSteps, StepHolds}
-use Rattle.smo_ops_versions_spec.specs.Ways.{step_back, back_over, over_version, back_over_version}
-use Rattle.smo_ops_versions_spec.specs.Ways.{to_next, from_next}
+use Rattle.smo_ops_versions_spec.specs.Ways.{step_back, back_over_members, back_over, over_version}
+use Rattle.smo_ops_versions_spec.specs.Ways.{back_over_version, to_next, from_next}
 use Rattle.smo_ops_versions_spec.specs.Ways.{way}
 use Rattle.smo_ops_versions_spec.specs.Migration.{lost_by, stepped, migrate_along, back}
 use Rattle.smo_ops_versions_spec.specs.Migration.{migrated_from}
 use Rattle.smo_ops_spec.proofs.ValueLaws.{less_valid, migrated_values}
 use Rattle.cond_expr.proofs.ConstantLaws.{small_number}
-use Rattle.smo_ops_versions_spec.proofs.StepLaws.{taken_kept}
+use Rattle.smo_ops_versions_spec.proofs.StepLaws.{taken_kept, all_both}
 use Rattle.smo_ops_versions_spec.proofs.WaySteps.{way_all}
 use Rattle.smo_ops_versions_spec.proofs.WayDatabases.{lost_by_at}
 
@@ -76,15 +77,33 @@ step_holds loss before (add_column c e r) = tt
 step_holds loss before (drop_column c r) = tt
 step_holds loss before (rename_column b r c) = tt
 
-back_hold : (k : ℕ) (before : Tables) (op : Operator) (after : Tables) (inverse : List Operator)
-    → OperatorsHold inverse → AllSteps StepHolds (back_over k before op after inverse)
-back_hold k before op after [] h = (step_holds (k, 1) before op, tt)
-back_hold k before op after (i ∷ inverse) h = each_hold after (i ∷ inverse) h
+members_hold : (k i : ℕ) (before : Tables) (ops : List Operator)
+    → AllSteps StepHolds (back_over_members k i before ops)
+members_hold k i before [] = tt
+members_hold k i before (op ∷ ops) =
+    all_both StepHolds (back_over_members k (i + 1) (schema_after before op) ops)
+    (step_back (k, i) before op ∷ []) (members_hold k (i + 1) (schema_after before op) ops)
+    (step_holds (k, i) before op, tt)
+
+both_hold : (a b : List Operator) → OperatorsHold a → OperatorsHold b → OperatorsHold (a ++ b)
+both_hold [] b h k = k
+both_hold (op ∷ a) b h k = (h.0, both_hold a b h.1 k)
+
+all_hold : (ops : List (List Operator)) → AllOperatorsHold ops → OperatorsHold (members_of_all ops)
+all_hold [] h = tt
+all_hold (op ∷ ops) h = both_hold op (members_of_all ops) h.0 (all_hold ops h.1)
+
+back_hold : (k : ℕ) (before : Tables) (op : List Operator) (after : Tables)
+    (inverse : List (List Operator)) → AllOperatorsHold inverse
+    → AllSteps StepHolds (back_over k before op after inverse)
+back_hold k before op after [] h = members_hold k 1 before op
+back_hold k before op after (i ∷ inverse) h = each_hold after (members_of_all (i ∷ inverse))
+    (all_hold (i ∷ inverse) h)
 
 -- the constants of a version, where there is one
 abbrev VersionHolds : Option PlainVersion → Type 0
 VersionHolds None = ⊤
-VersionHolds (Some v) = OperatorHolds v.op × OperatorsHold v.inverse
+VersionHolds (Some v) = OperatorsHold v.op × AllOperatorsHold v.inverse
 
 version_holds : (versions : List PlainVersion) (k : ℕ) → VersionsHold versions
     → VersionHolds (slice_get versions k)
@@ -95,7 +114,7 @@ version_holds (v ∷ versions) (suc k) h = version_holds versions k h.1
 over_hold : (tables : Tables) (o : Option PlainVersion) → VersionHolds o
     → AllSteps StepHolds (over_version tables o)
 over_hold tables None h = tt
-over_hold tables (Some v) h = (h.0, tt)
+over_hold tables (Some v) h = each_hold tables v.op h.0
 
 back_over_hold : (k : ℕ) (tables : Tables) (o : Option PlainVersion) → VersionHolds o
     → AllSteps StepHolds (back_over_version k tables o)

@@ -47,12 +47,12 @@ abbrev pub merged : Tables
 merged = schema_after with_s (merge_table r s t)
 
 abbrev pub versions : List PlainVersion
-versions = record { stamp = 1; op = create_table r a_columns; inverse = []; tables = with_r }
-    ∷ record { stamp = 2; op = create_table s a_columns; inverse = []; tables = with_s }
+versions = record { stamp = 1; op = create_table r a_columns ∷ []; inverse = []; tables = with_r }
+    ∷ record { stamp = 2; op = create_table s a_columns ∷ []; inverse = []; tables = with_s }
     ∷ record {
       stamp = 4;
-      op = merge_table r s t;
-      inverse = partition_table t r low s ∷ [];
+      op = merge_table r s t ∷ [];
+      inverse = (partition_table t r low s ∷ []) ∷ [];
       tables =
           merged;
     } ∷ []
@@ -63,7 +63,7 @@ merged_columns =
     ∙ ap (λ o. unwrap_or o []) (r_under_s with_r a_columns ∙ r_there no_tables a_columns)
 
 -- its counts are within their limits
-pub merge_counted : first_excess (evolving (merge_table r s t) (partition_table t r low s ∷ []))
+pub merge_counted : first_excess (evolving (merge_table r s t ∷ []) ((partition_table t r low s ∷ []) ∷ []))
     ≡ None
 merge_counted = refl
 
@@ -117,17 +117,17 @@ abbrev u_tables : Tables
 u_tables = schema_after with_t (rename_table t u)
 
 abbrev renames : List PlainVersion
-renames = record { stamp = 1; op = create_table t a_columns; inverse = []; tables = with_t }
+renames = record { stamp = 1; op = create_table t a_columns ∷ []; inverse = []; tables = with_t }
     ∷ record {
       stamp = 2;
-      op = rename_table t u;
-      inverse = rename_table u s ∷ rename_table s t ∷ [];
+      op = rename_table t u ∷ [];
+      inverse = (rename_table u s ∷ []) ∷ (rename_table s t ∷ []) ∷ [];
       tables = u_tables;
     }
     ∷ record {
       stamp = 3;
-      op = rename_table u r;
-      inverse = rename_table r u ∷ [];
+      op = rename_table u r ∷ [];
+      inverse = (rename_table r u ∷ []) ∷ [];
       tables =
           schema_after u_tables (rename_table u r);
     } ∷ []
@@ -185,21 +185,21 @@ in_two = schema_after with_emp (decompose_table emp who (id ∷ name ∷ []) hom
 abbrev pub decomposing : List PlainVersion
 decomposing = record {
   stamp = 1;
-  op = create_table emp emp_columns;
+  op = create_table emp emp_columns ∷ [];
   inverse = [];
   tables =
       with_emp;
 }
     ∷ record {
       stamp = 3;
-      op = decompose_table emp who (id ∷ name ∷ []) home (id ∷ city ∷ []);
-      inverse = join_table who home emp always ∷ [];
+      op = decompose_table emp who (id ∷ name ∷ []) home (id ∷ city ∷ []) ∷ [];
+      inverse = (join_table who home emp always ∷ []) ∷ [];
       tables = in_two;
     } ∷ []
 
 -- its counts are within their limits
 pub join_counted : first_excess (evolving (decompose_table emp who (id ∷ name ∷ []) home
-    (id ∷ city ∷ [])) (join_table who home emp always ∷ [])) ≡ None
+    (id ∷ city ∷ []) ∷ []) ((join_table who home emp always ∷ []) ∷ [])) ≡ None
 join_counted = refl
 
 pub all_columns : columns_of with_emp emp ≡ emp_columns
@@ -301,15 +301,15 @@ lost_back db h k =
 abbrev pub dropped_versions : List PlainVersion
 dropped_versions = record {
   stamp = 1;
-  op = create_table t a_columns;
+  op = create_table t a_columns ∷ [];
   inverse = [];
   tables =
       with_t;
 }
-    ∷ record { stamp = 4; op = drop_table t; inverse = []; tables = remove with_t t }
+    ∷ record { stamp = 4; op = drop_table t ∷ []; inverse = []; tables = remove with_t t }
     ∷ record {
       stamp = 6;
-      op = create_table t a_columns;
+      op = create_table t a_columns ∷ [];
       inverse = [];
       tables =
           insert (remove with_t t) t a_columns;

@@ -14,7 +14,7 @@ use Rattle.smo_ops_types.specs.Operators.{Operator}
 use Rattle.smo_ops_spec.specs.OneRow.{same}
 use Rattle.smo_ops_spec.specs.Past.{Past, no_tables}
 use Rattle.smo_ops_spec.specs.Sizes.{Size}
-use Rattle.smo_ops_spec.specs.Touching.{makes, consumes}
+use Rattle.smo_ops_spec.specs.Evolutions.{one_makes, one_consumes}
 
 -- a lifeline of a table, from its first version to its last, none while it lives, and the columns
 -- that it has in each of them
@@ -43,16 +43,17 @@ line_after consumed k l = record {
 abbrev pub line_begun : ℕ → List ℕ × List Column → Lifeline
 line_begun k t = record { table = t.0; first = k; last = None; columns = t.1 }
 
--- the tables that an operator makes, in the order of their names
-abbrev pub made_tables : Tables → Operator → Tables → List (List ℕ × List Column)
-made_tables before op after = filter (λ (t : List ℕ × List Column). makes before op t.0)
+-- the tables that members of an operator make and that are there after all of them, in the order of
+-- their names
+abbrev pub made_tables : Tables → List Operator → Tables → List (List ℕ × List Column)
+made_tables before op after = filter (λ (t : List ℕ × List Column). one_makes before op t.0)
     (entries after)
 
 -- after the operator of version k + 1, over the tables of version k; new ones stand after the
 -- others, in the order of their names
 abbrev pub lifelines_after : Tables → ℕ → List Lifeline → PlainVersion → List Lifeline
 lifelines_after before k lines v =
-    map (line_after (consumes before v.op) k) lines
+    map (line_after (one_consumes before v.op) k) lines
     ++ map (line_begun (k + 1)) (made_tables before v.op v.tables)
 
 -- after versions that come after version k

@@ -1,6 +1,6 @@
 -- The tables and the columns that are lost on the way from one version to another, by names alone.
-use Rattle.std.specs.Prelude.{◌≡◌, ℕ, ◌+◌, ◌<◌, ◌≤◌, List, [], ◌∷◌, Option, Some, None, ⊤}
-use Rattle.std.specs.Prelude.{slice_get, if◌then◌else◌, Bool, false}
+use Rattle.std.specs.Prelude.{◌≡◌, ℕ, ◌+◌, ◌<◌, ◌≤◌, List, [], ◌∷◌, ◌++◌, length, Option, Some}
+use Rattle.std.specs.Prelude.{None, ⊤, slice_get, if◌then◌else◌, Bool, false}
 use Rattle.std.specs.Option.{option_or}
 use Rattle.std.specs.FinMap.{get, insert, remove, empty}
 use Rattle.prima_base.specs.Columns.{Column}
@@ -18,6 +18,7 @@ use Rattle.smo_ops_spec.specs.Touching.{made_of}
 use Rattle.smo_ops_spec.specs.Losses.{Loss, first_loss}
 use Rattle.smo_ops_spec.specs.WaysBack.{FilledColumn, WayBack, by_inverse, by_filling, no_way}
 use Rattle.smo_ops_spec.specs.WaysBack.{way_back_over}
+use Rattle.smo_ops_spec.specs.Evolutions.{schema_after_each}
 use Rattle.smo_ops_spec.specs.Past.{no_tables, tables_from}
 use Rattle.smo_ops_versions_spec.specs.Steps.{Step, carrying, filling, undoing, taken}
 use Rattle.smo_ops_versions_spec.specs.Ways.{way}
@@ -116,14 +117,19 @@ Loses (by_filling f) = ⊤
 Loses no_way = ⊤
 
 -- the loss is by a version that is gone back over on the way from version v to version q, that
--- names no inverse, and whose operator has no derived one: the one after version `before`, by its
--- first operator
+-- names no inverse, and by a member of its operator over which one does not go back without a loss:
+-- the version after version `before`, and the member after the `earlier` ones
 pub record IsUnnamed (versions : List PlainVersion) (v q : ℕ) (loss : Loss) : Type 0 where
   pub before : ℕ
   pub by : PlainVersion
   pub is : slice_get versions before ≡ Some by
   pub unnamed : by.inverse ≡ []
-  pub underived : Loses (way_back_over (tables_from no_tables versions before) by.op)
+  pub earlier : List Operator
+  pub member : Operator
+  pub later : List Operator
+  pub members : by.op ≡ earlier ++ member ∷ later
+  pub underived : Loses
+      (way_back_over (schema_after_each (tables_from no_tables versions before) earlier) member)
   pub from : q ≤ before
   pub to : before < v
-  pub lost : loss ≡ (before + 1, 1)
+  pub lost : loss ≡ (before + 1, length earlier + 1)

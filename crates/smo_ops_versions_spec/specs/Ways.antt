@@ -9,6 +9,7 @@ use Rattle.schema_catalog.specs.Tables.{Tables}
 use Rattle.smo_ops_types.specs.Operators.{Operator}
 use Rattle.smo_ops_types.specs.Commands.{PlainVersion}
 use Rattle.smo_ops_spec.specs.After.{schema_after}
+use Rattle.smo_ops_spec.specs.Evolutions.{members_of_all}
 use Rattle.smo_ops_spec.specs.Losses.{Loss}
 use Rattle.smo_ops_spec.specs.Past.{no_tables, tables_from}
 use Rattle.smo_ops_spec.specs.WaysBack.{WayBack, by_inverse, by_filling, no_way, way_back_over}
@@ -23,17 +24,24 @@ step_by loss before op no_way = undoing loss before op
 abbrev pub step_back : Loss → Tables → Operator → Step
 step_back loss before op = step_by loss before op (way_back_over before op)
 
--- Back over the operator of version k: over the operators of its inverse, first to last, where one
--- is named. `before` and `after` are the tables on its two sides.
-abbrev pub back_over : ℕ → Tables → Operator → Tables → List Operator → List Step
-back_over k before op after [] = step_back (k, 1) before op ∷ []
-back_over k before op after (i ∷ inverse) = carrying_each after (i ∷ inverse)
+-- back over the members of the operator of version k, from the last to the first; the first of these
+-- has place i in it, and stands after the tables `before`
+abbrev pub back_over_members : ℕ → ℕ → Tables → List Operator → List Step
+back_over_members k i before [] = []
+back_over_members k i before (op ∷ ops) = back_over_members k (i + 1) (schema_after before op) ops
+    ++ step_back (k, i) before op ∷ []
 
--- over the operator of a version after the tables, and back over it; where there is no such
--- version nothing is done
+-- Back over the operator of version k: over the operators of its inverse, first to last, where one
+-- is named, and else over its members. `before` and `after` are the tables on its two sides.
+abbrev pub back_over : ℕ → Tables → List Operator → Tables → List (List Operator) → List Step
+back_over k before op after [] = back_over_members k 1 before op
+back_over k before op after (i ∷ inverse) = carrying_each after (members_of_all (i ∷ inverse))
+
+-- over the members of a version's operator, the first of which stands after the tables, and back over
+-- it; where there is no such version nothing is done
 abbrev pub over_version : Tables → Option PlainVersion → List Step
 over_version before None = []
-over_version before (Some v) = carrying before v.op ∷ []
+over_version before (Some v) = carrying_each before v.op
 
 abbrev pub back_over_version : ℕ → Tables → Option PlainVersion → List Step
 back_over_version k before None = []

@@ -15,10 +15,12 @@ ghost use Rattle.smo_ops_spec.specs.Making.{common_names};
 ghost use Rattle.smo_ops_spec.specs.Touching.{makes, consumes, made_of};
 ghost use Rattle.smo_ops_spec.specs.Losses.{Loss, first_loss};
 ghost use Rattle.smo_ops_spec.specs.After.{schema_after};
+ghost use Rattle.smo_ops_spec.specs.Evolutions.{members_of_all};
 ghost use Rattle.smo_ops_spec.specs.Past.{no_tables, tables_from};
 ghost use Rattle.smo_ops_spec.specs.WaysBack.{FilledColumn, by_inverse, by_filling, no_way};
 ghost use Rattle.smo_ops_spec.specs.WaysBack.{way_back_over};
 ghost use Rattle.smo_ops_versions_spec.specs.Steps.{carrying_each, taken};
+ghost use Rattle.smo_ops_versions_spec.specs.Ways.{step_back, back_over_members};
 ghost use Rattle.smo_ops_versions_spec.specs.Ways.{to_next, from_next};
 ghost use Rattle.smo_ops_versions_spec.specs.ColumnLosses.{Losses, table_loss, column_loss};
 ghost use Rattle.smo_ops_versions_spec.specs.LostNames.{first_named, rows_lost, gives_column};
@@ -27,10 +29,12 @@ ghost use Rattle.smo_ops_versions_spec.specs.LostNames.{losses_stepped, lost_nam
 
 /// What is lost for queries on the way from version to version, one step at a time: where one
 /// stands nothing is, and a way that is one step longer loses what that step makes of the losses
-/// before it. Such a step, at the version number `k + 1`, is one over that version's operator; or
-/// back from it, over the operators of its named inverse, first to last; and where none is named,
-/// over the derived one, over the filling of the column that was dropped, or back over an operator
-/// with no way back. The loss of the last two is by the first operator of version `k + 1`.
+/// before it. Such a step, at the version number `k + 1`, is one over the members of that version's
+/// operator, first to last; or back from it, over the members of the operators of its named inverse,
+/// first to last; and where none is named, back over the members of its operator, last to first:
+/// over the derived inverse of a member, over the filling of the column that was dropped, or back
+/// over a member with no way back. The loss of the last two is by that member: `(k + 1, 1)` by the
+/// first member of version `k + 1`, `(k + 1, 2)` by the next.
 pub fn losses_by_name_are_step_by_step()
     ensures stays { (versions : List PlainVersion) → (v : ℕ) → lost_names versions v v ≡ empty }
     ensures forward { (versions : List PlainVersion) → (v : ℕ) → (q : ℕ) → v ≤ q
@@ -42,28 +46,40 @@ pub fn losses_by_name_are_step_by_step()
     ensures over { (versions : List PlainVersion) → (k : ℕ) → (v : PlainVersion)
         → (losses : Losses) → slice_get versions k ≡ Some v
         → taken losses_stepped (to_next versions k) losses
-        ≡ losses_over (tables_from no_tables versions k) v.op losses }
+        ≡ taken losses_stepped (carrying_each (tables_from no_tables versions k) v.op) losses }
+    ensures over_none { (tables : Tables) → (losses : Losses)
+        → taken losses_stepped (carrying_each tables []) losses ≡ losses }
+    ensures over_each { (tables : Tables) → (op : Operator) → (ops : List Operator)
+        → (losses : Losses) → taken losses_stepped (carrying_each tables (op ∷ ops)) losses
+        ≡ taken losses_stepped (carrying_each (schema_after tables op) ops)
+        (losses_over tables op losses) }
     ensures named { (versions : List PlainVersion) → (k : ℕ) → (v : PlainVersion)
-        → (losses : Losses) → (op : Operator) → (rest : List Operator)
+        → (losses : Losses) → (op : List Operator) → (rest : List (List Operator))
         → slice_get versions k ≡ Some v → v.inverse ≡ op ∷ rest
         → taken losses_stepped (from_next versions k) losses
-        ≡ taken losses_stepped (carrying_each v.tables v.inverse) losses }
-    ensures derived { (versions : List PlainVersion) → (k : ℕ) → (v : PlainVersion)
-        → (losses : Losses) → (op : Operator)
-        → slice_get versions k ≡ Some v → v.inverse ≡ []
-        → way_back_over (tables_from no_tables versions k) v.op ≡ by_inverse op
-        → taken losses_stepped (from_next versions k) losses
-        ≡ losses_over (schema_after (tables_from no_tables versions k) v.op) op losses }
-    ensures filled { (versions : List PlainVersion) → (k : ℕ) → (v : PlainVersion)
-        → (losses : Losses) → (f : FilledColumn)
-        → slice_get versions k ≡ Some v → v.inverse ≡ []
-        → way_back_over (tables_from no_tables versions k) v.op ≡ by_filling f
-        → taken losses_stepped (from_next versions k) losses ≡ losses_filled (k + 1, 1) f losses }
-    ensures undone { (versions : List PlainVersion) → (k : ℕ) → (v : PlainVersion)
+        ≡ taken losses_stepped (carrying_each v.tables (members_of_all v.inverse)) losses }
+    ensures unnamed { (versions : List PlainVersion) → (k : ℕ) → (v : PlainVersion)
         → (losses : Losses) → slice_get versions k ≡ Some v → v.inverse ≡ []
-        → way_back_over (tables_from no_tables versions k) v.op ≡ no_way
         → taken losses_stepped (from_next versions k) losses
-        ≡ losses_undone (k + 1, 1) (tables_from no_tables versions k) v.op losses }
+        ≡ taken losses_stepped
+        (back_over_members (k + 1) 1 (tables_from no_tables versions k) v.op) losses }
+    ensures back_none { (k : ℕ) → (i : ℕ) → (before : Tables) → (losses : Losses)
+        → taken losses_stepped (back_over_members k i before []) losses ≡ losses }
+    ensures back_each { (k : ℕ) → (i : ℕ) → (before : Tables) → (op : Operator)
+        → (ops : List Operator) → (losses : Losses)
+        → taken losses_stepped (back_over_members k i before (op ∷ ops)) losses
+        ≡ losses_stepped (step_back (k, i) before op)
+        (taken losses_stepped (back_over_members k (i + 1) (schema_after before op) ops) losses) }
+    ensures derived { (loss : Loss) → (before : Tables) → (op : Operator) → (losses : Losses)
+        → (inverse : Operator) → way_back_over before op ≡ by_inverse inverse
+        → losses_stepped (step_back loss before op) losses
+        ≡ losses_over (schema_after before op) inverse losses }
+    ensures filled { (loss : Loss) → (before : Tables) → (op : Operator) → (losses : Losses)
+        → (f : FilledColumn) → way_back_over before op ≡ by_filling f
+        → losses_stepped (step_back loss before op) losses ≡ losses_filled loss f losses }
+    ensures undone { (loss : Loss) → (before : Tables) → (op : Operator) → (losses : Losses)
+        → way_back_over before op ≡ no_way
+        → losses_stepped (step_back loss before op) losses ≡ losses_undone loss before op losses }
 {}
 
 /// Over an operator a table that it makes is lost by the first of four rules that applies: an input

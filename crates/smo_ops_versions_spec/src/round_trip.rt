@@ -14,7 +14,7 @@ ghost use Rattle.smo_ops_spec.specs.Inverses.{inverse_fault};
 pub fn renamed_back_is_as_before()
     ensures inverse { (tables : Tables) → (r : List ℕ) → (t : List ℕ)
         → op_fault tables (rename_table r t) ≡ None
-        → inverse_fault tables (rename_table r t) (rename_table t r ∷ []) ≡ None }
+        → inverse_fault tables (rename_table r t ∷ []) ((rename_table t r ∷ []) ∷ []) ≡ None }
     ensures database { (tables : Tables) → (r : List ℕ) → (t : List ℕ) → (database : Database)
         → op_fault tables (rename_table r t) ≡ None
         → IsDatabaseWithLosses tables database
@@ -27,7 +27,7 @@ pub fn renamed_back_is_as_before()
 pub fn copied_and_dropped_is_as_before()
     ensures inverse { (tables : Tables) → (r : List ℕ) → (t : List ℕ)
         → op_fault tables (copy_table r t) ≡ None
-        → inverse_fault tables (copy_table r t) (drop_table t ∷ []) ≡ None }
+        → inverse_fault tables (copy_table r t ∷ []) ((drop_table t ∷ []) ∷ []) ≡ None }
     ensures database { (tables : Tables) → (r : List ℕ) → (t : List ℕ) → (database : Database)
         → op_fault tables (copy_table r t) ≡ None
         → IsDatabaseWithLosses tables database
@@ -40,7 +40,7 @@ pub fn copied_and_dropped_is_as_before()
 pub fn partitioned_and_merged_is_as_before()
     ensures inverse { (tables : Tables) → (r : List ℕ) → (s : List ℕ) → (c : Test) → (t : List ℕ)
         → op_fault tables (partition_table r s c t) ≡ None
-        → inverse_fault tables (partition_table r s c t) (merge_table s t r ∷ []) ≡ None }
+        → inverse_fault tables (partition_table r s c t ∷ []) ((merge_table s t r ∷ []) ∷ []) ≡ None }
     ensures database { (tables : Tables) → (r : List ℕ) → (s : List ℕ) → (c : Test)
         → (t : List ℕ) → (database : Database)
         → op_fault tables (partition_table r s c t) ≡ None → IsDatabaseWithLosses tables database

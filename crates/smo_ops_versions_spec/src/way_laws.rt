@@ -8,6 +8,7 @@ ghost use Rattle.smo_ops_types.specs.Commands.{PlainVersion};
 ghost use Rattle.smo_ops_spec.specs.Losses.{IsDatabaseWithLosses, Loss, loss_in};
 ghost use Rattle.smo_ops_spec.specs.Touching.{makes, consumes};
 ghost use Rattle.smo_ops_spec.specs.After.{op_fault, schema_after, migrate, IsValid};
+ghost use Rattle.smo_ops_spec.specs.Evolutions.{carried_each, members_of_all};
 ghost use Rattle.smo_ops_spec.specs.Past.{no_tables, tables_from};
 ghost use Rattle.smo_ops_spec.specs.ValidPast.{AreVersions};
 ghost use Rattle.smo_ops_spec.specs.ValidValues.{HoldsValues, VersionsHold};
@@ -15,9 +16,10 @@ ghost use Rattle.smo_ops_spec.specs.WaysBack.{FilledColumn, by_inverse, by_filli
 ghost use Rattle.smo_ops_spec.specs.WaysBack.{way_back_over, blank, filled_with, WayLeadsBack};
 ghost use Rattle.smo_ops_versions_spec.specs.TableColumns.{HaveColumns};
 ghost use Rattle.smo_ops_versions_spec.specs.Steps.{carrying_each, taken};
+ghost use Rattle.smo_ops_versions_spec.specs.Ways.{step_back, back_over_members};
 ghost use Rattle.smo_ops_versions_spec.specs.Ways.{to_next, from_next};
-ghost use Rattle.smo_ops_versions_spec.specs.Migration.{migrate_over, migrate_along, back};
-ghost use Rattle.smo_ops_versions_spec.specs.Migration.{migrated_from};
+ghost use Rattle.smo_ops_versions_spec.specs.Migration.{stepped, migrate_over, migrate_along};
+ghost use Rattle.smo_ops_versions_spec.specs.Migration.{back, migrated_from};
 ghost use Rattle.smo_ops_versions_spec.specs.LostTables.{LostTables, AreLosses, lost_stepped};
 ghost use Rattle.smo_ops_versions_spec.specs.LostTables.{lost_over};
 ghost use Rattle.smo_ops_versions_spec.specs.LostTables.{lost_undone, lost_tables};
@@ -60,86 +62,99 @@ pub fn the_way_is_step_by_step()
 {}
 
 /// What one step of a way is, at the version number `k + 1`, the one after the tables of version
-/// `k`. To it a database is carried over the version's operator. Back from it, where an inverse is
-/// named, it is carried over the inverse's operators, first to last, each after the one before.
-/// Where none is named, it is carried over the derived inverse, or a dropped column is filled with
-/// the constant of its type; and where the operator has no way back, each table that it consumed is
-/// lost by the first operator of version `k + 1`, each that it made and did not consume is gone,
-/// and all others stay. The same, by names alone, of the tables that are lost.
+/// `k`. To it a database is carried over the members of the version's operator, first to last. Back
+/// from it, where an inverse is named, it is carried over the members of the inverse's operators,
+/// first to last, each after the one before. Where none is named, it is taken back over the members
+/// of the operator, last to first, each by what stands before it: over a member that has a derived
+/// inverse it is carried over that; a dropped column is filled with the constant of its type; and
+/// where the member has no way back, each table that it consumed is lost by it, each that it made
+/// and did not consume is gone, and all others stay. The first member of version `k + 1` has the
+/// loss `(k + 1, 1)`, the next one `(k + 1, 2)`. The same, by names alone, of the tables that are
+/// lost.
 pub fn a_step_is_over_its_version()
     ensures forward { (versions : List PlainVersion) → (k : ℕ) → (v : PlainVersion)
         → (database : Database) → slice_get versions k ≡ Some v
         → migrate_along versions k database
-        ≡ migrate (tables_from no_tables versions k) v.op database }
+        ≡ carried_each (tables_from no_tables versions k) v.op database }
     ensures named { (versions : List PlainVersion) → (k : ℕ) → (v : PlainVersion)
-        → (database : Database) → (op : Operator) → (rest : List Operator)
+        → (database : Database) → (op : List Operator) → (rest : List (List Operator))
         → slice_get versions k ≡ Some v → v.inverse ≡ op ∷ rest
-        → back versions k database ≡ migrate_over v.tables v.inverse database }
+        → back versions k database ≡ migrate_over v.tables (members_of_all v.inverse) database }
     ensures over_none { (tables : Tables) → (database : Database)
         → migrate_over tables [] database ≡ database }
     ensures over_each { (tables : Tables) → (op : Operator) → (ops : List Operator)
         → (database : Database) → migrate_over tables (op ∷ ops) database
         ≡ migrate_over (schema_after tables op) ops (migrate tables op database) }
-    ensures derived { (versions : List PlainVersion) → (k : ℕ) → (v : PlainVersion)
-        → (database : Database) → (op : Operator)
-        → slice_get versions k ≡ Some v → v.inverse ≡ []
-        → way_back_over (tables_from no_tables versions k) v.op ≡ by_inverse op
+    ensures unnamed { (versions : List PlainVersion) → (k : ℕ) → (v : PlainVersion)
+        → (database : Database) → slice_get versions k ≡ Some v → v.inverse ≡ []
         → back versions k database
-        ≡ migrate (schema_after (tables_from no_tables versions k) v.op) op database }
-    ensures filled { (versions : List PlainVersion) → (k : ℕ) → (v : PlainVersion)
-        → (database : Database) → (f : FilledColumn)
-        → slice_get versions k ≡ Some v → v.inverse ≡ []
-        → way_back_over (tables_from no_tables versions k) v.op ≡ by_filling f
-        → back versions k database
-        ≡ migrate (schema_after (tables_from no_tables versions k) v.op) (filled_with blank f)
+        ≡ taken stepped (back_over_members (k + 1) 1 (tables_from no_tables versions k) v.op)
         database }
-    ensures lost { (versions : List PlainVersion) → (k : ℕ) → (v : PlainVersion)
-        → (database : Database) → (n : List ℕ)
-        → slice_get versions k ≡ Some v → v.inverse ≡ []
-        → way_back_over (tables_from no_tables versions k) v.op ≡ no_way
-        → consumes (tables_from no_tables versions k) v.op n ≡ true
-        → get (back versions k database) n ≡ Some (Lost (k + 1) 1) }
-    ensures gone { (versions : List PlainVersion) → (k : ℕ) → (v : PlainVersion)
-        → (database : Database) → (n : List ℕ)
-        → slice_get versions k ≡ Some v → v.inverse ≡ []
-        → way_back_over (tables_from no_tables versions k) v.op ≡ no_way
-        → makes (tables_from no_tables versions k) v.op n ≡ true
-        → consumes (tables_from no_tables versions k) v.op n ≡ false
-        → get (back versions k database) n ≡ None }
-    ensures others { (versions : List PlainVersion) → (k : ℕ) → (v : PlainVersion)
-        → (database : Database) → (n : List ℕ)
-        → slice_get versions k ≡ Some v → v.inverse ≡ []
-        → way_back_over (tables_from no_tables versions k) v.op ≡ no_way
-        → makes (tables_from no_tables versions k) v.op n ≡ false
-        → consumes (tables_from no_tables versions k) v.op n ≡ false
-        → get (back versions k database) n ≡ get database n }
+    ensures back_none { (k : ℕ) → (i : ℕ) → (before : Tables) → (database : Database)
+        → taken stepped (back_over_members k i before []) database ≡ database }
+    ensures back_each { (k : ℕ) → (i : ℕ) → (before : Tables) → (op : Operator)
+        → (ops : List Operator) → (database : Database)
+        → taken stepped (back_over_members k i before (op ∷ ops)) database
+        ≡ stepped (step_back (k, i) before op)
+        (taken stepped (back_over_members k (i + 1) (schema_after before op) ops) database) }
+    ensures derived { (loss : Loss) → (before : Tables) → (op : Operator) → (database : Database)
+        → (inverse : Operator) → way_back_over before op ≡ by_inverse inverse
+        → stepped (step_back loss before op) database
+        ≡ migrate (schema_after before op) inverse database }
+    ensures filled { (loss : Loss) → (before : Tables) → (op : Operator) → (database : Database)
+        → (f : FilledColumn) → way_back_over before op ≡ by_filling f
+        → stepped (step_back loss before op) database
+        ≡ migrate (schema_after before op) (filled_with blank f) database }
+    ensures lost { (loss : Loss) → (before : Tables) → (op : Operator) → (database : Database)
+        → (n : List ℕ) → way_back_over before op ≡ no_way → consumes before op n ≡ true
+        → get (stepped (step_back loss before op) database) n ≡ Some (Lost loss.0 loss.1) }
+    ensures gone { (loss : Loss) → (before : Tables) → (op : Operator) → (database : Database)
+        → (n : List ℕ) → way_back_over before op ≡ no_way → makes before op n ≡ true
+        → consumes before op n ≡ false
+        → get (stepped (step_back loss before op) database) n ≡ None }
+    ensures others { (loss : Loss) → (before : Tables) → (op : Operator) → (database : Database)
+        → (n : List ℕ) → way_back_over before op ≡ no_way → makes before op n ≡ false
+        → consumes before op n ≡ false
+        → get (stepped (step_back loss before op) database) n ≡ get database n }
     ensures losses_over { (versions : List PlainVersion) → (k : ℕ) → (v : PlainVersion)
         → (losses : LostTables) → slice_get versions k ≡ Some v
         → taken lost_stepped (to_next versions k) losses
-        ≡ lost_over (tables_from no_tables versions k) v.op losses }
+        ≡ taken lost_stepped (carrying_each (tables_from no_tables versions k) v.op) losses }
+    ensures losses_over_none { (tables : Tables) → (losses : LostTables)
+        → taken lost_stepped (carrying_each tables []) losses ≡ losses }
+    ensures losses_over_each { (tables : Tables) → (op : Operator) → (ops : List Operator)
+        → (losses : LostTables) → taken lost_stepped (carrying_each tables (op ∷ ops)) losses
+        ≡ taken lost_stepped (carrying_each (schema_after tables op) ops)
+        (lost_over tables op losses) }
     ensures losses_named { (versions : List PlainVersion) → (k : ℕ) → (v : PlainVersion)
-        → (losses : LostTables) → (op : Operator) → (rest : List Operator)
+        → (losses : LostTables) → (op : List Operator) → (rest : List (List Operator))
         → slice_get versions k ≡ Some v → v.inverse ≡ op ∷ rest
         → taken lost_stepped (from_next versions k) losses
-        ≡ taken lost_stepped (carrying_each v.tables v.inverse) losses }
-    ensures losses_derived { (versions : List PlainVersion) → (k : ℕ) → (v : PlainVersion)
-        → (losses : LostTables) → (op : Operator)
-        → slice_get versions k ≡ Some v → v.inverse ≡ []
-        → way_back_over (tables_from no_tables versions k) v.op ≡ by_inverse op
-        → taken lost_stepped (from_next versions k) losses
-        ≡ lost_over (schema_after (tables_from no_tables versions k) v.op) op losses }
-    ensures losses_filled { (versions : List PlainVersion) → (k : ℕ) → (v : PlainVersion)
-        → (losses : LostTables) → (f : FilledColumn)
-        → slice_get versions k ≡ Some v → v.inverse ≡ []
-        → way_back_over (tables_from no_tables versions k) v.op ≡ by_filling f
-        → taken lost_stepped (from_next versions k) losses
-        ≡ lost_over (schema_after (tables_from no_tables versions k) v.op) (filled_with blank f)
-        losses }
-    ensures losses_undone { (versions : List PlainVersion) → (k : ℕ) → (v : PlainVersion)
+        ≡ taken lost_stepped (carrying_each v.tables (members_of_all v.inverse)) losses }
+    ensures losses_unnamed { (versions : List PlainVersion) → (k : ℕ) → (v : PlainVersion)
         → (losses : LostTables) → slice_get versions k ≡ Some v → v.inverse ≡ []
-        → way_back_over (tables_from no_tables versions k) v.op ≡ no_way
         → taken lost_stepped (from_next versions k) losses
-        ≡ lost_undone (k + 1, 1) (tables_from no_tables versions k) v.op losses }
+        ≡ taken lost_stepped (back_over_members (k + 1) 1 (tables_from no_tables versions k) v.op)
+        losses }
+    ensures losses_back_none { (k : ℕ) → (i : ℕ) → (before : Tables) → (losses : LostTables)
+        → taken lost_stepped (back_over_members k i before []) losses ≡ losses }
+    ensures losses_back_each { (k : ℕ) → (i : ℕ) → (before : Tables) → (op : Operator)
+        → (ops : List Operator) → (losses : LostTables)
+        → taken lost_stepped (back_over_members k i before (op ∷ ops)) losses
+        ≡ lost_stepped (step_back (k, i) before op)
+        (taken lost_stepped (back_over_members k (i + 1) (schema_after before op) ops) losses) }
+    ensures losses_derived { (loss : Loss) → (before : Tables) → (op : Operator)
+        → (losses : LostTables) → (inverse : Operator)
+        → way_back_over before op ≡ by_inverse inverse
+        → lost_stepped (step_back loss before op) losses
+        ≡ lost_over (schema_after before op) inverse losses }
+    ensures losses_filled { (loss : Loss) → (before : Tables) → (op : Operator)
+        → (losses : LostTables) → (f : FilledColumn) → way_back_over before op ≡ by_filling f
+        → lost_stepped (step_back loss before op) losses
+        ≡ lost_over (schema_after before op) (filled_with blank f) losses }
+    ensures losses_undone { (loss : Loss) → (before : Tables) → (op : Operator)
+        → (losses : LostTables) → way_back_over before op ≡ no_way
+        → lost_stepped (step_back loss before op) losses ≡ lost_undone loss before op losses }
 {}
 
 /// What is taken along the versions of a past is a database of the version that is reached, in
@@ -187,8 +202,8 @@ pub fn names_tell_what_is_lost()
 {}
 
 /// A table or a column that is lost on the way from one version to another is lost by a version
-/// that is gone back over on that way, that names no inverse, and whose operator has no derived
-/// one. So nothing is lost on the way forward, nor back over versions with a named or a derived
+/// that is gone back over on that way, that names no inverse, and by a member of its operator that
+/// has no derived one. So nothing is lost on the way forward, nor back over versions with a named or a derived
 /// inverse.
 pub fn what_is_lost_has_no_inverse()
     ensures table { (versions : List PlainVersion) → (v : ℕ) → (q : ℕ) → (n : List ℕ)
