@@ -3,7 +3,6 @@ use Rattle.std.proofs.Common.{◌≡◌, ℕ, zero, suc, ◌+◌, ◌≤◌, Lis
 use Rattle.std.proofs.Common.{ap, ◌∙◌, arith, add-one, length-append}
 use Rattle.std.specs.Prelude.{ℤ}
 use Rattle.std.specs.Int.{w64, cast_unsigned, bytes_high_first}
-use Rattle.std.specs.List.{flat_map}
 use Rattle.prima_base.specs.declared.value.Value.TheVariants.{Int, Text}
 use Rattle.cond_expr.proofs.SeenLaws.{count_is_length, tree_of_concat, tree_of_case, test_of_and}
 use Rattle.cond_expr.proofs.SeenLaws.{test_of_or, test_of_cmp}
