@@ -1,9 +1,10 @@
-ghost use Rattle.std.specs.Prelude.{◌≡◌, None, length};
+ghost use Rattle.std.specs.Prelude.{◌≡◌, List, None, length};
 ghost use Rattle.std.specs.Option.{option_map};
 ghost use Rattle.prima_base.specs.declared.refusal.Refusal.TheVariants.{InverseMisses};
-ghost use Rattle.smo_ops_types.specs.Operators.{Operator, operator_of, operators_of};
+ghost use Rattle.smo_ops_types.specs.Operators.{Operator, evolution_of, evolutions_of};
 ghost use Rattle.smo_ops_spec.specs.First.{first_refusal};
-ghost use Rattle.smo_ops_spec.specs.After.{op_fault, schema_after, HasFewNodes, HaveFewNodes};
+ghost use Rattle.smo_ops_spec.specs.After.{HaveFewNodes, AllHaveFewNodes};
+ghost use Rattle.smo_ops_spec.specs.Evolutions.{schema_after_each, evolution_fault};
 ghost use Rattle.smo_ops_spec.specs.Inverses.{first_difference, way_back, inverse_fault, IsInTurn};
 ghost use Rattle.smo_ops_spec.specs.Inverses.{IsInverse, IsNumbered};
 
@@ -15,8 +16,8 @@ use std::alloc::Global;
 
 // The schema after the operators, one after the other from a schema on.
 fn schema_after_each(alloc: Global, schema: &Schema, ops: &[Op]) -> Result<Schema, InverseFault>
-    requires { HaveFewNodes (operators_of ops.now) }
-    ensures { IsInTurn schema.now (operators_of ops.now) result }
+    requires { AllHaveFewNodes (evolutions_of ops.now) }
+    ensures { IsInTurn schema.now (evolutions_of ops.now) result }
 {
     let mut now = match schema.copy() {
         Ok(copy) => copy,
@@ -51,8 +52,8 @@ fn check_named(
     next: &Schema,
     inverse: &[Op],
 ) -> Result<(), InverseFault>
-    requires { HaveFewNodes (operators_of inverse.now) }
-    ensures { IsInverse (first_refusal (way_back before.now next.now 1 (operators_of inverse.now)))
+    requires { AllHaveFewNodes (evolutions_of inverse.now) }
+    ensures { IsInverse (first_refusal (way_back before.now next.now 1 (evolutions_of inverse.now)))
         result }
 {
     let last = schema_after_each(alloc, next, inverse)?;
@@ -71,9 +72,9 @@ pub fn check_way_back(
     next: &Schema,
     inverse: &[Op],
 ) -> Result<(), InverseFault>
-    requires { HaveFewNodes (operators_of inverse.now) }
-    ensures checked { (op : Operator) → next.now ≡ schema_after before.now op
-        → IsInverse (inverse_fault before.now op (operators_of inverse.now)) result }
+    requires { AllHaveFewNodes (evolutions_of inverse.now) }
+    ensures checked { (op : List Operator) → next.now ≡ schema_after_each before.now op
+        → IsInverse (inverse_fault before.now op (evolutions_of inverse.now)) result }
     ensures number { IsNumbered (length inverse.now) result }
 {
     if inverse.is_empty() {
@@ -91,11 +92,11 @@ pub fn check_inverse(
     op: &Op,
     inverse: &[Op],
 ) -> Result<(), InverseFault>
-    requires accepted { op_fault before.now (operator_of op.now) ≡ None }
-    requires operator { HasFewNodes (operator_of op.now) }
-    requires inverse { HaveFewNodes (operators_of inverse.now) }
-    ensures checked { IsInverse (inverse_fault before.now (operator_of op.now)
-        (operators_of inverse.now)) result }
+    requires accepted { evolution_fault before.now (evolution_of op.now) ≡ None }
+    requires operator { HaveFewNodes (evolution_of op.now) }
+    requires inverse { AllHaveFewNodes (evolutions_of inverse.now) }
+    ensures checked { IsInverse (inverse_fault before.now (evolution_of op.now)
+        (evolutions_of inverse.now)) result }
     ensures number { IsNumbered (length inverse.now) result }
 {
     match schema_after(alloc, before, op) {

@@ -1,9 +1,10 @@
 //! An operator, checked against a schema, and the schema after it, kind by kind.
 
 ghost use Rattle.std.specs.Prelude.{◌≡◌, None, IfOk, IfSome};
-ghost use Rattle.smo_ops_types.specs.Operators.{operator_of};
+ghost use Rattle.smo_ops_types.specs.Operators.{operator_of, evolution_of};
 ghost use Rattle.smo_ops_spec.specs.Accepts.{operator_refusal};
 ghost use Rattle.smo_ops_spec.specs.After.{op_fault, schema_after, IsAfter, HasFewNodes, IsValid};
+ghost use Rattle.smo_ops_spec.specs.Evolutions.{schema_after_each, evolution_fault, IsAfterEach};
 
 mod add_column;
 mod column_precondition;
@@ -131,6 +132,7 @@ fn next_schema(alloc: Global, schema: &Schema, op: &Op) -> Result<Schema, OpFaul
 pub fn after(alloc: Global, schema: &Schema, op: &Op) -> Result<Schema, OpFault>
     requires { HasFewNodes (operator_of op.now) }
     ensures after { IsAfter schema.now (operator_of op.now) result }
+    ensures evolution { IsAfterEach schema.now (evolution_of op.now) result }
     ensures valid { IsValid schema.now → IfOk result (λ s. IsValid s) }
 {
     next_schema(alloc, schema, op)
@@ -143,6 +145,8 @@ pub fn schema_after(alloc: Global, schema: &Schema, op: &Op) -> Result<Schema, N
     requires { HasFewNodes (operator_of op.now) }
     ensures after { op_fault schema.now (operator_of op.now) ≡ None
         → IfOk result (λ next. next ≡ schema_after schema.now (operator_of op.now)) }
+    ensures evolution { evolution_fault schema.now (evolution_of op.now) ≡ None
+        → IfOk result (λ next. next ≡ schema_after_each schema.now (evolution_of op.now)) }
     ensures same { IfSome (op_fault schema.now (operator_of op.now))
         (λ _. IfOk result (λ next. next ≡ schema.now)) }
     ensures valid { IsValid schema.now → IfOk result (λ next. IsValid next) }

@@ -1,8 +1,11 @@
 -- What is after the members of an operator, one after the other.
-use Rattle.std.specs.Prelude.{◌≡◌, ◌<◌, ◌^◌, ℕ, ◌+◌, List, [], ◌∷◌, ◌++◌, Bool, false, ◌||◌, Option, None, ⊤}
+use Rattle.std.specs.Prelude.{◌≡◌, ◌<◌, ◌^◌, ℕ, ◌+◌, List, [], ◌∷◌, ◌++◌, Bool, false, ◌||◌}
+use Rattle.std.specs.Prelude.{Option, None, Result, ⊤}
 use Rattle.std.specs.Option.{option_map, option_or}
 use Rattle.prima_base.specs.declared.refusal.OpRefusal.{OpRefusal}
 use Rattle.prima_base.specs.declared.refusal.OpRefusal.TheVariants.{WrongType}
+use Rattle.prima_base.specs.declared.fault.CallFault.{CallFault}
+use Rattle.prima_base.specs.Faults.{IsTestedAs}
 use Rattle.schema_catalog.specs.Tables.{Tables}
 use Rattle.schema_catalog.specs.Databases.{Database}
 use Rattle.cond_expr.specs.Sizes.{nodes_of, test_nodes}
@@ -47,6 +50,11 @@ members_fault now at (op ∷ ops) = option_or (option_map (counted_from at) (op_
 
 abbrev pub evolution_fault : Tables → List Operator → Option OpRefusal
 evolution_fault now ops = members_fault now 0 ops
+
+-- what is answered of operators one after the other
+abbrev pub IsAfterEach : Tables → List Operator → Result Tables (CallFault OpRefusal) → Type 0
+IsAfterEach tables ops answer =
+    IsTestedAs (λ next. next ≡ schema_after_each tables ops) (evolution_fault tables ops) answer
 
 -- ---- several of these, one after the other
 

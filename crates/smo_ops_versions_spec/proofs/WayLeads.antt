@@ -30,7 +30,7 @@ use Rattle.smo_ops_spec.proofs.ValidInverses.{accepted_leads_back}
 use Rattle.smo_ops_spec.proofs.MemberLaws.{all_accepted, each_is_valid, schema_after_both}
 use Rattle.smo_ops_spec.proofs.MemberLaws.{accepted_both}
 use Rattle.smo_ops_versions_spec.specs.TableColumns.{HaveColumns}
-use Rattle.smo_ops_versions_spec.specs.Steps.{carrying, carrying_each, Lead}
+use Rattle.smo_ops_versions_spec.specs.Steps.{carrying_each, Lead}
 use Rattle.smo_ops_versions_spec.specs.Ways.{step_by, step_back, back_over_members, back_over}
 use Rattle.smo_ops_versions_spec.specs.Ways.{over_version, back_over_version, to_next, from_next}
 use Rattle.smo_ops_versions_spec.specs.Ways.{forward, backward, way}
