@@ -94,10 +94,14 @@ AreOps = grammar.seq IsOp (λ op. grammar.map (λ l. op ∷ l)
 abbrev pub IsInverse : Grammar (List Operator)
 IsInverse = grammar.option [] (word (codes "INVERSE")) AreOps
 
+-- each operator that is written has one member
+abbrev pub evolving_by : Operator → List Operator → PlainBody
+evolving_by op inverse = evolving (op ∷ []) (map (λ o. o ∷ []) inverse)
+
 -- EVOLVE op [ INVERSE op { THEN op } ]
 abbrev pub IsEvolve : Grammar PlainBody
 IsEvolve = grammar.lead (word (codes "EVOLVE"))
-    (grammar.seq IsOp (λ op. grammar.map (λ inverse. evolving op inverse) IsInverse))
+    (grammar.seq IsOp (λ op. grammar.map (λ inverse. evolving_by op inverse) IsInverse))
 
 -- ---- statements
 
