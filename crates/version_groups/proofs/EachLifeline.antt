@@ -82,7 +82,8 @@ module _ (versions : List PlainVersion) (v : PlainVersion)
       (in_map (line_begun (n + 1)) t (made_tables before v.op v.tables) i))
 
   -- a table that is made begins one
-  begun_over : (name : List ℕ) → is_some (get v.tables name) ≡ true → one_makes before v.op name ≡ true
+  begun_over : (name : List ℕ) → is_some (get v.tables name) ≡ true → one_makes before v.op name
+      ≡ true
       → IsOver more (n + 1) name
   begun_over name s e =
       let d = from_map (λ (x : List ℕ × List Column). x.0) name (entries v.tables)
@@ -90,7 +91,8 @@ module _ (versions : List PlainVersion) (v : PlainVersion)
       (ap is_some (sym (get-entries v.tables name)) ∙ s)) in
       record {
         line = line_begun (n + 1) d.0;
-        among = among_new d.0 (in_filter (λ (x : List ℕ × List Column). one_makes before v.op x.0) d.0
+        among = among_new d.0 (in_filter (λ (x : List ℕ × List Column). one_makes before v.op x.0)
+            d.0
             (entries v.tables) d.1 (ap (one_makes before v.op) d.2 ∙ e));
         named = d.2;
         over = is_covered (n + 1) (line_begun (n + 1) d.0) (omega arith) refl;
@@ -117,7 +119,8 @@ module _ (versions : List PlainVersion) (v : PlainVersion)
         line = line_after (one_consumes before v.op) n o.line;
         among = among_old o.line o.among;
         named = o.named;
-        over = is_covered (n + 1) (line_after (one_consumes before v.op) n o.line) (omega (arith, low))
+        over = is_covered (n + 1) (line_after (one_consumes before v.op) n o.line)
+            (omega (arith, low))
             (ap (λ b. is_up_to (last_after b n o.line.last) (n + 1))
             (ap (one_consumes before v.op) o.named ∙ e)
             ∙ ap (λ p. is_up_to (last_after false n p) (n + 1)) (lives o.line o.among o.over));

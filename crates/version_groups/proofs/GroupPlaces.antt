@@ -462,7 +462,8 @@ module _ (a b : Inside) (version : Version) (g : Vec ℕ) (begun : List MadeTabl
         ∙ ap (λ (x : Lifeline). x.last) t.3 ∙ i))
 
     long : length all ≡ length a.stored.items + length begun
-    long = length-append (map (table_after (one_consumes before_it its) number) a.stored.items) begun
+    long = length-append (map (table_after (one_consumes before_it its) number) a.stored.items)
+        begun
         ∙ ap (λ j. j + length begun) (length-map a.stored.items
         (table_after (one_consumes before_it its) number))
 
@@ -476,7 +477,8 @@ module _ (a b : Inside) (version : Version) (g : Vec ℕ) (begun : List MadeTabl
         let second : get_or all q t.0 ≡ u.0 =
         get_or_from_slice_get all q u.0 t.0 (table_at all q m f).1 in
         one_by_name all b.newest.items (subst (AreWithin b.newest.items) (sym long) there)
-        (subst (Ascends bytes_cmp) (sym (names_with (one_consumes before_it its) number a.stored.items
+        (subst (Ascends bytes_cmp) (sym (names_with (one_consumes before_it its) number
+        a.stored.items
         begun b.newest.items)) ordered) p q t.0 i j
         (ap (λ (x : MadeTable). x.name) t.2 ∙ ap (λ (x : Lifeline). x.table) t.3 ∙ s
         ∙ ap (λ (x : Lifeline). x.table) (sym u.3)

@@ -96,7 +96,8 @@ module _ (versions : List PlainVersion) (v : PlainVersion) where
           omega (arith, up, low)
           )
 
-      goes_on : covers (n + 1) l ≡ true → (m.last ≡ None) × (one_consumes before v.op m.table ≡ false)
+      goes_on : covers (n + 1) l ≡ true → (m.last ≡ None)
+          × (one_consumes before v.op m.table ≡ false)
       goes_on c = lived m.last refl (one_consumes before v.op m.table) (covered_up_to (n + 1) l c)
 
       was_there : covers (n + 1) l ≡ true → get before m.table ≡ Some m.columns
@@ -160,12 +161,16 @@ module _ (versions : List PlainVersion) (v : PlainVersion) where
               let own = subst (λ i. covers i l ≡ true) is c in (
                 ap (λ i. with_version one_makes more i m.table) is ∙ does_last one_makes m.table
                     ∙ unmade own,
-                ap (λ i. with_version one_consumes more i m.table) is ∙ does_last one_consumes m.table
+                ap (λ i. with_version one_consumes more i m.table) is ∙ does_last one_consumes
+                    m.table
                     ∙ (goes_on own).1,
               )
           | inr j ↦
-              let own = h.inside k f j (did_cover (one_consumes before v.op) n m k c) in
-              (does_still one_makes k m.table j ∙ own.0, does_still one_consumes k m.table j ∙ own.1)
+              let own = h.inside k f j (did_cover (one_consumes before v.op) n m k c) in (
+                does_still one_makes k m.table j ∙ own.0,
+                does_still one_consumes k m.table j
+                    ∙ own.1,
+              )
         ];
         ends = λ last e. (
             let own = ends_with m.last refl (one_consumes before v.op m.table) refl last e in
@@ -198,7 +203,8 @@ module _ (versions : List PlainVersion) (v : PlainVersion) where
         (map (line_begun (n + 1)) (made_tables before v.op v.tables))
         (subst (λ (ls : List Lifeline). In l ls) (lifelines_with versions v) i)) [
           | inl j ↦
-              let m = from_map (line_after (one_consumes before v.op) n) l (lifelines_of versions) j in
+              let m = from_map (line_after (one_consumes before v.op) n) l (lifelines_of versions)
+              j in
               subst (IsLongest more) m.2 (still_longest m.0 (h m.0 m.1))
           | inr j ↦
               let t = from_map (line_begun (n + 1)) l (made_tables before v.op v.tables) j in

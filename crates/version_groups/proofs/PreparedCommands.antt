@@ -267,7 +267,8 @@ schema_is kept past represents nothing versions n e =
 
 -- ---- an operator
 
-module _ (kept : Kept) (past : Past) (stamp : ℕ) (op : List Operator) (inverse : List (List Operator))
+module _ (kept : Kept) (past : Past) (stamp : ℕ) (op : List Operator)
+    (inverse : List (List Operator))
     (represents : Represents kept past) (valid : stamp < forever)
     (accepted : command_fault past (a_command stamp (evolving op inverse)) ≡ None) where
   tests : first_refusal (body_tests past (evolving op inverse)) ≡ None

@@ -119,10 +119,12 @@ come_again kept new v begun own versions stored h = record {
       ≡ map (line_begun (length vs + 1)) (made_tables (newest_from no_tables (map version_of vs))
       (evolution_of v.op) v.schema)) versions h.lines;
   living = subst (λ (vs : List Version). AreLiving
-      (map (table_after (one_consumes (newest_from no_tables (map version_of vs)) (evolution_of v.op))
+      (map (table_after (one_consumes (newest_from no_tables (map version_of vs))
+      (evolution_of v.op))
       (length vs)) new.stored ++ begun) own) versions
       (subst (λ (ts : List MadeTable). AreLiving
-      (map (table_after (one_consumes (newest_from no_tables (versions_in kept)) (evolution_of v.op))
+      (map (table_after (one_consumes (newest_from no_tables (versions_in kept))
+      (evolution_of v.op))
       (length kept.versions)) ts ++ begun) own) stored h.living);
 }
 
@@ -145,7 +147,8 @@ module _ (kept : Kept) (h : AreRestored kept) (op : List Operator) where
       ∙ newest_tables_from no_tables (versions_in kept)) (h.tables n name (omega arith))
 
   -- a table of the next version that is not made is stored, with its columns
-  pub others_stored : (after : Tables) → after ≡ schema_after_each before op → (is_made : List ℕ → Bool)
+  pub others_stored : (after : Tables) → after ≡ schema_after_each before op
+      → (is_made : List ℕ → Bool)
       → ((name : List ℕ) → is_made name ≡ one_makes before op name)
       → OthersAre after is_made (λ name. table_in kept n name)
   others_stored after is is_made alike name columns there unmade =
@@ -172,7 +175,8 @@ module _ (kept : Kept) (h : AreRestored kept) (op : List Operator) where
   -- the tables that begin with it come with it
   pub comes_over : (v : Version) (begun : List MadeTable) (places : List ℕ) → evolution_of v.op ≡ op
       → evolution_fault before op ≡ None → v.schema ≡ schema_after_each before op
-      → ComeNext kept.stored (newest_places kept) (one_makes before op) (BeginsOver (n + 1)) HasColumns
+      → ComeNext kept.stored (newest_places kept) (one_makes before op) (BeginsOver (n + 1))
+      HasColumns
       v.schema begun places → ComeWith kept v begun places
   comes_over v begun places is accepted schema next = record {
     lines =
@@ -180,14 +184,16 @@ module _ (kept : Kept) (h : AreRestored kept) (op : List Operator) where
         (made_tables before op v.schema) begun next.begin
         ∙ ap (λ o. map (line_begun (n + 1)) (made_tables before o v.schema)) (sym is);
     living =
-        subst (λ o. AreLiving (map (table_after (one_consumes before o) n) kept.stored ++ begun) places)
+        subst (λ o. AreLiving (map (table_after (one_consumes before o) n) kept.stored ++ begun)
+        places)
         (sym is)
         (living_after kept.stored begun (newest_places kept) places before op n
         (all_accepted before op accepted)
         (newest_living kept h.lifelines)
         (λ name s e. entry_some (HasColumns name) (get before name) (table_in kept n name) s e
         (newest_entry name)) (λ j t l. (fresh j t l).last)
-        (subst (λ (t : Tables). ArePlaced kept.stored begun (newest_places kept) (one_makes before op) t
+        (subst (λ (t : Tables). ArePlaced kept.stored begun (newest_places kept)
+        (one_makes before op) t
         places) schema next.placed) gone);
   }
     where
@@ -219,7 +225,8 @@ module _ (kept new : Kept) (h : AreRestored kept) (v : Version) (begun : List Ma
   m = length kept.versions
 
   pub stores_with : stores_of new.stored ≡ stores_of kept.stored ++ stores_of begun
-  stores_with = ap stores_of (has.stored old) ∙ stores_after (one_consumes old op) m kept.stored begun
+  stores_with = ap stores_of (has.stored old) ∙ stores_after (one_consumes old op) m kept.stored
+      begun
 
   module _ (next : ComeNext kept.stored (newest_places kept) (one_makes old op) (BeginsOver (m + 1))
       HasColumns v.schema begun places) where

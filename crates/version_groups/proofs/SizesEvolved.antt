@@ -138,7 +138,8 @@ module _ (before : Tables) (op : List Operator) (k : ℕ) where
   have_after (s ∷ sizes) [] h = absurd (no_size s sizes h)
   have_after (s ∷ sizes) (t ∷ tables) h =
       one_has (size_after before op k s) (map (size_after before op k) sizes)
-      (table_after (one_consumes before op) k t) (map (table_after (one_consumes before op) k) tables)
+      (table_after (one_consumes before op) k t) (map (table_after (one_consumes before op) k)
+      tables)
       (ends s t (h.each 0 s t (omega arith)))
       (have_after sizes tables (rest_have s sizes t tables h))
 
@@ -187,7 +188,8 @@ relation_in columns (Some (Lost k i)) h = absurd h
 module _ (kept : Kept) (past : Past) (op : List Operator) (stamp : ℕ) (database : Database)
     (represents : Represents kept past) (accepted : evolution_fault (newest_tables past) op ≡ None)
     (number : length kept.versions ≡ length past.versions)
-    (whole : IsDatabase (schema_after_each (newest_tables past) op) database) (begun : List MadeTable)
+    (whole : IsDatabase (schema_after_each (newest_tables past) op) database)
+    (begun : List MadeTable)
     (places : List ℕ)
     (begin : BeginInOrder (BeginsWith (length kept.versions + 1) stamp
     (λ name. rows_under (get database name)))
@@ -265,7 +267,8 @@ module _ (kept : Kept) (past : Past) (op : List Operator) (stamp : ℕ) (databas
       omega (arith, l, as_many))).last) placed gone
 
 -- an operator whose command is accepted is accepted
-pub operator_accepted : (past : Past) (stamp : ℕ) (op : List Operator) (inverse : List (List Operator))
+pub operator_accepted : (past : Past) (stamp : ℕ) (op : List Operator)
+    (inverse : List (List Operator))
     → command_fault past (a_command stamp (evolving op inverse)) ≡ None
     → evolution_fault (newest_tables past) op ≡ None
 operator_accepted past stamp op inverse accepted =
@@ -284,7 +287,8 @@ begins_line : (version stamp : ℕ) (rows : List ℕ → Relation) (m : List ℕ
 begins_line version stamp rows m t h = line_is version m t h.name h.first h.last h.columns
 
 -- a version that is ready, with the tables that begin with it
-module _ (kept : Kept) (past : Past) (stamp : ℕ) (op : List Operator) (inverse : List (List Operator))
+module _ (kept : Kept) (past : Past) (stamp : ℕ) (op : List Operator)
+    (inverse : List (List Operator))
     (represents : Represents kept past) (number : length kept.versions ≡ length past.versions)
     (accepted : command_fault past (a_command stamp (evolving op inverse)) ≡ None) (made : Version)
     (begun : List MadeTable) (places : List ℕ)
@@ -326,7 +330,8 @@ module _ (kept : Kept) (past : Past) (stamp : ℕ) (op : List Operator) (inverse
         (made_tables (newest_tables past) op t))
         (ap (λ (v : PlainVersion). v.tables) ready.version));
     living =
-        subst (λ (t : Tables). AreLiving (map (table_after (one_consumes t its) (length kept.versions))
+        subst (λ (t : Tables). AreLiving (map (table_after (one_consumes t its)
+        (length kept.versions))
         kept.stored ++ begun) places) (sym same_before)
         (subst (λ o. AreLiving (map (table_after (one_consumes (newest_tables past) o)
         (length kept.versions)) kept.stored ++ begun) places) (sym same_op)

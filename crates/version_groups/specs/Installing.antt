@@ -66,7 +66,8 @@ pub record HasVersion (kept new : Kept) (made : Version) (begun : List MadeTable
   pub versions : new.versions ≡ kept.versions ++ made ∷ []
   pub newest : newest_places new ≡ places
   pub stored : (before : Tables) → new.stored
-      ≡ map (table_after (one_consumes before (evolution_of made.op)) (length kept.versions)) kept.stored
+      ≡ map (table_after (one_consumes before (evolution_of made.op)) (length kept.versions))
+      kept.stored
       ++ begun
   pub tables : (k : ℕ) → (name : List ℕ) → k ≤ length kept.versions
       → table_in new k name ≡ table_in kept k name

@@ -10,7 +10,8 @@ use Rattle.smo_ops_spec.specs.Past.{no_tables, tables_from}
 use Rattle.smo_ops_spec.specs.Evolutions.{one_makes, one_consumes}
 use Rattle.version_groups.specs.Lifelines.{Lifeline, covers}
 
-abbrev pub of_operator : (Tables → List Operator → List ℕ → Bool) → Tables → Option PlainVersion → List ℕ
+abbrev pub of_operator : (Tables → List Operator → List ℕ → Bool) → Tables → Option PlainVersion
+    → List ℕ
     → Bool
 of_operator does before None name = false
 of_operator does before (Some v) name = does before v.op name
@@ -25,7 +26,8 @@ with_version does versions (suc k) name = of_operator does (tables_from no_table
 
 -- the table is made with the first version of the lifeline, and is there, with the lifeline's
 -- columns, in each that it covers; none of these but the first comes with an operator of which a
--- member makes or consumes it; and the lifeline ends only where one of the next operator consumes it
+-- member makes or consumes it; and the lifeline ends only where one of the next operator's consumes
+-- it
 pub record IsLongest (versions : List PlainVersion) (l : Lifeline) : Type 0 where
   pub begun : l.first ≤ length versions
   pub begins : with_version one_makes versions l.first l.table ≡ true

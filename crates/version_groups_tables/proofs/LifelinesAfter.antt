@@ -37,7 +37,8 @@ entry_none Is (Some store) h = absurd h
 
 -- the tables that are stored, at the places of the version before, each of which is in its schema;
 -- and those that begin, at the places of the next version
-module _ (stored begun : List MadeTable) (own places : List ℕ) (before : Tables) (op : List Operator)
+module _ (stored begun : List MadeTable) (own places : List ℕ) (before : Tables)
+    (op : List Operator)
     (n : ℕ) (accepted : AllOperatorsAccepted before op) (living : AreLiving stored own)
     (known : (name : List ℕ) (s : Store) → stored_as name (at_places stored own) ≡ Some s
     → is_some (get before name) ≡ true)

@@ -208,7 +208,8 @@ module _ (before : Tables) (op : Operator) (database : Database) (stamp : ℕ) (
             (filter_alike (λ (x : List ℕ × List Column). is_made it x.0)
             (λ (x : List ℕ × List Column). one_makes before (op ∷ []) x.0) (entries after)
             (λ x. made_is x.0)) h.begin);
-        placed = placed_alike own begun places (is_made it) (one_makes before (op ∷ [])) after next_places
+        placed = placed_alike own begun places (is_made it) (one_makes before (op ∷ [])) after
+            next_places
             made_is h.placed;
         there = h.there;
         ordered = h.ordered;

@@ -61,7 +61,8 @@ pub record IsEvolved (stored : List MadeTable) (own : List ℕ) (number : ℕ) (
         schema_after_each before op;
   }
   pub tables : AreNext stored own number stamp (one_makes before op)
-      (λ name. rows_under (get (carried_each before op database) name)) (schema_after_each before op) begun
+      (λ name. rows_under (get (carried_each before op database) name))
+      (schema_after_each before op) begun
       places
 
 -- a table of the next version at its place: it is there already, or the last that begins; and what

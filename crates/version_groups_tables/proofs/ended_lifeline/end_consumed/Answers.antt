@@ -44,7 +44,8 @@ returns c = λ before.
     let first = is_name (option_copied names.first) in
     let second = is_name (option_copied names.second) in
     let either : (name : List ℕ) → one_consumes before (op ∷ []) name ≡ (first name || second name)
-    = λ name. one_consumes_of_one before op name ∙ ap (among name) (c.consumed-names.ensures.names before)
+    = λ name. one_consumes_of_one before op name ∙ ap (among name)
+    (c.consumed-names.ensures.names before)
     ∙ among_these (option_copied names.first) (option_copied names.second) name
     (c.consumed-names.ensures.second before
     ∙ ap (λ ns. slice_get ns 1) (c.consumed-names.ensures.names before)) in

@@ -96,7 +96,8 @@ begin_version-requires-clause-stored c =
       subst (λ (t : Tables). AreStored t (newest_database h.0) v.stamp
           (at_places c.deref.result.now c.deref-2.result.now)) (sym schema)
           (subst (AreStored (newest_tables h.0) (newest_database h.0) v.stamp) group
-          (stored_now c.args.self.now h.0 v.stamp (evolution_of v.op) (evolutions_of v.inverse.items)
+          (stored_now c.args.self.now h.0 v.stamp (evolution_of v.op)
+          (evolutions_of v.inverse.items)
           h.1 h.2.stamp h.2.accepted)),
     )
 

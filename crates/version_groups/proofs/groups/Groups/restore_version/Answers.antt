@@ -85,7 +85,8 @@ install_version-requires-clause-come c =
     (BeginsOver (length old.versions + 1)) HasColumns c.args.version.schema begun places) kept
     (subst (λ ps. ComeNext c.deref.result.now ps (one_makes before op)
     (BeginsOver (length old.versions + 1)) HasColumns c.args.version.schema begun places) own
-    (subst (λ n. ComeNext c.deref.result.now c.deref-2.result.now (one_makes before op) (BeginsOver n)
+    (subst (λ n. ComeNext c.deref.result.now c.deref-2.result.now (one_makes before op)
+    (BeginsOver n)
     HasColumns c.args.version.schema begun places) number made)) in
     come_again old mid c.args.version begun places (sym c.reserve_version.ensures.same.versions)
     (sym c.reserve_version.ensures.stored)
@@ -123,7 +124,8 @@ returns-clause-restored c =
     (BeginsOver (length old.versions + 1)) HasColumns c.args.version.schema begun places) kept
     (subst (λ ps. ComeNext c.deref.result.now ps (one_makes before op)
     (BeginsOver (length old.versions + 1)) HasColumns c.args.version.schema begun places) own
-    (subst (λ n. ComeNext c.deref.result.now c.deref-2.result.now (one_makes before op) (BeginsOver n)
+    (subst (λ n. ComeNext c.deref.result.now c.deref-2.result.now (one_makes before op)
+    (BeginsOver n)
     HasColumns c.args.version.schema begun places) number made)) in
     restored_with old c.install_version.new.self c.requires.restored c.args.version begun places has
     next
