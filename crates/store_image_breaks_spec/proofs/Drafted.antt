@@ -114,6 +114,7 @@ read_is_draft i h =
       evolved = v.evolved;
       few = (let f = v.few (omega arith) in omega (arith, f));
       named = v.named;
+      members = v.members;
       ends = last_below i.last h.last;
       begun = v.begun;
       without = v.without;

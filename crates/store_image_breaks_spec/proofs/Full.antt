@@ -103,7 +103,8 @@ draft_is_full i h = record {
     versions = (
       omega (arith, few),
       valid_read i.last h.ends 0 None no_tables i.versions
-          none_is_valid h.evolved h.begun h.without (let f = few in omega (arith, f)) h.named,
+          none_is_valid h.evolved h.begun h.without (let f = few in omega (arith, f)) h.named
+          h.members,
     )
 
     due : ((d : Lifeline) → In d (lifelines_of i.versions) → IsLifeline (length i.versions) d)

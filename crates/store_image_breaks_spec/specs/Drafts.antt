@@ -9,7 +9,7 @@ use Rattle.history_store_spec.specs.Store.{Cell, IsPeriod, IsFilled, Holds, row_
 use Rattle.smo_ops_spec.specs.ValidPast.{last_or_nought, AllInForce, AreVersions}
 use Rattle.smo_ops_spec.specs.Past.{no_tables}
 use Rattle.smo_ops_versions_spec.specs.Lifelines.{lifelines_of}
-use Rattle.store_image_spec.specs.Images.{StoredLine, Image, EndsUpTo, VersionsNamed, lines_in}
+use Rattle.store_image_spec.specs.Images.{StoredLine, Image, EndsUpTo, VersionsNamed, VersionsOfOne, lines_in}
 
 -- over a lifeline
 pub record IsDraftLine (last : Option ℕ) (l : StoredLine) : Type 0 where
@@ -33,6 +33,7 @@ pub record IsDraft (image : Image) : Type 0 where
   pub evolved : AreVersions None no_tables image.versions
   pub few : length image.versions ≤ max_versions
   pub named : VersionsNamed image.versions
+  pub members : VersionsOfOne image.versions
   pub ends : last_or_nought image.last < forever
   pub begun : AllInForce (last_or_nought image.last) image.versions
   pub without : image.last ≡ None → image.versions ≡ []

@@ -8,8 +8,9 @@ use Rattle.smo_ops_types.specs.Operators.{Operator, nop, create_table, drop_tabl
 use Rattle.smo_ops_types.specs.Operators.{copy_table, merge_table, partition_table, decompose_table}
 use Rattle.smo_ops_types.specs.Operators.{join_table, add_column, drop_column, rename_column}
 use Rattle.smo_ops_types.specs.Commands.{PlainVersion}
-use Rattle.smo_ops_spec.specs.ValidValues.{OperatorHolds, OperatorsHold, VersionsHold}
-use Rattle.command_codec_spec.specs.Valid.{TreeNamed, TreesNamed, OperatorNamed}
+use Rattle.smo_ops_spec.specs.ValidValues.{OperatorHolds, OperatorsHold, AllOperatorsHold}
+use Rattle.smo_ops_spec.specs.ValidValues.{VersionsHold}
+use Rattle.command_codec_spec.specs.Valid.{TreeNamed, TreesNamed, OperatorNamed, EvolutionNamed}
 use Rattle.store_image_spec.specs.Images.{VersionsNamed}
 
 mutual
@@ -42,9 +43,13 @@ operators_hold : (ops : List Operator) → AllByRecursion OperatorNamed ops → 
 operators_hold [] h = tt
 operators_hold (op ∷ ops) h = (operator_holds op h.0, operators_hold ops h.1)
 
+all_hold : (ops : List (List Operator)) → AllByRecursion EvolutionNamed ops → AllOperatorsHold ops
+all_hold [] h = tt
+all_hold (op ∷ ops) h = (operators_hold op h.0, all_hold ops h.1)
+
 pub versions_hold : (versions : List PlainVersion) → VersionsNamed versions → VersionsHold versions
 versions_hold [] h = tt
 versions_hold (v ∷ versions) h = (
-  (operator_holds v.op h.0.0, operators_hold v.inverse h.0.1),
+  (operators_hold v.op h.0.0, all_hold v.inverse h.0.1),
   versions_hold versions h.1,
 )

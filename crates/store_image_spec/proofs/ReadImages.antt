@@ -279,6 +279,7 @@ read_is_image i h =
       evolved = v.evolved;
       few = (let f = v.few (omega arith) in omega (arith, f));
       named = v.named;
+      members = v.members;
       ends = last_below i.last h.last;
       begun = v.begun;
       without = v.without;
@@ -296,7 +297,8 @@ image_is_read i h = record { last = below_last i.last h.ends; versions = version
     versions = (
       omega (arith, few),
       valid_read i.last h.ends 0 None no_tables i.versions
-          none_is_valid h.evolved h.begun h.without (let f = few in omega (arith, f)) h.named,
+          none_is_valid h.evolved h.begun h.without (let f = few in omega (arith, f)) h.named
+          h.members,
     )
 
     due : ((d : Lifeline) → In d (lifelines_of i.versions) → IsLifeline (length i.versions) d)

@@ -15,7 +15,7 @@ use Rattle.schema_catalog.specs.Tables.{Tables}
 use Rattle.history_store_spec.specs.Store.{Cell}
 use Rattle.smo_ops_types.specs.Commands.{PlainVersion}
 use Rattle.smo_ops_types.specs.Operators.{Operator}
-use Rattle.smo_ops_spec.specs.After.{schema_after}
+use Rattle.smo_ops_spec.specs.Evolutions.{schema_after_each}
 use Rattle.smo_ops_spec.specs.OneRow.{same}
 use Rattle.smo_ops_spec.specs.Past.{no_tables}
 use Rattle.smo_ops_spec.proofs.NameLaws.{same_itself}
@@ -23,13 +23,17 @@ use Rattle.command_codec_spec.specs.Reading.{Out, Parsed, Unexpected, Parser, an
 use Rattle.command_codec_spec.specs.Reading.{byte, map_to, pair, digits, items}
 use Rattle.command_codec_spec.specs.Reader.{up_to, number_64, name, value, operator, operators}
 use Rattle.command_codec_spec.specs.Encoding.{number, name_bytes, value_bytes, operator_bytes}
+use Rattle.command_codec_spec.specs.Encoding.{evolution_bytes}
 use Rattle.command_codec_spec.specs.Encoding.{list_bytes}
-use Rattle.command_codec_spec.specs.Valid.{IsOperator}
+use Rattle.command_codec_spec.specs.Valid.{IsOperator, IsWritableOperator, OperatorNamed}
+use Rattle.command_codec_spec.specs.Valid.{IsWritableEvolution, EvolutionNamed}
 use Rattle.command_codec_spec.proofs.Correctness.{byte_correct}
 use Rattle.command_codec_spec.proofs.Numbers.{both_true, of_both}
 use Rattle.command_codec_spec.proofs.PartFormats.{name_correct, value_correct, items_correct}
 use Rattle.command_codec_spec.proofs.PartFormats.{list_correct}
-use Rattle.command_codec_spec.proofs.CommandFormats.{operator_correct}
+use Rattle.command_codec_spec.proofs.OneMember.{ones, same_length, listed_as_members}
+use Rattle.command_codec_spec.proofs.OneMember.{writable_ones, named_ones, all_ones}
+use Rattle.command_codec_spec.proofs.CommandFormats.{operator_correct, each_of_both}
 use Rattle.smo_ops_versions_spec.specs.Lifelines.{Lifeline, lifelines_of}
 use Rattle.store_image_spec.specs.Images.{StoredLine, Image}
 use Rattle.store_image_spec.specs.Items.{item, checked}
@@ -126,11 +130,12 @@ reads_last = reads_item (bind (byte (up_to 1)) last_arm) IsLast last_bytes
 
 -- a stamp of 64 bits, and operators that can be spelled
 abbrev pub IsEncoded : PlainVersion → Type 0
-IsEncoded v = (v.stamp ≤ most_64) × IsOperator v.op × (length v.inverse ≤ most_32)
-    × AllByRecursion IsOperator v.inverse
+IsEncoded v = (v.stamp ≤ most_64) × (IsWritableEvolution v.op × EvolutionNamed v.op)
+    × (length v.inverse ≤ most_32)
+    × (AllByRecursion IsWritableEvolution v.inverse × AllByRecursion EvolutionNamed v.inverse)
 
 abbrev pub IsEvolution : Tables → PlainVersion → Type 0
-IsEvolution before v = IsEncoded v × (v.tables ≡ schema_after before v.op)
+IsEvolution before v = IsEncoded v × (v.tables ≡ schema_after_each before v.op)
 
 abbrev Operators : List Operator → Type 0
 Operators ops = (length ops ≤ most_32) × AllByRecursion IsOperator ops
@@ -154,18 +159,59 @@ reads_parts = reads_pair number_64 (λ n. n ≤ most_64) (λ n. number 8 n) (pai
     (reads_pair operator IsOperator operator_bytes operators Operators (list_bytes 4 operator_bytes)
     (reads_correct operator IsOperator operator_bytes operator_correct) reads_operators)
 
+-- what is read is a version of operators of one member each
+part_read : (before : Tables) (x : ℕ × (Operator × List Operator)) → Parts x
+    → IsEvolution before (version_after before x)
+part_read before x h =
+    let each = each_of_both IsWritableOperator OperatorNamed x.1.1 h.1.1.1 in
+    let few = h.1.1.0 in
+    let same = same_length x.1.1 in (
+      (
+        h.0,
+        (h.1.0.0, (h.1.0.1, tt)),
+        omega (arith, few, same),
+        (writable_ones x.1.1 each.0, named_ones x.1.1 each.1),
+      ),
+      refl,
+    )
+
+abbrev version_of_parts : ℕ → List Operator → List (List Operator) → Tables → PlainVersion
+version_of_parts stamp op inverse tables = record {
+  stamp = stamp;
+  op = op;
+  inverse = inverse;
+  tables = tables;
+}
+
+-- and each such version is read
+part_of : (before : Tables) (v : PlainVersion) (op : List Operator) → v.op ≡ op
+    → IsWritableEvolution op → EvolutionNamed op → IsEvolution before v
+    → (x : ℕ × (Operator × List Operator)) × Parts x × (v ≡ version_after before x)
+part_of before v [] e w n h = absurd w
+part_of before v (op ∷ []) e w n h =
+    let all = all_ones v.inverse h.0.3.0 h.0.3.1 in
+    let few = h.0.2 in
+    let same = same_length all.0 in
+    let long : length (ones all.0) ≡ length v.inverse = ap length all.2 in (
+      (v.stamp, (op, all.0)),
+      (h.0.0, ((w, n.0), (omega (arith, few, same, long), all.1))),
+      ap (version_of_parts v.stamp v.op v.inverse) h.1
+          ∙ ap (λ o. version_of_parts v.stamp o v.inverse (schema_after_each before o)) e
+          ∙ ap (λ l. version_of_parts v.stamp (op ∷ []) l (schema_after_each before (op ∷ [])))
+          (sym all.2),
+    )
+part_of before v (op ∷ p ∷ ops) e w n h = absurd w
+
 reads_evolution : (before : Tables) → Reads (evolution before) (IsEvolution before) version_bytes
 reads_evolution before = reads_map (pair number_64 (pair operator operators)) Parts part_bytes
     reads_parts (version_after before) (IsEvolution before) version_bytes
     (λ x h. (
-      ((h.0, h.1.0, h.1.1.0, h.1.1.1), refl),
-      append_assoc (number 8 x.0) (operator_bytes x.1.0) (list_bytes 4 operator_bytes x.1.1),
+      part_read before x h,
+      append_assoc (number 8 x.0) (operator_bytes x.1.0) (list_bytes 4 evolution_bytes (ones x.1.1))
+          ∙ ap (λ (bytes : List ℕ). number 8 x.0 ++ (operator_bytes x.1.0 ++ bytes))
+          (listed_as_members x.1.1),
     ))
-    (λ v h. (
-      (v.stamp, (v.op, v.inverse)),
-      (h.0.0, (h.0.1, (h.0.2, h.0.3))),
-      ap (λ t. record { stamp = v.stamp; op = v.op; inverse = v.inverse; tables = t }) h.1,
-    ))
+    (λ v h. part_of before v v.op refl h.0.1.0 h.0.1.1 h)
 
 abbrev pub IsVersionRead : Option ℕ → ℕ → Option ℕ → Tables → PlainVersion → Type 0
 IsVersionRead last number before tables v = IsEvolution tables v

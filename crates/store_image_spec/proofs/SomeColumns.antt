@@ -26,11 +26,12 @@ use Rattle.smo_ops_spec.specs.Preconditions.{among, first_not_among, is_there}
 use Rattle.smo_ops_spec.specs.Making.{column_cmp, in_order, named, without, type_of_value}
 use Rattle.smo_ops_spec.specs.OperatorTable.{line}
 use Rattle.smo_ops_spec.specs.After.{op_fault, schema_after, IsValid}
+use Rattle.smo_ops_spec.specs.Evolutions.{schema_after_each, AllOperatorsAccepted}
 use Rattle.smo_ops_spec.proofs.Firsts.{met, none_mapped}
 use Rattle.smo_ops_spec.proofs.NameLaws.{same_not, same_turned}
 use Rattle.smo_ops_spec.proofs.StepLaws.{AllMet}
 use Rattle.smo_ops_spec.proofs.NextSchemas.{all_preconditions, is_table, Each, EachMade, each_after}
-use Rattle.smo_ops_spec.proofs.NextSchemas.{ordered_columns}
+use Rattle.smo_ops_spec.proofs.NextSchemas.{ordered_columns, next_is_valid}
 use Rattle.smo_ops_spec.proofs.MetPreconditions.{create_met, decompose_met, drop_met}
 use Rattle.command_codec_spec.proofs.Correctness.{by_test, true_false}
 use Rattle.command_codec_spec.proofs.Numbers.{of_both}
@@ -183,7 +184,15 @@ made_some tables (rename_column b r c) l h m =
       tt,
     )
 
-pub next_has_columns : (tables : Tables) (op : Operator) → IsValid tables → Each HasColumn tables
+next_has_columns : (tables : Tables) (op : Operator) → IsValid tables → Each HasColumn tables
     → op_fault tables op ≡ None → Each HasColumn (schema_after tables op)
 next_has_columns tables op l h e = each_after HasColumn tables (line tables op).made
     (line tables op).consumed h (made_some tables op l h (all_preconditions tables op e))
+
+-- and so after operators, one after the other
+pub each_has_columns : (tables : Tables) (ops : List Operator) → IsValid tables
+    → Each HasColumn tables → AllOperatorsAccepted tables ops
+    → Each HasColumn (schema_after_each tables ops)
+each_has_columns tables [] l h a = h
+each_has_columns tables (op ∷ ops) l h a = each_has_columns (schema_after tables op) ops
+    (next_is_valid tables op l a.0) (next_has_columns tables op l h a.0) a.1

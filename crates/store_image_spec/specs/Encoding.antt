@@ -5,7 +5,7 @@ use Rattle.std.specs.List.{flat_map}
 use Rattle.relations_spec.specs.Spans.{Span}
 use Rattle.history_store_spec.specs.Store.{Cell}
 use Rattle.smo_ops_types.specs.Commands.{PlainVersion}
-use Rattle.command_codec_spec.specs.Encoding.{number, name_bytes, value_bytes, operator_bytes}
+use Rattle.command_codec_spec.specs.Encoding.{number, name_bytes, value_bytes, evolution_bytes}
 use Rattle.command_codec_spec.specs.Encoding.{list_bytes}
 use Rattle.smo_ops_versions_spec.specs.Lifelines.{Lifeline}
 use Rattle.store_image_spec.specs.Images.{StoredLine, Image}
@@ -24,7 +24,8 @@ last_bytes (Some stamp) = 1 ∷ number 8 stamp
 
 -- a version's stamp, its operator, and the operators of its inverse
 abbrev pub version_bytes : PlainVersion → List ℕ
-version_bytes v = number 8 v.stamp ++ operator_bytes v.op ++ list_bytes 4 operator_bytes v.inverse
+version_bytes v = number 8 v.stamp ++ evolution_bytes v.op
+    ++ list_bytes 4 evolution_bytes v.inverse
 
 abbrev pub span_bytes : Span → List ℕ
 span_bytes p = number 8 p.start ++ number 8 p.end

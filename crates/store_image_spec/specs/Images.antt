@@ -10,7 +10,7 @@ use Rattle.history_store_spec.specs.Store.{Cell, Store, IsStore}
 use Rattle.smo_ops_types.specs.Commands.{evolving, PlainVersion}
 use Rattle.smo_ops_spec.specs.ValidPast.{last_or_nought, AllInForce, AreVersions}
 use Rattle.smo_ops_spec.specs.Past.{no_tables}
-use Rattle.command_codec_spec.specs.Valid.{BodyNamed}
+use Rattle.command_codec_spec.specs.Valid.{BodyNamed, HaveOneMember}
 use Rattle.smo_ops_versions_spec.specs.Lifelines.{Lifeline, lifelines_of}
 
 -- what is kept of a table over a lifeline of it: the period of each key, whose id is its place, and
@@ -66,12 +66,18 @@ abbrev pub VersionsNamed : List PlainVersion → Type 0
 VersionsNamed [] = ⊤
 VersionsNamed (v ∷ versions) = BodyNamed (evolving v.op v.inverse) × VersionsNamed versions
 
+-- each version's operator, and each of its inverse, has one member: others are not written yet
+abbrev pub VersionsOfOne : List PlainVersion → Type 0
+VersionsOfOne [] = ⊤
+VersionsOfOne (v ∷ versions) = HaveOneMember (evolving v.op v.inverse) × VersionsOfOne versions
+
 -- the versions are valid, the lifelines are those that their operators give, and over each a table
 -- is kept; the last stamp is that of a command, and no stamp is later
 pub record IsImage (image : Image) : Type 0 where
   pub evolved : AreVersions None no_tables image.versions
   pub few : length image.versions ≤ max_versions
   pub named : VersionsNamed image.versions
+  pub members : VersionsOfOne image.versions
   pub ends : last_or_nought image.last < forever
   pub begun : AllInForce (last_or_nought image.last) image.versions
   pub without : image.last ≡ None → image.versions ≡ []

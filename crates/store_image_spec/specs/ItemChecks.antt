@@ -12,7 +12,7 @@ use Rattle.prima_base.specs.Limits.{max_versions}
 use Rattle.schema_catalog.specs.Tables.{Tables}
 use Rattle.history_store_spec.specs.Store.{Cell, rows_from}
 use Rattle.smo_ops_types.specs.Commands.{evolving, PlainVersion}
-use Rattle.smo_ops_spec.specs.After.{op_fault}
+use Rattle.smo_ops_spec.specs.Evolutions.{evolution_fault}
 use Rattle.smo_ops_spec.specs.Counts.{first_excess}
 use Rattle.smo_ops_spec.specs.Inverses.{inverse_fault}
 use Rattle.smo_ops_spec.specs.OneRow.{same}
@@ -42,7 +42,7 @@ abbrev pub is_accepted : ℕ → Option ℕ → Tables → PlainVersion → Bool
 is_accepted number before tables v =
     (nat_lt number max_versions && is_later before v.stamp)
     && (is_none (first_excess (evolving v.op v.inverse))
-    && (is_none (op_fault tables v.op) && is_none (inverse_fault tables v.op v.inverse)))
+    && (is_none (evolution_fault tables v.op) && is_none (inverse_fault tables v.op v.inverse)))
 
 abbrev pub is_version : Option ℕ → ℕ → Option ℕ → Tables → PlainVersion → Bool
 is_version last number before tables v = is_stamp last v.stamp && is_accepted number before tables v

@@ -3,7 +3,7 @@
 -- a missing entry or lifeline by what stands in its place; and what stands after the image by its
 -- first byte.
 use Rattle.std.specs.Prelude.{ℕ, zero, suc, ◌+◌, ◌==◌, Bool, List, [], ◌∷◌, Option, Some, None}
-use Rattle.std.specs.Prelude.{if◌then◌else◌}
+use Rattle.std.specs.Prelude.{map, if◌then◌else◌}
 use Rattle.relations_spec.specs.Spans.{Span, span}
 use Rattle.prima_base.specs.Columns.{Column}
 use Rattle.prima_base.specs.declared.value.ColType.{ColType}
@@ -12,7 +12,7 @@ use Rattle.schema_catalog.specs.Tables.{Tables}
 use Rattle.history_store_spec.specs.Store.{Cell}
 use Rattle.smo_ops_types.specs.Commands.{PlainVersion}
 use Rattle.smo_ops_types.specs.Operators.{Operator}
-use Rattle.smo_ops_spec.specs.After.{schema_after}
+use Rattle.smo_ops_spec.specs.Evolutions.{schema_after_each}
 use Rattle.smo_ops_spec.specs.Past.{no_tables}
 use Rattle.command_codec_spec.specs.Reading.{Parsed, Unexpected, Parser, bind, pure, map_to, pair}
 use Rattle.command_codec_spec.specs.Reading.{by_tag, digits, items}
@@ -38,13 +38,14 @@ last_stamp = item (by_tag (up_to 1) last_arm)
 
 -- ---- versions
 
+-- each operator that is read has one member
 abbrev pub version_after : Tables → ℕ × (Operator × List Operator) → PlainVersion
 version_after before (stamp, (op, inverse)) = record {
   stamp = stamp;
-  op = op;
-  inverse = inverse;
+  op = op ∷ [];
+  inverse = map (λ o. o ∷ []) inverse;
   tables =
-      schema_after before op;
+      schema_after_each before (op ∷ []);
 }
 
 abbrev pub evolution : Tables → Parser PlainVersion
