@@ -6,3 +6,4 @@ pub mod PassedOn
 pub mod EffectLaws
 pub mod ValidConstants
 pub mod BeginLaws
+pub mod OneCounts

@@ -6,8 +6,10 @@ ghost use Rattle.prima_base.specs.declared.refusal.What.TheVariants.{Inverse};
 ghost use Rattle.cond_expr.specs.Seen.{tree, test};
 ghost use Rattle.cond_expr.specs.Constants.{HasValid};
 ghost use Rattle.smo_ops_spec.specs.ValidValues.{CellsHold, SetsHold, ChangeHolds, ChangesHold};
-ghost use Rattle.smo_ops_spec.specs.ValidValues.{OperatorHolds, OperatorsHold, BodyHolds};
+ghost use Rattle.smo_ops_spec.specs.ValidValues.{OperatorHolds, OperatorsHold};
+ghost use Rattle.smo_ops_spec.specs.ValidValues.{AllOperatorsHold, BodyHolds};
 ghost use Rattle.smo_ops_types.specs.Operators.{operator_of, operators_of};
+ghost use Rattle.smo_ops_types.specs.Operators.{evolution_of, evolutions_of};
 ghost use Rattle.smo_ops_types.specs.Changes.{change_of, changes_of, sets_of};
 ghost use Rattle.smo_ops_types.specs.Commands.{changing, evolving, body_of};
 ghost use Rattle.smo_ops_spec.specs.First.{first_refusal};
@@ -139,9 +141,9 @@ fn check_changes(changes: &[Change]) -> Result<(), (What, u64)>
 /// and is a valid value. It takes no memory.
 pub fn check_evolve(op: &Op, inverse: &[Op]) -> Result<(), (What, u64)>
     ensures counts { result_err result ≡ first_excess
-        (evolving (operator_of op.now) (operators_of inverse.now)) }
-    ensures constants { OnOk result (OperatorHolds (operator_of op.now)
-        × OperatorsHold (operators_of inverse.now)) }
+        (evolving (evolution_of op.now) (evolutions_of inverse.now)) }
+    ensures constants { OnOk result (OperatorsHold (evolution_of op.now)
+        × AllOperatorsHold (evolutions_of inverse.now)) }
 {
     check_op_counts(op)?;
     check_each_op(&inverse[..inverse.len().min(MAX_INVERSE)])?;
