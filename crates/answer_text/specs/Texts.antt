@@ -132,15 +132,27 @@ explain_text list = flat_map explained_text list ++ count_text (length list)
 
 -- ---- versions
 
+-- members of an operator, each after THEN
+abbrev pub more_members : List Operator → List ℕ
+more_members [] = []
+more_members (op ∷ ops) = codes " THEN " ++ operator_text op ++ more_members ops
+
+-- the members of an operator, in brackets where there are several
+abbrev pub evolution_text : List Operator → List ℕ
+evolution_text [] = []
+evolution_text (op ∷ []) = operator_text op
+evolution_text (op ∷ next ∷ ops) = codes "(" ++ operator_text op ++ more_members (next ∷ ops)
+    ++ codes ")"
+
 -- operators, each after THEN
-abbrev pub more_operators : List Operator → List ℕ
+abbrev pub more_operators : List (List Operator) → List ℕ
 more_operators [] = []
-more_operators (op ∷ ops) = codes " THEN " ++ operator_text op ++ more_operators ops
+more_operators (op ∷ ops) = codes " THEN " ++ evolution_text op ++ more_operators ops
 
 -- the inverse, where one is named
-abbrev pub inverse_text : List Operator → List ℕ
+abbrev pub inverse_text : List (List Operator) → List ℕ
 inverse_text [] = []
-inverse_text (op ∷ ops) = codes " INVERSE " ++ operator_text op ++ more_operators ops
+inverse_text (op ∷ ops) = codes " INVERSE " ++ evolution_text op ++ more_operators ops
 
 -- the head of a version's line: its number, and the moments from which and up to which it is in
 -- force
@@ -154,7 +166,7 @@ first_version_text end = version_head 0 0 end ++ codes "\n"
 
 abbrev pub version_text : ℕ → PlainVersion → ℕ → List ℕ
 version_text k v end = version_head k v.stamp end
-    ++ (codes " " ++ (operator_text v.op ++ (inverse_text v.inverse ++ codes "\n")))
+    ++ (codes " " ++ (evolution_text v.op ++ (inverse_text v.inverse ++ codes "\n")))
 
 -- versions, the first of which has this number: each ends where the first of those after it begins
 abbrev pub version_texts : ℕ → List PlainVersion → List ℕ

@@ -4,7 +4,7 @@
 ghost use Rattle.std.specs.Prelude.{◌≡◌, ◌++◌, ◌+◌, ◌<◌, ◌^◌, length, map, IfOk, OnOk, OnErr, Err};
 ghost use Rattle.std.specs.Io.KnownBytes.{Appends};
 ghost use Rattle.prima_io.specs.Moves.{AppendsPrefix, AppendsLess};
-ghost use Rattle.smo_ops_types.specs.Operators.{operator_of, operators_of};
+ghost use Rattle.smo_ops_types.specs.Operators.{operator_of, evolutions_of};
 ghost use Rattle.smo_ops_types.specs.Commands.{version_of};
 ghost use Rattle.smo_parse.specs.Texts.{operator_text};
 ghost use Rattle.answer_text.specs.Causes.{HasStopCause};
@@ -35,7 +35,7 @@ fn add_operator(alloc: Global, line: &mut Vec<u8>, word: &[u8], op: &Op) -> Resu
 // Operators, each after THEN.
 fn add_more_operators(alloc: Global, line: &mut Vec<u8>, ops: &[Op]) -> Result<(), NoMemory>
     ensures { OnOk result (line.new.items ≡ line.old.items
-        ++ more_operators (operators_of ops.now)) }
+        ++ more_operators (evolutions_of ops.now)) }
 {
     match ops {
         [] => Ok(()),
@@ -49,7 +49,7 @@ fn add_more_operators(alloc: Global, line: &mut Vec<u8>, ops: &[Op]) -> Result<(
 // The inverse, where one is named.
 fn add_inverse(alloc: Global, line: &mut Vec<u8>, inverse: &[Op]) -> Result<(), NoMemory>
     ensures { OnOk result (line.new.items ≡ line.old.items
-        ++ inverse_text (operators_of inverse.now)) }
+        ++ inverse_text (evolutions_of inverse.now)) }
 {
     match inverse {
         [] => Ok(()),

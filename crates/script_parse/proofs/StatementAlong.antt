@@ -4,7 +4,7 @@ use Rattle.std.proofs.Common.{◌∙◌, subst, append-nil, codes}
 use Rattle.prima_base.specs.declared.refusal.What.TheVariants.{Inverse}
 use Rattle.cond_expr.specs.Trees.{always}
 use Rattle.smo_ops_types.specs.Changes.{PlainChange, deletion, update}
-use Rattle.smo_ops_types.specs.Commands.{PlainBody, changing, evolving}
+use Rattle.smo_ops_types.specs.Commands.{PlainBody, changing}
 use Rattle.lexer_spec.specs.Lexemes.{Lexeme, word, sign, is_word, is_sign}
 use Rattle.lexer_combinators.specs.Grammar.{Grammar}
 use Rattle.lexer_combinators.specs.Parsing.{Parsed, map_to, more, fresh}
@@ -48,7 +48,7 @@ use Rattle.temporal_lang_grammar_spec.specs.QueryReader as query
 use Rattle.temporal_lang_grammar_spec.specs.QueryOverflows.{ask_overflows}
 use Rattle.temporal_lang_grammar_spec.proofs.QueryCorrectness.{ask_correct}
 use Rattle.temporal_lang_grammar_spec.proofs.QueryAlong.{ask_along}
-use Rattle.script_parse.specs.Statements.{PlainStatement, write, ask, explain}
+use Rattle.script_parse.specs.Statements.{evolving_by, PlainStatement, write, ask, explain}
 use Rattle.script_parse.specs.Productions.{AreSoMany, IsRow, IsInsert, IsSetting, IsChange, IsOp}
 use Rattle.script_parse.specs.Productions.{AreOps, IsInverse, AreChanges, IsBody, IsShowVersions}
 use Rattle.script_parse.specs.Productions.{IsShowSchema, IsShowSizes, IsShowCursors, IsCheckpoint}
@@ -215,18 +215,18 @@ inverse_along = option_follow (is_word (codes "INVERSE")) (word (codes "INVERSE"
     (stops_along ops AreOps follow_ops follow_evolve ops_overflows fewer_ops ops_along)
 
 abbrev EvolveRest : Grammar PlainBody
-EvolveRest = grammar.seq IsOp (λ o. grammar.map (λ l. evolving o l) IsInverse)
+EvolveRest = grammar.seq IsOp (λ o. grammar.map (λ l. evolving_by o l) IsInverse)
 
 abbrev evolve_rest_overflows : Overflow EvolveRest
-evolve_rest_overflows = bind_overflow IsOp (λ o. grammar.map (λ l. evolving o l) IsInverse)
-    op_overflows (λ o. map_overflow (λ l. evolving o l) IsInverse inverse_overflows)
+evolve_rest_overflows = bind_overflow IsOp (λ o. grammar.map (λ l. evolving_by o l) IsInverse)
+    op_overflows (λ o. map_overflow (λ l. evolving_by o l) IsInverse inverse_overflows)
 
 evolve_along : GoesAlong evolve_rest EvolveRest follow_evolve evolve_rest_overflows
 unfolding evolve_rest
-evolve_along = bind_follow op (λ o. map_to (λ l. evolving o l) inverse) IsOp
-    (λ o. grammar.map (λ l. evolving o l) IsInverse) follow_operator follow_evolve op_overflows _
+evolve_along = bind_follow op (λ o. map_to (λ l. evolving_by o l) inverse) IsOp
+    (λ o. grammar.map (λ l. evolving_by o l) IsInverse) follow_operator follow_evolve op_overflows _
     op_along
-    (λ o. map_follow (λ l. evolving o l) inverse IsInverse follow_evolve inverse_overflows
+    (λ o. map_follow (λ l. evolving_by o l) inverse IsInverse follow_evolve inverse_overflows
     inverse_along)
     (λ o b s ts rest h stops. inverse_side h.0 s ts rest h.2 stops)
 

@@ -3,7 +3,7 @@ use Rattle.std.proofs.Common.{◌≡◌, ℕ, Bool, false, cond, ◌||◌, List,
 use Rattle.std.proofs.Common.{sym, ap, ◌∙◌, subst, codes}
 use Rattle.prima_base.specs.declared.refusal.What.TheVariants.{Inverse}
 use Rattle.smo_ops_types.specs.Operators.{Operator}
-use Rattle.smo_ops_types.specs.Commands.{PlainBody, changing, evolving}
+use Rattle.smo_ops_types.specs.Commands.{PlainBody, changing}
 use Rattle.lexer_spec.specs.Lexemes.{Lexeme, word, is_word}
 use Rattle.lexer_combinators.specs.Grammar.{Grammar}
 use Rattle.lexer_combinators.specs.Parsing.{IsCorrectParser, Stops, Arm, No, Takes}
@@ -30,7 +30,8 @@ use Rattle.smo_parse.proofs.OperatorCorrectness.{operator_correct}
 use Rattle.temporal_lang_grammar_spec.specs.QueryGrammar.{IsAsk}
 use Rattle.temporal_lang_grammar_spec.specs.QueryReader as query
 use Rattle.temporal_lang_grammar_spec.proofs.QueryCorrectness.{ask_correct}
-use Rattle.script_parse.specs.Statements.{PlainStatement, write, ask, explain, show_versions}
+use Rattle.script_parse.specs.Statements.{evolving_by, PlainStatement, write, ask, explain}
+use Rattle.script_parse.specs.Statements.{show_versions}
 use Rattle.script_parse.specs.Statements.{show_schema, show_sizes, show_cursors, checkpoint}
 use Rattle.script_parse.specs.Productions.{IsChange, IsOp, AreOps, IsInverse, IsEvolve, AreChanges}
 use Rattle.script_parse.specs.Productions.{IsBody, IsWrite, IsQuery, IsExplain, IsCheckpoint}
@@ -88,13 +89,13 @@ inverse_side l s ts rest (inr k) stops = let P : List Lexeme
     → Type 0 = λ u. Stops follow_operator (u ++ rest) in subst P (sym k.1) refl
 
 abbrev EvolveRest : Grammar PlainBody
-EvolveRest = grammar.seq IsOp (λ o. grammar.map (λ l. evolving o l) IsInverse)
+EvolveRest = grammar.seq IsOp (λ o. grammar.map (λ l. evolving_by o l) IsInverse)
 
 evolve_correct : IsCorrectParser 0 32 evolve_rest EvolveRest follow_evolve
 unfolding evolve_rest
-evolve_correct = bind_correct 0 32 op (λ o. map_to (λ l. evolving o l) inverse) IsOp
-    (λ o. grammar.map (λ l. evolving o l) IsInverse) follow_operator follow_evolve op_correct
-    (λ o. map_correct 0 32 (λ l. evolving o l) inverse IsInverse follow_evolve inverse_correct)
+evolve_correct = bind_correct 0 32 op (λ o. map_to (λ l. evolving_by o l) inverse) IsOp
+    (λ o. grammar.map (λ l. evolving_by o l) IsInverse) follow_operator follow_evolve op_correct
+    (λ o. map_correct 0 32 (λ l. evolving_by o l) inverse IsInverse follow_evolve inverse_correct)
     (λ o b s ts rest h stops. inverse_side h.0 s ts rest h.2 stops)
 
 -- ---- what a command does

@@ -229,11 +229,12 @@ col n = column (Atom 0) n
 
 evolutions :
     Reads (codes "AT 1EVOLVE CREATE TABLE t (a INT, b TEXT)")
-    (at 1 (evolving (create_table t ((a, INT) ∷ (b, TEXT) ∷ [])) []))
-    × Reads (codes "AT -0 EVOLVE NOP INVERSE NOP") (at 0 (evolving nop (nop ∷ [])))
+    (at 1 (evolving (create_table t ((a, INT) ∷ (b, TEXT) ∷ []) ∷ []) []))
+    × Reads (codes "AT -0 EVOLVE NOP INVERSE NOP") (at 0 (evolving (nop ∷ []) ((nop ∷ []) ∷ [])))
     × Reads (codes
     "AT 2 EVOLVE RENAME TABLE t INTO b INVERSE JOIN TABLE a, b INTO t THEN DROP TABLE a")
-    (at 2 (evolving (rename_table t b) (join_table a b t always ∷ drop_table a ∷ [])))
+    (at 2 (evolving (rename_table t b ∷ []) ((join_table a b t always ∷ []) ∷ (drop_table a ∷ [])
+    ∷ [])))
     × Reads (codes "AT 18446744073709551615 EVOLVE CREATE TABLE t (a INT)") (Refused (Syntax 3))
     × Reads (codes "AT 1 EVOLVE CREATE TABLE t ()") (Refused (Syntax 28))
     × Reads (codes "AT 1 EVOLVE NOP THEN NOP") (Refused (Syntax 16))

@@ -6,7 +6,7 @@ use Rattle.prima_base.specs.declared.value.Value.{Value}
 use Rattle.cond_expr.specs.Trees.{Tree, Test, always}
 use Rattle.smo_ops_types.specs.Operators.{Operator}
 use Rattle.smo_ops_types.specs.Changes.{PlainChange, insertion, deletion, update}
-use Rattle.smo_ops_types.specs.Commands.{PlainBody, changing, evolving}
+use Rattle.smo_ops_types.specs.Commands.{PlainBody, changing}
 use Rattle.lexer_spec.specs.Lexemes.{word, sign}
 use Rattle.lexer_combinators.specs.Grammar.{Grammar, AreMore, so_wide, nothing_counted}
 use Rattle.lexer_combinators.specs.Grammar as grammar
@@ -21,7 +21,8 @@ use Rattle.temporal_lang_grammar_spec.specs.QueryGrammar.{IsAsk, IsFullAsk}
 use Rattle.temporal_lang_grammar_spec.specs.AggregateGrammar.{IsRelation, AreAggs}
 use Rattle.sessions.specs.Requests.{Request, beginning, buffering, committing, aborting, opening}
 use Rattle.sessions.specs.Requests.{fetching, closing}
-use Rattle.script_parse.specs.Statements.{PlainStatement, write, ask, explain, show_versions}
+use Rattle.script_parse.specs.Statements.{evolving_by, PlainStatement, write, ask, explain}
+use Rattle.script_parse.specs.Statements.{show_versions}
 use Rattle.script_parse.specs.Statements.{show_schema, show_sizes, checkpoint}
 use Rattle.script_parse.specs.Statements.{pairs, aggregate, session, show_cursors}
 
@@ -97,7 +98,7 @@ IsInverse = grammar.option [] (word (codes "INVERSE")) AreOps
 -- EVOLVE op [ INVERSE op { THEN op } ]
 abbrev pub IsEvolve : Grammar PlainBody
 IsEvolve = grammar.lead (word (codes "EVOLVE"))
-    (grammar.seq IsOp (λ op. grammar.map (λ inverse. evolving op inverse) IsInverse))
+    (grammar.seq IsOp (λ op. grammar.map (λ inverse. evolving_by op inverse) IsInverse))
 
 -- ---- statements
 

@@ -5,7 +5,7 @@ use Rattle.std.specs.Prelude.{false, [], ◌∷◌, codes}
 use Rattle.prima_base.specs.declared.refusal.What.TheVariants.{Inverse}
 use Rattle.cond_expr.specs.Trees.{always}
 use Rattle.smo_ops_types.specs.Changes.{deletion, update}
-use Rattle.smo_ops_types.specs.Commands.{changing, evolving}
+use Rattle.smo_ops_types.specs.Commands.{changing}
 use Rattle.lexer_spec.specs.Lexemes.{word, sign}
 use Rattle.lexer_combinators.specs.Grammar.{Grammar, AreMore, so_wide}
 use Rattle.lexer_combinators.specs.Grammar as grammar
@@ -24,7 +24,8 @@ use Rattle.temporal_lang_grammar_spec.specs.AggregateGrammar.{IsRelation, AreAgg
 use Rattle.temporal_lang_grammar_spec.specs.QueryOverflows.{ask_overflows, full_ask_overflows}
 use Rattle.temporal_lang_types.specs.Queries.{PlainQuery}
 use Rattle.sessions.specs.Requests.{buffering, opening}
-use Rattle.script_parse.specs.Statements.{write, ask, explain, pairs, aggregate, session}
+use Rattle.script_parse.specs.Statements.{evolving_by, write, ask, explain, pairs, aggregate}
+use Rattle.script_parse.specs.Statements.{session}
 use Rattle.script_parse.specs.Productions.{IsInsert, IsDelete, IsSetting, IsUpdate, IsChange, IsOp}
 use Rattle.script_parse.specs.Productions.{AreOps, IsInverse, IsEvolve, AreChanges, IsBody, IsWrite}
 use Rattle.script_parse.specs.Productions.{IsQuery, IsExplain, IsShowVersions, IsShowSchema}
@@ -90,8 +91,9 @@ inverse_overflows = option_overflow [] (word (codes "INVERSE")) AreOps ops_overf
 
 abbrev pub evolve_overflows : Overflow IsEvolve
 evolve_overflows = lead_overflow (word (codes "EVOLVE")) _
-    (bind_overflow IsOp (λ op. grammar.map (λ inverse. evolving op inverse) IsInverse) op_overflows
-    (λ op. map_overflow (λ inverse. evolving op inverse) IsInverse inverse_overflows))
+    (bind_overflow IsOp (λ op. grammar.map (λ inverse. evolving_by op inverse) IsInverse)
+    op_overflows
+    (λ op. map_overflow (λ inverse. evolving_by op inverse) IsInverse inverse_overflows))
 
 -- ---- statements
 

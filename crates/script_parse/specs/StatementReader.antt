@@ -6,7 +6,7 @@ use Rattle.prima_base.specs.declared.value.Value.{Value}
 use Rattle.cond_expr.specs.Trees.{Tree, Test, always}
 use Rattle.smo_ops_types.specs.Operators.{Operator}
 use Rattle.smo_ops_types.specs.Changes.{PlainChange, insertion, deletion, update}
-use Rattle.smo_ops_types.specs.Commands.{PlainBody, changing, evolving}
+use Rattle.smo_ops_types.specs.Commands.{PlainBody, changing}
 use Rattle.lexer_spec.specs.Lexemes.{Lexeme, is_word, is_sign}
 use Rattle.lexer_combinators.specs.Parsing.{Parser, Arm, No, Takes, Whole, bind, pure, map_to}
 use Rattle.lexer_combinators.specs.Parsing.{lead, choose, option, more, many, fresh}
@@ -19,7 +19,8 @@ use Rattle.temporal_lang_grammar_spec.specs.QueryReader as query
 use Rattle.temporal_lang_grammar_spec.specs.AggregateReader.{relation, aggs}
 use Rattle.sessions.specs.Requests.{Request, beginning, buffering, committing, aborting, opening}
 use Rattle.sessions.specs.Requests.{fetching, closing}
-use Rattle.script_parse.specs.Statements.{PlainStatement, write, ask, explain, show_versions}
+use Rattle.script_parse.specs.Statements.{evolving_by, PlainStatement, write, ask, explain}
+use Rattle.script_parse.specs.Statements.{show_versions}
 use Rattle.script_parse.specs.Statements.{show_schema, show_sizes, checkpoint}
 use Rattle.script_parse.specs.Statements.{pairs, aggregate, session, show_cursors}
 
@@ -90,7 +91,7 @@ inverse = option (is_word (codes "INVERSE")) (Takes ops) []
 
 -- after EVOLVE
 unfoldable pub evolve_rest : Parser PlainBody
-evolve_rest = bind op (λ o. map_to (λ l. evolving o l) inverse)
+evolve_rest = bind op (λ o. map_to (λ l. evolving_by o l) inverse)
 
 -- ---- statements
 

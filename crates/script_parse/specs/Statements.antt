@@ -1,6 +1,7 @@
 -- Statements as plain data, and the one that a statement of the code stands for.
-use Rattle.std.specs.Prelude.{ℕ, List}
-use Rattle.smo_ops_types.specs.Commands.{PlainCommand, command_of}
+use Rattle.std.specs.Prelude.{ℕ, List, [], ◌∷◌, map}
+use Rattle.smo_ops_types.specs.Operators.{Operator}
+use Rattle.smo_ops_types.specs.Commands.{PlainBody, evolving, PlainCommand, command_of}
 use Rattle.temporal_lang_types.specs.declared.relation.Relation.{Relation}
 use Rattle.temporal_lang_types.specs.declared.agg_item.AggItem.{AggItem}
 use Rattle.temporal_lang_types.specs.Queries.{PlainQuery, query_of}
@@ -11,6 +12,10 @@ use Rattle.script_parse.specs.declared.statement.Statement.TheVariants.{ShowVers
 use Rattle.script_parse.specs.declared.statement.Statement.TheVariants.{ShowSizes, ShowCursors}
 use Rattle.script_parse.specs.declared.statement.Statement.TheVariants.{Checkpoint, Session}
 use Rattle.script_parse.specs.declared.statement.Statement.TheVariants.{Pairs, Aggregate}
+
+-- each operator that is written has one member, and so has each of its inverse
+abbrev pub evolving_by : Operator → List Operator → PlainBody
+evolving_by op inverse = evolving (op ∷ []) (map (λ o. o ∷ []) inverse)
 
 pub data PlainStatement : Type 0 where
   write : PlainCommand → PlainStatement

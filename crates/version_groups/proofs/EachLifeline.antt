@@ -13,16 +13,16 @@ use Rattle.prima_base.specs.Order.{bytes_cmp}
 use Rattle.prima_base.specs.OrderLaws.{same_is}
 use Rattle.schema_catalog.specs.Tables.{Tables}
 use Rattle.smo_ops_types.specs.Commands.{PlainVersion}
-use Rattle.smo_ops_spec.specs.After.{schema_after}
+use Rattle.smo_ops_spec.specs.Evolutions.{schema_after_each}
 use Rattle.smo_ops_spec.specs.ValidPast.{AreVersions}
 use Rattle.smo_ops_spec.specs.OneRow.{same}
 use Rattle.smo_ops_spec.specs.Past.{no_tables, tables_from, newest_from}
-use Rattle.smo_ops_spec.specs.Touching.{makes, consumes}
+use Rattle.smo_ops_spec.specs.Evolutions.{one_makes, one_consumes}
 use Rattle.smo_ops_spec.proofs.NameLaws.{same_itself}
 use Rattle.smo_ops_spec.proofs.PastLaws.{newest_added}
 use Rattle.smo_ops_spec.proofs.PastMoments.{newest_tables_from, tables_still, tables_added}
 use Rattle.smo_ops_spec.proofs.PastMoments.{before_or_not}
-use Rattle.smo_ops_spec.proofs.TouchedTables.{table_stays, table_gone}
+use Rattle.smo_ops_spec.proofs.MemberLaws.{each_table_stays, each_table_gone}
 use Rattle.version_groups_tables.proofs.PlacedTables.{found_among}
 use Rattle.version_groups.specs.Lifelines.{Lifeline, last_after, line_after, line_begun}
 use Rattle.version_groups.specs.Lifelines.{made_tables, lifelines_of, is_up_to, covers, first_place}
@@ -47,7 +47,7 @@ abbrev AllLongest : List PlainVersion → Type 0
 AllLongest versions = (l : Lifeline) → In l (lifelines_of versions) → IsLongest versions l
 
 module _ (versions : List PlainVersion) (v : PlainVersion)
-    (tables : v.tables ≡ schema_after (newest_from no_tables versions) v.op)
+    (tables : v.tables ≡ schema_after_each (newest_from no_tables versions) v.op)
     (runs : AllLongest versions) (h : AllOver versions) where
   abbrev n : ℕ
   n = length versions
@@ -59,19 +59,19 @@ module _ (versions : List PlainVersion) (v : PlainVersion)
   more = versions ++ v ∷ []
 
   old_lines : List Lifeline
-  old_lines = map (line_after (consumes before v.op) n) (lifelines_of versions)
+  old_lines = map (line_after (one_consumes before v.op) n) (lifelines_of versions)
 
   new_lines : List Lifeline
   new_lines = map (line_begun (n + 1)) (made_tables before v.op v.tables)
 
   among_old : (m : Lifeline) → In m (lifelines_of versions)
-      → In (line_after (consumes before v.op) n m) (lifelines_of more)
+      → In (line_after (one_consumes before v.op) n m) (lifelines_of more)
   unfolding old_lines new_lines
   among_old m i =
-      subst (λ (ls : List Lifeline). In (line_after (consumes before v.op) n m) ls)
+      subst (λ (ls : List Lifeline). In (line_after (one_consumes before v.op) n m) ls)
       (sym (lifelines_with versions v))
-      (in_left (line_after (consumes before v.op) n m) old_lines new_lines
-      (in_map (line_after (consumes before v.op) n) m (lifelines_of versions) i))
+      (in_left (line_after (one_consumes before v.op) n m) old_lines new_lines
+      (in_map (line_after (one_consumes before v.op) n) m (lifelines_of versions) i))
 
   among_new : (t : List ℕ × List Column) → In t (made_tables before v.op v.tables)
       → In (line_begun (n + 1) t) (lifelines_of more)
@@ -82,7 +82,8 @@ module _ (versions : List PlainVersion) (v : PlainVersion)
       (in_map (line_begun (n + 1)) t (made_tables before v.op v.tables) i))
 
   -- a table that is made begins one
-  begun_over : (name : List ℕ) → is_some (get v.tables name) ≡ true → makes before v.op name ≡ true
+  begun_over : (name : List ℕ) → is_some (get v.tables name) ≡ true → one_makes before v.op name
+      ≡ true
       → IsOver more (n + 1) name
   begun_over name s e =
       let d = from_map (λ (x : List ℕ × List Column). x.0) name (entries v.tables)
@@ -90,8 +91,9 @@ module _ (versions : List PlainVersion) (v : PlainVersion)
       (ap is_some (sym (get-entries v.tables name)) ∙ s)) in
       record {
         line = line_begun (n + 1) d.0;
-        among = among_new d.0 (in_filter (λ (x : List ℕ × List Column). makes before v.op x.0) d.0
-            (entries v.tables) d.1 (ap (makes before v.op) d.2 ∙ e));
+        among = among_new d.0 (in_filter (λ (x : List ℕ × List Column). one_makes before v.op x.0)
+            d.0
+            (entries v.tables) d.1 (ap (one_makes before v.op) d.2 ∙ e));
         named = d.2;
         over = is_covered (n + 1) (line_begun (n + 1) d.0) (omega arith) refl;
       }
@@ -109,45 +111,46 @@ module _ (versions : List PlainVersion) (v : PlainVersion)
           omega (arith, low, up)
           )
 
-  goes_over : (name : List ℕ) → consumes before v.op name ≡ false → IsOver versions n name
+  goes_over : (name : List ℕ) → one_consumes before v.op name ≡ false → IsOver versions n name
       → IsOver more (n + 1) name
   goes_over name e o =
       let low = covered_from n o.line o.over in
       record {
-        line = line_after (consumes before v.op) n o.line;
+        line = line_after (one_consumes before v.op) n o.line;
         among = among_old o.line o.among;
         named = o.named;
-        over = is_covered (n + 1) (line_after (consumes before v.op) n o.line) (omega (arith, low))
+        over = is_covered (n + 1) (line_after (one_consumes before v.op) n o.line)
+            (omega (arith, low))
             (ap (λ b. is_up_to (last_after b n o.line.last) (n + 1))
-            (ap (consumes before v.op) o.named ∙ e)
+            (ap (one_consumes before v.op) o.named ∙ e)
             ∙ ap (λ p. is_up_to (last_after false n p) (n + 1)) (lives o.line o.among o.over));
       }
 
   newest_over : (name : List ℕ) → is_some (get v.tables name) ≡ true → IsOver more (n + 1) name
-  newest_over name s = step (makes before v.op name) refl
+  newest_over name s = step (one_makes before v.op name) refl
     where
-      there : is_some (get (schema_after before v.op) name) ≡ true
+      there : is_some (get (schema_after_each before v.op) name) ≡ true
       there = ap (λ (t : Tables). is_some (get t name)) (sym tables) ∙ s
 
-      unmade : makes before v.op name ≡ false → (b : Bool) → consumes before v.op name ≡ b
+      unmade : one_makes before v.op name ≡ false → (b : Bool) → one_consumes before v.op name ≡ b
           → IsOver more (n + 1) name
-      unmade u true e = absurd (let gone = table_gone before v.op name u e in cc)
+      unmade u true e = absurd (let gone = each_table_gone before v.op name u e in cc)
       unmade u false e =
           goes_over name e
           (h n name (omega arith) (ap (λ (t : Tables). is_some (get t name))
           (newest_tables_from no_tables versions)
-          ∙ ap is_some (sym (table_stays before v.op name u e)) ∙ there))
+          ∙ ap is_some (sym (each_table_stays before v.op name u e)) ∙ there))
 
-      step : (b : Bool) → makes before v.op name ≡ b → IsOver more (n + 1) name
+      step : (b : Bool) → one_makes before v.op name ≡ b → IsOver more (n + 1) name
       step true e = begun_over name s e
-      step false e = unmade e (consumes before v.op name) refl
+      step false e = unmade e (one_consumes before v.op name) refl
 
   still_over : (k : ℕ) (name : List ℕ) → k ≤ n → IsOver versions k name → IsOver more k name
   still_over k name l o = record {
-    line = line_after (consumes before v.op) n o.line;
+    line = line_after (one_consumes before v.op) n o.line;
     among = among_old o.line o.among;
     named = o.named;
-    over = still_covers (consumes before v.op) n o.line k l o.over;
+    over = still_covers (one_consumes before v.op) n o.line k l o.over;
   }
 
   over_with : AllOver more

@@ -1,7 +1,8 @@
--- Versions have at most two lifelines each.
-use Rattle.std.proofs.Common.{◌≡◌, ◌≤◌, ◌+◌, ◌*◌, ℕ, Bool, true, false, cond, List, [], ◌∷◌, map}
+-- Versions begin at most two lifelines for each member of their operators.
+use Rattle.std.proofs.Common.{◌≡◌, ◌≤◌, ◌+◌, ◌*◌, ℕ, suc, Bool, true, false, cond, List, [], ◌∷◌}
+use Rattle.std.proofs.Common.{map}
 use Rattle.std.proofs.Common.{length, refl, sym, ap, subst, ◌∙◌, arith, inl, inr, length-append}
-use Rattle.std.specs.Prelude.{⊤}
+use Rattle.std.specs.Prelude.{⊤, ◌||◌}
 use Rattle.std.specs.List.{filter}
 use Rattle.std.specs.FinMap.{entries, entries_sorted}
 use Rattle.std.proofs.lemmas.List.{length-map}
@@ -10,13 +11,16 @@ use Rattle.relations_spec.proofs.SetLaws.{before_in, from_filter, from_map, belo
 use Rattle.prima_base.specs.Columns.{Column}
 use Rattle.prima_base.specs.Order.{bytes_cmp}
 use Rattle.schema_catalog.specs.Tables.{Tables}
-use Rattle.smo_ops_types.specs.Commands.{PlainVersion}
+use Rattle.smo_ops_types.specs.Commands.{PlainVersion, version_of}
+use Rattle.smo_ops_types.specs.declared.version.Version.{Version}
 use Rattle.smo_ops_types.specs.Operators.{Operator, nop, create_table, drop_table, rename_table}
 use Rattle.smo_ops_types.specs.Operators.{copy_table, merge_table, partition_table, decompose_table}
 use Rattle.smo_ops_types.specs.Operators.{join_table, add_column, drop_column, rename_column}
 use Rattle.smo_ops_spec.specs.OperatorTable.{line, made_names}
 use Rattle.smo_ops_spec.specs.Past.{Past, no_tables}
-use Rattle.smo_ops_spec.specs.Touching.{makes, consumes}
+use Rattle.smo_ops_spec.specs.After.{schema_after}
+use Rattle.smo_ops_spec.specs.Touching.{makes}
+use Rattle.smo_ops_spec.specs.Evolutions.{one_makes, one_consumes, members_of_all}
 use Rattle.smo_ops_spec.proofs.NameLaws.{among_in}
 use Rattle.version_groups_tables.proofs.BegunTables.{names_rise}
 use Rattle.version_groups_tables.proofs.Places.{not_before_itself}
@@ -98,9 +102,9 @@ some_ascend p (e ∷ es) o = step (p e) (some_ascend p es o.1)
     )
     step false h = h
 
-few_made : (before : Tables) (op : Operator) (after : Tables)
-    → length (made_tables before op after) ≤ 2
-few_made before op after =
+few_made_by : (before : Tables) (op : Operator) (after : Tables)
+    → length (filter (λ (e : Listed). makes before op e.0) (entries after)) ≤ 2
+few_made_by before op after =
     let made : Listed → Bool = λ e. makes before op e.0 in
     let two = made_one before op in
     let long = length-map (filter made (entries after)) (λ (e : Listed). e.0) in
@@ -114,23 +118,64 @@ few_made before op after =
     (from_filter made d.0 (entries after) d.1).1))) in
     omega (arith, long, few)
 
+-- what meets one of two tests is no more than what meets the first and what meets the second
+of_either : (p q : Listed → Bool) (es : List Listed)
+    → length (filter (λ (e : Listed). p e || q e) es) ≤ length (filter p es) + length (filter q es)
+of_either p q [] = omega arith
+of_either p q (e ∷ es) = step (p e) (q e) (of_either p q es)
+  where
+    step : (x y : Bool) → length (filter (λ (e : Listed). p e || q e) es)
+        ≤ length (filter p es) + length (filter q es)
+        → length (cond (x || y) (e ∷ filter (λ (e : Listed). p e || q e) es)
+        (filter (λ (e : Listed). p e || q e) es))
+        ≤ length (cond x (e ∷ filter p es) (filter p es))
+        + length (cond y (e ∷ filter q es) (filter q es))
+    step true true h = omega (arith, h)
+    step true false h = omega (arith, h)
+    step false true h = omega (arith, h)
+    step false false h = h
+
+no_entries : (es : List Listed) → length (filter (λ (e : Listed). false) es) ≤ 0
+no_entries [] = omega arith
+no_entries (e ∷ es) = no_entries es
+
+-- so members make at most two each
+few_made : (before : Tables) (ops : List Operator) (after : Tables)
+    → length (made_tables before ops after) ≤ 2 * length ops
+few_made before [] after = (let none = no_entries (entries after) in omega (arith, none))
+few_made before (op ∷ ops) after =
+    let either = of_either (λ e. makes before op e.0)
+    (λ e. one_makes (schema_after before op) ops e.0) (entries after) in
+    let one = few_made_by before op after in
+    let others = few_made (schema_after before op) ops after in
+    omega (arith, either, one, others)
+
 -- ---- versions
 
+abbrev members : List PlainVersion → List Operator
+members versions = members_of_all (map (λ (v : PlainVersion). v.op) versions)
+
 few_from : (before : Tables) (k : ℕ) (lines : List Lifeline) (versions : List PlainVersion)
-    → length (lifelines_from before k lines versions) ≤ length lines + 2 * length versions
+    → length (lifelines_from before k lines versions) ≤ length lines + 2 * length (members versions)
 few_from before k lines [] = omega arith
 few_from before k lines (v ∷ versions) =
     let rest = few_from v.tables (k + 1) (lifelines_after before k lines v) versions in
-    let both = length-append (map (line_after (consumes before v.op) k) lines)
+    let both = length-append (map (line_after (one_consumes before v.op) k) lines)
     (map (line_begun (k + 1)) (made_tables before v.op v.tables)) in
-    let old = length-map lines (line_after (consumes before v.op) k) in
+    let old = length-map lines (line_after (one_consumes before v.op) k) in
     let new = length-map (made_tables before v.op v.tables) (line_begun (k + 1)) in
     let few = few_made before v.op v.tables in
-    omega (arith, rest, both, old, new, few)
+    let all = length-append v.op (members versions) in
+    omega (arith, rest, both, old, new, few, all)
 
 pub few_lifelines : (versions : List PlainVersion)
-    → length (lifelines_of versions) ≤ 2 * length versions
+    → length (lifelines_of versions) ≤ 2 * length (members versions)
 few_lifelines versions = (let few = few_from no_tables 0 [] versions in omega (arith, few))
+
+-- versions of the code have one member each
+one_each : (versions : List Version) → length (members (map version_of versions)) ≡ length versions
+one_each [] = refl
+one_each (v ∷ versions) = ap suc (one_each versions)
 
 pub few_sizes : (kept : Kept) (past : Past) → Represents kept past
     → length past.sizes ≤ 2 * length past.versions
@@ -140,4 +185,6 @@ few_sizes kept past h =
     let stored = length-map kept.stored line_of in
     let sizes = h.sizes.count in
     let same = ap length h.versions in
-    omega (arith, few, lines, stored, sizes, same)
+    let plain = length-map kept.versions version_of in
+    let one = one_each kept.versions in
+    omega (arith, few, lines, stored, sizes, same, plain, one)

@@ -12,10 +12,10 @@ use Rattle.prima_base.specs.Order.{bytes_cmp}
 use Rattle.history_store.specs.Store.{Store}
 use Rattle.history_store.specs.Change.{PreparedChange}
 use Rattle.schema_catalog.specs.Tables.{Tables}
-use Rattle.smo_ops_types.specs.Operators.{Operator, operator_of}
+use Rattle.smo_ops_types.specs.Operators.{Operator, evolution_of}
 use Rattle.smo_ops_types.specs.Commands.{version_of}
 use Rattle.smo_ops_spec.specs.Past.{no_tables, newest_from}
-use Rattle.smo_ops_spec.specs.Touching.{consumes}
+use Rattle.smo_ops_spec.specs.Evolutions.{one_consumes}
 use Rattle.smo_ops_types.specs.declared.version.Version.{Version}
 use Rattle.version_groups_tables.specs.declared.made_table.MadeTable.{MadeTable}
 use Rattle.version_groups_tables.specs.Stored.{stored_as, stored_names}
@@ -343,36 +343,36 @@ ends_keep consumed k tables = record {
 }
 
 -- what is put after the tables whose lifelines have ended, which are written back
-pub put_with : (a : Inside) (op : Operator) (last : ℕ) (now ended begun new : List MadeTable)
+pub put_with : (a : Inside) (op : List Operator) (last : ℕ) (now ended begun new : List MadeTable)
     → last ≡ length a.versions.list.items → now ≡ a.stored.items
-    → ((tables : Tables) → ended ≡ map (table_after (consumes tables op) last) now)
+    → ((tables : Tables) → ended ≡ map (table_after (one_consumes tables op) last) now)
     → new ≡ take (vec_len a.stored) (ended ++ drop (length ended) a.stored.items) ++ begun
-    → (tables : Tables) → new ≡ map (table_after (consumes tables op)
+    → (tables : Tables) → new ≡ map (table_after (one_consumes tables op)
     (length a.versions.list.items)) a.stored.items ++ begun
 put_with a op last now ended begun new number was ends put tables =
     put
     ∙ ap (λ (ts : List MadeTable). ts ++ begun) (
     written_back ended a.stored.items (vec_len a.stored) (omega arith)
-    (ap length (ends no_tables) ∙ length-map now (table_after (consumes no_tables op) last)
+    (ap length (ends no_tables) ∙ length-map now (table_after (one_consumes no_tables op) last)
     ∙ ap length was)
-    ∙ ends tables ∙ ap (λ n. map (table_after (consumes tables op) n) now) number
-    ∙ ap (map (table_after (consumes tables op) (length a.versions.list.items))) was
+    ∙ ends tables ∙ ap (λ n. map (table_after (one_consumes tables op) n) now) number
+    ∙ ap (map (table_after (one_consumes tables op) (length a.versions.list.items))) was
     )
 
 -- the tables that are stored before the next version begins
 abbrev pub ended_tables : Inside → Version → List MadeTable
-ended_tables a version = map (table_after (consumes no_tables (operator_of version.op))
+ended_tables a version = map (table_after (one_consumes no_tables (evolution_of version.op))
     (length a.versions.list.items)) a.stored.items
 
 module _ (a b : Inside) (version : Version) (g : Vec ℕ) (begun : List MadeTable)
     (before : g.items ≡ a.newest.items) (versions : b.versions.list.items ≡ a.versions.list.items
     ++ version ∷ [])
     (stored : (tables : Tables) → b.stored.items
-    ≡ map (table_after (consumes tables (operator_of version.op))
+    ≡ map (table_after (one_consumes tables (evolution_of version.op))
     (length a.versions.list.items)) a.stored.items ++ begun)
     (earlier : b.earlier.items ≡ a.earlier.items ++ g ∷ []) (h : AreGroups a) where
   abbrev consumed : List ℕ → Bool
-  consumed = consumes no_tables (operator_of version.op)
+  consumed = one_consumes no_tables (evolution_of version.op)
 
   abbrev number : ℕ
   number = length a.versions.list.items
@@ -416,11 +416,11 @@ module _ (a b : Inside) (version : Version) (g : Vec ℕ) (begun : List MadeTabl
     abbrev before_it : Tables
     before_it = newest_from no_tables (versions_in (groups_view a))
 
-    abbrev its : Operator
-    its = operator_of version.op
+    abbrev its : List Operator
+    its = evolution_of version.op
 
     abbrev all : List MadeTable
-    all = map (table_after (consumes before_it its) number) a.stored.items ++ begun
+    all = map (table_after (one_consumes before_it its) number) a.stored.items ++ begun
 
     abbrev old_lines : List Lifeline
     old_lines = map line_of a.stored.items
@@ -428,12 +428,12 @@ module _ (a b : Inside) (version : Version) (g : Vec ℕ) (begun : List MadeTabl
     all_is : b.stored.items ≡ all
     all_is = stored before_it
 
-    lines_are : map line_of all ≡ map (line_after (consumes before_it its) number) old_lines
+    lines_are : map line_of all ≡ map (line_after (one_consumes before_it its) number) old_lines
         ++ map line_of begun
-    lines_are = map-append line_of (map (table_after (consumes before_it its) number)
+    lines_are = map-append line_of (map (table_after (one_consumes before_it its) number)
         a.stored.items) begun
         ∙ ap (λ (ls : List Lifeline). ls ++ map line_of begun)
-        (lines_ended (consumes before_it its) number a.stored.items)
+        (lines_ended (one_consumes before_it its) number a.stored.items)
 
     versions_are : versions_in (groups_view b) ≡ versions_in (groups_view a) ++ version_of version
         ∷ []
@@ -462,9 +462,10 @@ module _ (a b : Inside) (version : Version) (g : Vec ℕ) (begun : List MadeTabl
         ∙ ap (λ (x : Lifeline). x.last) t.3 ∙ i))
 
     long : length all ≡ length a.stored.items + length begun
-    long = length-append (map (table_after (consumes before_it its) number) a.stored.items) begun
+    long = length-append (map (table_after (one_consumes before_it its) number) a.stored.items)
+        begun
         ∙ ap (λ j. j + length begun) (length-map a.stored.items
-        (table_after (consumes before_it its) number))
+        (table_after (one_consumes before_it its) number))
 
     new_apart : (p q : ℕ) (l m : Lifeline) → slice_get (map line_of all) p ≡ Some l
         → slice_get (map line_of all) q ≡ Some m → In p b.newest.items → In q b.newest.items
@@ -476,7 +477,8 @@ module _ (a b : Inside) (version : Version) (g : Vec ℕ) (begun : List MadeTabl
         let second : get_or all q t.0 ≡ u.0 =
         get_or_from_slice_get all q u.0 t.0 (table_at all q m f).1 in
         one_by_name all b.newest.items (subst (AreWithin b.newest.items) (sym long) there)
-        (subst (Ascends bytes_cmp) (sym (names_with (consumes before_it its) number a.stored.items
+        (subst (Ascends bytes_cmp) (sym (names_with (one_consumes before_it its) number
+        a.stored.items
         begun b.newest.items)) ordered) p q t.0 i j
         (ap (λ (x : MadeTable). x.name) t.2 ∙ ap (λ (x : Lifeline). x.table) t.3 ∙ s
         ∙ ap (λ (x : Lifeline). x.table) (sym u.3)
@@ -485,9 +487,9 @@ module _ (a b : Inside) (version : Version) (g : Vec ℕ) (begun : List MadeTabl
     pub lifelines_are : AreOfLifelines (groups_view b)
     lifelines_are = record {
       lines = ap (map line_of) all_is ∙ lines_are
-          ∙ ap (λ (ls : List Lifeline). map (line_after (consumes before_it its) number) ls
+          ∙ ap (λ (ls : List Lifeline). map (line_after (one_consumes before_it its) number) ls
           ++ map line_of begun) h.lifelines.lines
-          ∙ ap (λ (ls : List Lifeline). map (line_after (consumes before_it its) number)
+          ∙ ap (λ (ls : List Lifeline). map (line_after (one_consumes before_it its) number)
           (lifelines_of (versions_in (groups_view a))) ++ ls) come.lines
           ∙ ap (λ j. lifelines_after before_it j (lifelines_of (versions_in (groups_view a)))
           (version_of version)) (sym (length-map a.versions.list.items version_of))
@@ -498,7 +500,7 @@ module _ (a b : Inside) (version : Version) (g : Vec ℕ) (begun : List MadeTabl
           (sym all_is)
           (subst (λ j. AreCovered (map line_of all) j (groups_view b).places)
           (sym (ap length versions ∙ length-append a.versions.list.items (version ∷ [])))
-          (covered_with (consumes before_it its) number old_lines (map line_of begun)
+          (covered_with (one_consumes before_it its) number old_lines (map line_of begun)
           (map line_of all) (groups_view a).places (groups_view b).places h.lifelines.places
           fresh lines_are
           (λ k p i. subst (λ j. p < j) (sym (length-map a.stored.items line_of))

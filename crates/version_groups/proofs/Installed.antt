@@ -370,7 +370,8 @@ module _ (kept : Kept) (past : Past) (stamp : ℕ) (changes : List PlainChange)
 
 -- ---- an operator
 
-module _ (kept : Kept) (past : Past) (stamp : ℕ) (op : Operator) (inverse : List Operator)
+module _ (kept : Kept) (past : Past) (stamp : ℕ) (op : List Operator)
+    (inverse : List (List Operator))
     (represents : Represents kept past) (valid : stamp < forever)
     (accepted : command_fault past (a_command stamp (evolving op inverse)) ≡ None) where
   abbrev evolved : Past

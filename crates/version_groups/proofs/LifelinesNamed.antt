@@ -11,7 +11,7 @@ use Rattle.smo_ops_spec.specs.Past.{Past, newest_tables, newest_database, next_v
 use Rattle.smo_ops_spec.specs.Past.{next_database, next_past}
 use Rattle.smo_ops_spec.specs.Sizes.{Size, if_living, size_changed, living_changed, ended_with}
 use Rattle.smo_ops_spec.specs.Sizes.{size_after, size_begun, sizes_evolved}
-use Rattle.smo_ops_spec.specs.Touching.{consumes}
+use Rattle.smo_ops_spec.specs.Evolutions.{one_consumes}
 use Rattle.version_groups_tables.proofs.RestoredTables.{Listed}
 use Rattle.version_groups.specs.Lifelines.{last_after, Lifeline, line_after, line_begun}
 use Rattle.version_groups.specs.Lifelines.{made_tables, lifelines_after, lifelines_of, Named}
@@ -35,13 +35,13 @@ changed_named old new (s ∷ sizes) =
 
 -- ---- after an operator
 
-module _ (before : Tables) (op : Operator) (k : ℕ) where
+module _ (before : Tables) (op : List Operator) (k : ℕ) where
   named_after : Named → Named
-  named_after n = (n.0, n.1, last_after (consumes before op n.0) k n.2)
+  named_after n = (n.0, n.1, last_after (one_consumes before op n.0) k n.2)
 
   size_ends : (s : Size) → size_named (size_after before op k s) ≡ named_after (size_named s)
   unfolding named_after
-  size_ends s = step s.last refl (consumes before op s.table)
+  size_ends s = step s.last refl (one_consumes before op s.table)
     where
       step : (o : Option ℕ) → s.last ≡ o → (b : Bool)
           → size_named (if_living o (if b then ended_with k s else s) s)
@@ -58,11 +58,11 @@ module _ (before : Tables) (op : Operator) (k : ℕ) where
       ∙ ap (λ (ns : List Named). named_after (size_named s) ∷ ns) (sizes_end sizes)
 
   lines_end : (lines : List Lifeline) → map line_named
-      (map (line_after (consumes before op) k) lines) ≡ map named_after (map line_named lines)
+      (map (line_after (one_consumes before op) k) lines) ≡ map named_after (map line_named lines)
   unfolding named_after
   lines_end [] = refl
   lines_end (l ∷ lines) = ap (λ (ns : List Named).
-      line_named (line_after (consumes before op) k l) ∷ ns) (lines_end lines)
+      line_named (line_after (one_consumes before op) k l) ∷ ns) (lines_end lines)
 
 sizes_begin : (k : ℕ) (database : Database) (made : List Listed)
     → map size_named (map (size_begun k database) made) ≡ map line_named (map (line_begun k) made)
@@ -81,9 +81,9 @@ evolved_named before k v database sizes lines e =
     (map (size_begun (k + 1) database) (made_tables before v.op v.tables)))
     (sizes_end before v.op k sizes ∙ ap (map (named_after before v.op k)) e
     ∙ sym (lines_end before v.op k lines))
-    ∙ ap (λ (ns : List Named). map line_named (map (line_after (consumes before v.op) k) lines)
+    ∙ ap (λ (ns : List Named). map line_named (map (line_after (one_consumes before v.op) k) lines)
     ++ ns) (sizes_begin (k + 1) database (made_tables before v.op v.tables))
-    ∙ sym (map-append line_named (map (line_after (consumes before v.op) k) lines)
+    ∙ sym (map-append line_named (map (line_after (one_consumes before v.op) k) lines)
     (map (line_begun (k + 1)) (made_tables before v.op v.tables)))
 
 -- so it is with one command more

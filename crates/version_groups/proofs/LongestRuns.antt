@@ -10,14 +10,14 @@ use Rattle.prima_base.specs.Columns.{Column}
 use Rattle.schema_catalog.specs.Tables.{Tables}
 use Rattle.smo_ops_types.specs.Commands.{PlainVersion}
 use Rattle.smo_ops_types.specs.Operators.{Operator}
-use Rattle.smo_ops_spec.specs.After.{op_fault, schema_after}
+use Rattle.smo_ops_spec.specs.Evolutions.{evolution_fault, schema_after_each}
 use Rattle.smo_ops_spec.specs.ValidPast.{AreVersions}
 use Rattle.smo_ops_spec.specs.Past.{no_tables, tables_from, newest_from}
-use Rattle.smo_ops_spec.specs.Touching.{makes, consumes}
+use Rattle.smo_ops_spec.specs.Evolutions.{one_makes, one_consumes}
 use Rattle.smo_ops_spec.proofs.PastLaws.{newest_added}
 use Rattle.smo_ops_spec.proofs.PastMoments.{newest_tables_from, tables_still, tables_added}
 use Rattle.smo_ops_spec.proofs.PastMoments.{before_or_not}
-use Rattle.smo_ops_spec.proofs.TouchedTables.{table_stays, made_is_free}
+use Rattle.smo_ops_spec.proofs.MemberLaws.{all_accepted, each_table_stays, each_made_is_free}
 use Rattle.version_groups_tables.proofs.PlacedTables.{listed_in}
 use Rattle.version_groups.specs.Lifelines.{Lifeline, last_after, line_after, line_begun}
 use Rattle.version_groups.specs.Lifelines.{made_tables, lifelines_of, is_up_to, covers}
@@ -55,7 +55,7 @@ module _ (versions : List PlainVersion) (v : PlainVersion) where
   before_is = newest_tables_from no_tables versions
 
   -- what operators did before they did
-  does_still : (does : Tables → Operator → List ℕ → Bool) (k : ℕ) (name : List ℕ) → k ≤ n
+  does_still : (does : Tables → List Operator → List ℕ → Bool) (k : ℕ) (name : List ℕ) → k ≤ n
       → with_version does more k name ≡ with_version does versions k name
   does_still does zero name l = refl
   does_still does (suc k) name l =
@@ -65,7 +65,7 @@ module _ (versions : List PlainVersion) (v : PlainVersion) where
       (got_still versions v k (omega (arith, l)))
 
   -- and the last one does what it does
-  does_last : (does : Tables → Operator → List ℕ → Bool) (name : List ℕ)
+  does_last : (does : Tables → List Operator → List ℕ → Bool) (name : List ℕ)
       → with_version does more (n + 1) name ≡ does before v.op name
   does_last does name =
       ap (λ j. with_version does more j name) (let e : n + 1 ≡ suc n = omega arith in e)
@@ -77,12 +77,12 @@ module _ (versions : List PlainVersion) (v : PlainVersion) where
   added = subst (λ j. tables_from no_tables more j ≡ v.tables)
       (let e : suc n ≡ n + 1 = omega arith in e) (tables_added no_tables versions v)
 
-  module _ (accepted : op_fault before v.op ≡ None)
-      (tables : v.tables ≡ schema_after before v.op) where
+  module _ (accepted : evolution_fault before v.op ≡ None)
+      (tables : v.tables ≡ schema_after_each before v.op) where
     -- a lifeline that lived goes on, or has ended
     module _ (m : Lifeline) (h : IsLongest versions m) where
       abbrev l : Lifeline
-      l = line_after (consumes before v.op) n m
+      l = line_after (one_consumes before v.op) n m
 
       -- one that covers the new version lived, and its table is not consumed
       lived : (o : Option ℕ) → m.last ≡ o → (b : Bool) → is_up_to (last_after b n o) (n + 1) ≡ true
@@ -96,8 +96,9 @@ module _ (versions : List PlainVersion) (v : PlainVersion) where
           omega (arith, up, low)
           )
 
-      goes_on : covers (n + 1) l ≡ true → (m.last ≡ None) × (consumes before v.op m.table ≡ false)
-      goes_on c = lived m.last refl (consumes before v.op m.table) (covered_up_to (n + 1) l c)
+      goes_on : covers (n + 1) l ≡ true → (m.last ≡ None)
+          × (one_consumes before v.op m.table ≡ false)
+      goes_on c = lived m.last refl (one_consumes before v.op m.table) (covered_up_to (n + 1) l c)
 
       was_there : covers (n + 1) l ≡ true → get before m.table ≡ Some m.columns
       was_there c =
@@ -106,29 +107,30 @@ module _ (versions : List PlainVersion) (v : PlainVersion) where
           (ap (λ o. is_up_to o n) (goes_on c).0))
 
       -- so neither is it made
-      unmade : covers (n + 1) l ≡ true → makes before v.op m.table ≡ false
-      unmade c = step (makes before v.op m.table) refl
+      unmade : covers (n + 1) l ≡ true → one_makes before v.op m.table ≡ false
+      unmade c = step (one_makes before v.op m.table) refl
         where
-          step : (b : Bool) → makes before v.op m.table ≡ b → b ≡ false
-          step true e = absurd (let d = made_is_free before v.op m.table accepted e
+          step : (b : Bool) → one_makes before v.op m.table ≡ b → b ≡ false
+          step true e = absurd (let d = each_made_is_free before v.op m.table
+              (all_accepted before v.op accepted) e
               (ap is_some (was_there c)) in let u = (goes_on c).1 in cc)
           step false e = refl
 
       newest_there : covers (n + 1) l ≡ true → get v.tables m.table ≡ Some m.columns
       newest_there c = ap (λ (t : Tables). get t m.table) tables
-          ∙ table_stays before v.op m.table (unmade c) (goes_on c).1 ∙ was_there c
+          ∙ each_table_stays before v.op m.table (unmade c) (goes_on c).1 ∙ was_there c
 
-      ends_with : (o : Option ℕ) → m.last ≡ o → (b : Bool) → consumes before v.op m.table ≡ b
+      ends_with : (o : Option ℕ) → m.last ≡ o → (b : Bool) → one_consumes before v.op m.table ≡ b
           → (last : ℕ) → last_after b n o ≡ Some last
           → (m.first ≤ last) × (last < n + 1)
-          × (with_version consumes more (last + 1) m.table ≡ true)
+          × (with_version one_consumes more (last + 1) m.table ≡ true)
       ends_with None e true q last i =
           let is : n ≡ last = cc in
           let first = h.begun in (
             omega (arith, is, first),
             omega (arith, is),
-            ap (λ j. with_version consumes more (j + 1) m.table) (sym is)
-                ∙ does_last consumes m.table ∙ q,
+            ap (λ j. with_version one_consumes more (j + 1) m.table) (sym is)
+                ∙ does_last one_consumes m.table ∙ q,
           )
       ends_with None e false q last i = absurd (cc)
       ends_with (Some x) e b q last i =
@@ -137,37 +139,41 @@ module _ (versions : List PlainVersion) (v : PlainVersion) where
           let low = own.1 in (
             own.0,
             omega (arith, low),
-            does_still consumes (last + 1) m.table (omega (arith, low))
+            does_still one_consumes (last + 1) m.table (omega (arith, low))
                 ∙ own.2,
           )
 
       pub still_longest : IsLongest more l
       still_longest = record {
         begun = (let first = h.begun in omega (arith, first, long));
-        begins = does_still makes m.first m.table h.begun ∙ h.begins;
+        begins = does_still one_makes m.first m.table h.begun ∙ h.begins;
         there = λ k b c. elim (before_or_not n k) [
           | inl j ↦
               let is : k ≡ n + 1 = omega (arith, j, b, long) in
               ap (λ (t : Tables). get t m.table) (ap (tables_from no_tables more) is ∙ added)
               ∙ newest_there (subst (λ i. covers i l ≡ true) is c)
           | inr j ↦ ap (λ (t : Tables). get t m.table) (tables_still no_tables versions v k j)
-              ∙ h.there k j (did_cover (consumes before v.op) n m k c)
+              ∙ h.there k j (did_cover (one_consumes before v.op) n m k c)
         ];
         inside = λ k f b c. elim (before_or_not n k) [
           | inl j ↦
               let is : k ≡ n + 1 = omega (arith, j, b, long) in
               let own = subst (λ i. covers i l ≡ true) is c in (
-                ap (λ i. with_version makes more i m.table) is ∙ does_last makes m.table
+                ap (λ i. with_version one_makes more i m.table) is ∙ does_last one_makes m.table
                     ∙ unmade own,
-                ap (λ i. with_version consumes more i m.table) is ∙ does_last consumes m.table
+                ap (λ i. with_version one_consumes more i m.table) is ∙ does_last one_consumes
+                    m.table
                     ∙ (goes_on own).1,
               )
           | inr j ↦
-              let own = h.inside k f j (did_cover (consumes before v.op) n m k c) in
-              (does_still makes k m.table j ∙ own.0, does_still consumes k m.table j ∙ own.1)
+              let own = h.inside k f j (did_cover (one_consumes before v.op) n m k c) in (
+                does_still one_makes k m.table j ∙ own.0,
+                does_still one_consumes k m.table j
+                    ∙ own.1,
+              )
         ];
         ends = λ last e. (
-            let own = ends_with m.last refl (consumes before v.op m.table) refl last e in
+            let own = ends_with m.last refl (one_consumes before v.op m.table) refl last e in
             (own.0, (let low = own.1 in omega (arith, low, long)), own.2)
             );
       }
@@ -176,11 +182,11 @@ module _ (versions : List PlainVersion) (v : PlainVersion) where
     begins_longest : (t : List ℕ × List Column) → In t (made_tables before v.op v.tables)
         → IsLongest more (line_begun (n + 1) t)
     begins_longest t i =
-        let own = from_filter (λ (e : List ℕ × List Column). makes before v.op e.0) t
+        let own = from_filter (λ (e : List ℕ × List Column). one_makes before v.op e.0) t
         (entries v.tables) i in
         record {
           begun = omega (arith, long);
-          begins = does_last makes t.0 ∙ own.1;
+          begins = does_last one_makes t.0 ∙ own.1;
           there = λ k b c.
               let low = covered_from k (line_begun (n + 1) t) c in
               let is : k ≡ n + 1 = omega (arith, low, b, long) in
@@ -193,11 +199,12 @@ module _ (versions : List PlainVersion) (v : PlainVersion) where
     pub all_with : ((l : Lifeline) → In l (lifelines_of versions) → IsLongest versions l)
         → (l : Lifeline) → In l (lifelines_of more) → IsLongest more l
     all_with h l i =
-        elim (in_append l (map (line_after (consumes before v.op) n) (lifelines_of versions))
+        elim (in_append l (map (line_after (one_consumes before v.op) n) (lifelines_of versions))
         (map (line_begun (n + 1)) (made_tables before v.op v.tables))
         (subst (λ (ls : List Lifeline). In l ls) (lifelines_with versions v) i)) [
           | inl j ↦
-              let m = from_map (line_after (consumes before v.op) n) l (lifelines_of versions) j in
+              let m = from_map (line_after (one_consumes before v.op) n) l (lifelines_of versions)
+              j in
               subst (IsLongest more) m.2 (still_longest m.0 (h m.0 m.1))
           | inr j ↦
               let t = from_map (line_begun (n + 1)) l (made_tables before v.op v.tables) j in

@@ -14,7 +14,7 @@ use Rattle.history_store.specs.Change.{PreparedChange}
 use Rattle.smo_ops_types.specs.declared.version.Version.{Version}
 use Rattle.smo_ops_spec.specs.Accepts.{command_fault, operator_refusal}
 use Rattle.smo_ops_spec.specs.Accepts.{body_tests}
-use Rattle.smo_ops_spec.specs.After.{op_fault}
+use Rattle.smo_ops_spec.specs.Evolutions.{evolution_fault}
 use Rattle.smo_ops_spec.specs.First.{unless, first_refusal}
 use Rattle.smo_ops_spec.specs.ValidPast.{IsLater}
 use Rattle.smo_ops_spec.specs.ValidValues.{BodyHolds}
@@ -267,13 +267,14 @@ schema_is kept past represents nothing versions n e =
 
 -- ---- an operator
 
-module _ (kept : Kept) (past : Past) (stamp : ℕ) (op : Operator) (inverse : List Operator)
+module _ (kept : Kept) (past : Past) (stamp : ℕ) (op : List Operator)
+    (inverse : List (List Operator))
     (represents : Represents kept past) (valid : stamp < forever)
     (accepted : command_fault past (a_command stamp (evolving op inverse)) ≡ None) where
   tests : first_refusal (body_tests past (evolving op inverse)) ≡ None
   tests = body_accepted past (a_command stamp (evolving op inverse)) accepted
 
-  pub op_accepted : op_fault (newest_tables past) op ≡ None
+  pub op_accepted : evolution_fault (newest_tables past) op ≡ None
   op_accepted = operator_accepted past stamp op inverse accepted
 
   pub few_versions : length past.versions < max_versions
@@ -281,7 +282,7 @@ module _ (kept : Kept) (past : Past) (stamp : ℕ) (op : Operator) (inverse : Li
       let h = met (nat_lt (length past.versions) max_versions) (OverLimit Versions max_versions)
       (none_of_first (unless (nat_lt (length past.versions) max_versions)
       (OverLimit Versions max_versions))
-      (option_map operator_refusal (op_fault (newest_tables past) op)
+      (option_map operator_refusal (evolution_fault (newest_tables past) op)
       ∷ inverse_tests (newest_tables past) op inverse) tests).0 in
       grind (arith, nat_tests, h)
 

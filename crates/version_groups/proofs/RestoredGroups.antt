@@ -10,12 +10,12 @@ use Rattle.schema_catalog.specs.Tables.{Tables}
 use Rattle.history_store.specs.Store.{Store}
 use Rattle.smo_ops_types.specs.declared.version.Version.{Version}
 use Rattle.smo_ops_types.specs.Commands.{PlainVersion, version_of}
-use Rattle.smo_ops_types.specs.Operators.{operator_of}
+use Rattle.smo_ops_types.specs.Operators.{evolution_of}
 use Rattle.smo_ops_spec.specs.After.{IsValid}
 use Rattle.smo_ops_spec.specs.ValidPast.{AreVersions}
 use Rattle.smo_ops_spec.specs.Past.{beginning, no_tables, tables_from, newest_from}
-use Rattle.smo_ops_spec.specs.Touching.{consumes}
-use Rattle.smo_ops_spec.proofs.NextSchemas.{next_is_valid}
+use Rattle.smo_ops_spec.specs.Evolutions.{one_consumes}
+use Rattle.smo_ops_spec.proofs.MemberLaws.{all_accepted, each_is_valid}
 use Rattle.smo_ops_spec.proofs.PastLaws.{newest_added}
 use Rattle.version_groups_tables.specs.declared.made_table.MadeTable.{MadeTable}
 use Rattle.version_groups_tables.specs.Stored.{HasEntry}
@@ -83,7 +83,8 @@ module _ (last : Option ℕ) (before : Tables) (v : Version) (rest left : List V
 
   pub next_valid : IsValid v.schema
   next_valid = subst IsValid (sym both.0.tables)
-      (next_is_valid before (operator_of v.op) valid both.0.accepted)
+      (each_is_valid before (evolution_of v.op) valid
+      (all_accepted before (evolution_of v.op) both.0.accepted))
 
   pub rest_accepted : AreVersions (Some v.stamp) v.schema (map version_of rest)
   rest_accepted = both.1
@@ -129,11 +130,11 @@ columns_after : (before : Tables) (k : ℕ) (lines : List Lifeline) (v : PlainVe
     → lifeline_columns (lifelines_after before k lines v) ≡ lifeline_columns lines
     ++ columns_made (made_tables before v.op v.tables)
 columns_after before k lines v =
-    map-append (λ (l : Lifeline). l.columns) (map (line_after (consumes before v.op) k) lines)
+    map-append (λ (l : Lifeline). l.columns) (map (line_after (one_consumes before v.op) k) lines)
     (map (line_begun (k + 1)) (made_tables before v.op v.tables))
     ∙ ap (λ cs. cs ++ lifeline_columns (map (line_begun (k + 1))
     (made_tables before v.op v.tables)))
-    (columns_still (consumes before v.op) k lines)
+    (columns_still (one_consumes before v.op) k lines)
     ∙ ap (λ cs. lifeline_columns lines ++ cs)
     (columns_begin (k + 1) (made_tables before v.op v.tables))
 

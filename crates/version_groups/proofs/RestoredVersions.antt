@@ -10,13 +10,13 @@ use Rattle.schema_catalog.specs.Tables.{Tables}
 use Rattle.history_store.specs.Store.{Store}
 use Rattle.smo_ops_types.specs.declared.version.Version.{Version}
 use Rattle.smo_ops_types.specs.Commands.{PlainVersion, version_of}
-use Rattle.smo_ops_types.specs.Operators.{Operator, operator_of}
-use Rattle.smo_ops_spec.specs.After.{op_fault, schema_after}
+use Rattle.smo_ops_types.specs.Operators.{Operator, evolution_of}
+use Rattle.smo_ops_spec.specs.Evolutions.{evolution_fault, schema_after_each}
 use Rattle.smo_ops_spec.specs.Past.{no_tables, tables_from, newest_from}
-use Rattle.smo_ops_spec.specs.Touching.{makes, consumes}
+use Rattle.smo_ops_spec.specs.Evolutions.{one_makes, one_consumes}
 use Rattle.smo_ops_spec.proofs.PastMoments.{newest_tables_from, tables_still, tables_added}
 use Rattle.smo_ops_spec.proofs.PastMoments.{before_or_not}
-use Rattle.smo_ops_spec.proofs.TouchedTables.{table_stays, table_gone}
+use Rattle.smo_ops_spec.proofs.MemberLaws.{all_accepted, each_table_stays, each_table_gone}
 use Rattle.version_groups_tables.specs.declared.made_table.MadeTable.{MadeTable}
 use Rattle.version_groups_tables.specs.Evolving.{ComeNext}
 use Rattle.version_groups_tables.specs.Stored.{HasEntry, stored_as}
@@ -117,16 +117,18 @@ pub come_again : (kept new : Kept) (v : Version) (begun : List MadeTable) (own :
 come_again kept new v begun own versions stored h = record {
   lines = subst (λ (vs : List Version). map line_of begun
       ≡ map (line_begun (length vs + 1)) (made_tables (newest_from no_tables (map version_of vs))
-      (operator_of v.op) v.schema)) versions h.lines;
+      (evolution_of v.op) v.schema)) versions h.lines;
   living = subst (λ (vs : List Version). AreLiving
-      (map (table_after (consumes (newest_from no_tables (map version_of vs)) (operator_of v.op))
+      (map (table_after (one_consumes (newest_from no_tables (map version_of vs))
+      (evolution_of v.op))
       (length vs)) new.stored ++ begun) own) versions
       (subst (λ (ts : List MadeTable). AreLiving
-      (map (table_after (consumes (newest_from no_tables (versions_in kept)) (operator_of v.op))
+      (map (table_after (one_consumes (newest_from no_tables (versions_in kept))
+      (evolution_of v.op))
       (length kept.versions)) ts ++ begun) own) stored h.living);
 }
 
-module _ (kept : Kept) (h : AreRestored kept) (op : Operator) where
+module _ (kept : Kept) (h : AreRestored kept) (op : List Operator) where
   abbrev before : Tables
   before = newest_from no_tables (versions_in kept)
 
@@ -145,16 +147,17 @@ module _ (kept : Kept) (h : AreRestored kept) (op : Operator) where
       ∙ newest_tables_from no_tables (versions_in kept)) (h.tables n name (omega arith))
 
   -- a table of the next version that is not made is stored, with its columns
-  pub others_stored : (after : Tables) → after ≡ schema_after before op → (is_made : List ℕ → Bool)
-      → ((name : List ℕ) → is_made name ≡ makes before op name)
+  pub others_stored : (after : Tables) → after ≡ schema_after_each before op
+      → (is_made : List ℕ → Bool)
+      → ((name : List ℕ) → is_made name ≡ one_makes before op name)
       → OthersAre after is_made (λ name. table_in kept n name)
   others_stored after is is_made alike name columns there unmade =
-      step (consumes before op name) refl
+      step (one_consumes before op name) refl
     where
-      made_not : makes before op name ≡ false
+      made_not : one_makes before op name ≡ false
       made_not = sym (alike name) ∙ unmade
 
-      here : get (schema_after before op) name ≡ Some columns
+      here : get (schema_after_each before op) name ≡ Some columns
       here = ap (λ (t : Tables). get t name) (sym is) ∙ there
 
       of_entry : (s : Option Store) → HasEntry (HasColumns name) (Some columns) s
@@ -162,17 +165,18 @@ module _ (kept : Kept) (h : AreRestored kept) (op : Operator) where
       of_entry None e = absurd e
       of_entry (Some store) e = e
 
-      step : (b : Bool) → consumes before op name ≡ b → IsStored columns (table_in kept n name)
-      step true q = absurd (let gone = table_gone before op name made_not q in cc)
+      step : (b : Bool) → one_consumes before op name ≡ b → IsStored columns (table_in kept n name)
+      step true q = absurd (let gone = each_table_gone before op name made_not q in cc)
       step false q =
           of_entry (table_in kept n name)
           (subst (λ (o : Option (List Column)). HasEntry (HasColumns name) o (table_in kept n name))
-          (sym (table_stays before op name made_not q) ∙ here) (newest_entry name))
+          (sym (each_table_stays before op name made_not q) ∙ here) (newest_entry name))
 
   -- the tables that begin with it come with it
-  pub comes_over : (v : Version) (begun : List MadeTable) (places : List ℕ) → operator_of v.op ≡ op
-      → op_fault before op ≡ None → v.schema ≡ schema_after before op
-      → ComeNext kept.stored (newest_places kept) (makes before op) (BeginsOver (n + 1)) HasColumns
+  pub comes_over : (v : Version) (begun : List MadeTable) (places : List ℕ) → evolution_of v.op ≡ op
+      → evolution_fault before op ≡ None → v.schema ≡ schema_after_each before op
+      → ComeNext kept.stored (newest_places kept) (one_makes before op) (BeginsOver (n + 1))
+      HasColumns
       v.schema begun places → ComeWith kept v begun places
   comes_over v begun places is accepted schema next = record {
     lines =
@@ -180,17 +184,20 @@ module _ (kept : Kept) (h : AreRestored kept) (op : Operator) where
         (made_tables before op v.schema) begun next.begin
         ∙ ap (λ o. map (line_begun (n + 1)) (made_tables before o v.schema)) (sym is);
     living =
-        subst (λ o. AreLiving (map (table_after (consumes before o) n) kept.stored ++ begun) places)
+        subst (λ o. AreLiving (map (table_after (one_consumes before o) n) kept.stored ++ begun)
+        places)
         (sym is)
-        (living_after kept.stored begun (newest_places kept) places before op n accepted
+        (living_after kept.stored begun (newest_places kept) places before op n
+        (all_accepted before op accepted)
         (newest_living kept h.lifelines)
         (λ name s e. entry_some (HasColumns name) (get before name) (table_in kept n name) s e
         (newest_entry name)) (λ j t l. (fresh j t l).last)
-        (subst (λ (t : Tables). ArePlaced kept.stored begun (newest_places kept) (makes before op) t
+        (subst (λ (t : Tables). ArePlaced kept.stored begun (newest_places kept)
+        (one_makes before op) t
         places) schema next.placed) gone);
   }
     where
-      gone : (name : List ℕ) → get (schema_after before op) name ≡ None
+      gone : (name : List ℕ) → get (schema_after_each before op) name ≡ None
           → stored_as name (at_places (kept.stored ++ begun) places) ≡ None
       gone name e =
           entry_none (HasColumns name) (stored_as name (at_places (kept.stored ++ begun) places))
@@ -208,8 +215,8 @@ module _ (kept : Kept) (h : AreRestored kept) (op : Operator) where
 -- groups with the version are restored
 module _ (kept new : Kept) (h : AreRestored kept) (v : Version) (begun : List MadeTable)
     (places : List ℕ) (has : HasVersion kept new v begun places) where
-  abbrev op : Operator
-  op = operator_of v.op
+  abbrev op : List Operator
+  op = evolution_of v.op
 
   abbrev old : Tables
   old = newest_from no_tables (versions_in kept)
@@ -218,9 +225,10 @@ module _ (kept new : Kept) (h : AreRestored kept) (v : Version) (begun : List Ma
   m = length kept.versions
 
   pub stores_with : stores_of new.stored ≡ stores_of kept.stored ++ stores_of begun
-  stores_with = ap stores_of (has.stored old) ∙ stores_after (consumes old op) m kept.stored begun
+  stores_with = ap stores_of (has.stored old) ∙ stores_after (one_consumes old op) m kept.stored
+      begun
 
-  module _ (next : ComeNext kept.stored (newest_places kept) (makes old op) (BeginsOver (m + 1))
+  module _ (next : ComeNext kept.stored (newest_places kept) (one_makes old op) (BeginsOver (m + 1))
       HasColumns v.schema begun places) where
     versions : versions_in new ≡ versions_in kept ++ version_of v ∷ []
     versions = ap (map version_of) has.versions ∙ map-append version_of kept.versions (v ∷ [])

@@ -19,9 +19,9 @@ use Rattle.schema_catalog.specs.Databases.{Database, DatabaseEntry, Rows, Lost, 
 use Rattle.history_store.specs.Store.{Store, AllBefore}
 use Rattle.smo_ops_types.specs.Commands.{evolving, PlainVersion, version_of}
 use Rattle.smo_ops_types.specs.declared.version.Version.{Version}
-use Rattle.smo_ops_types.specs.Operators.{Operator, operator_of}
+use Rattle.smo_ops_types.specs.Operators.{Operator, evolution_of}
 use Rattle.smo_ops_spec.specs.Accepts.{command_fault, operator_refusal}
-use Rattle.smo_ops_spec.specs.After.{op_fault, schema_after}
+use Rattle.smo_ops_spec.specs.Evolutions.{evolution_fault, schema_after_each}
 use Rattle.smo_ops_spec.specs.Effects.{rows_under}
 use Rattle.smo_ops_spec.specs.OneRow.{Relation}
 use Rattle.smo_ops_spec.specs.First.{unless}
@@ -30,8 +30,8 @@ use Rattle.smo_ops_spec.specs.Past.{Past, no_tables, newest_from, tables_of, new
 use Rattle.smo_ops_spec.specs.Past.{newest_database, next_version, next_database, past_with}
 use Rattle.smo_ops_spec.specs.Sizes.{Size, if_living, ended_with, size_after, size_begun}
 use Rattle.smo_ops_spec.specs.Sizes.{sizes_evolved}
-use Rattle.smo_ops_spec.specs.Touching.{makes, consumes}
-use Rattle.smo_ops_spec.proofs.MigratedDatabases.{migrated_database}
+use Rattle.smo_ops_spec.specs.Evolutions.{one_makes, one_consumes}
+use Rattle.smo_ops_spec.proofs.MemberLaws.{all_accepted, each_database}
 use Rattle.smo_ops_spec.proofs.Firsts.{none_of_first, none_mapped}
 use Rattle.smo_ops_spec.proofs.PastMoments.{newest_tables_from, is_later, still_later}
 use Rattle.smo_ops_spec.proofs.PastMoments.{before_or_not}
@@ -93,7 +93,7 @@ have_joined (s ∷ sizes) more (t ∷ tables) others h k =
 
 -- ---- the lifelines of consumed tables end
 
-module _ (before : Tables) (op : Operator) (k : ℕ) where
+module _ (before : Tables) (op : List Operator) (k : ℕ) where
   module _ (s : Size) (t : MadeTable) (h : HasSize s t) where
     -- only the last version is another
     with_last : (o p : Option ℕ) → p ≡ o → HasSize
@@ -117,7 +117,7 @@ module _ (before : Tables) (op : Operator) (k : ℕ) where
     ends_by (Some m) None e i b = absurd (cc)
     ends_by (Some m) (Some n) e i b = with_last s.last (Some n) (e ∙ sym i)
 
-    ends : HasSize (size_after before op k s) (table_after (consumes before op) k t)
+    ends : HasSize (size_after before op k s) (table_after (one_consumes before op) k t)
     ends =
         subst (λ b. HasSize (size_after before op k s)
         (record {
@@ -126,19 +126,20 @@ module _ (before : Tables) (op : Operator) (k : ℕ) where
           last = last_after b k t.last;
           store =
               t.store;
-        })) (sym (ap (consumes before op) h.name))
-        (ends_by s.last t.last h.last refl (consumes before op s.table))
+        })) (sym (ap (one_consumes before op) h.name))
+        (ends_by s.last t.last h.last refl (one_consumes before op s.table))
 
   -- each of them
   have_after : (sizes : List Size) (tables : List MadeTable) → HaveSizes sizes tables
       → HaveSizes (map (size_after before op k) sizes)
-      (map (table_after (consumes before op) k) tables)
+      (map (table_after (one_consumes before op) k) tables)
   have_after [] [] h = record { count = refl; each = λ j d e l. absurd (omega (arith, l)) }
   have_after [] (t ∷ tables) h = absurd (no_table t tables h)
   have_after (s ∷ sizes) [] h = absurd (no_size s sizes h)
   have_after (s ∷ sizes) (t ∷ tables) h =
       one_has (size_after before op k s) (map (size_after before op k) sizes)
-      (table_after (consumes before op) k t) (map (table_after (consumes before op) k) tables)
+      (table_after (one_consumes before op) k t) (map (table_after (one_consumes before op) k)
+      tables)
       (ends s t (h.each 0 s t (omega arith)))
       (have_after sizes tables (rest_have s sizes t tables h))
 
@@ -184,31 +185,32 @@ relation_in columns None h = absurd h
 relation_in columns (Some (Rows rows)) h = h
 relation_in columns (Some (Lost k i)) h = absurd h
 
-module _ (kept : Kept) (past : Past) (op : Operator) (stamp : ℕ) (database : Database)
-    (represents : Represents kept past) (accepted : op_fault (newest_tables past) op ≡ None)
+module _ (kept : Kept) (past : Past) (op : List Operator) (stamp : ℕ) (database : Database)
+    (represents : Represents kept past) (accepted : evolution_fault (newest_tables past) op ≡ None)
     (number : length kept.versions ≡ length past.versions)
-    (whole : IsDatabase (schema_after (newest_tables past) op) database) (begun : List MadeTable)
+    (whole : IsDatabase (schema_after_each (newest_tables past) op) database)
+    (begun : List MadeTable)
     (places : List ℕ)
     (begin : BeginInOrder (BeginsWith (length kept.versions + 1) stamp
     (λ name. rows_under (get database name)))
-    (filter (λ (e : List ℕ × List Column). makes (newest_tables past) op e.0)
-    (entries (schema_after (newest_tables past) op))) begun)
-    (placed : ArePlaced kept.stored begun (newest_places kept) (makes (newest_tables past) op)
-    (schema_after (newest_tables past) op) places)
+    (filter (λ (e : List ℕ × List Column). one_makes (newest_tables past) op e.0)
+    (entries (schema_after_each (newest_tables past) op))) begun)
+    (placed : ArePlaced kept.stored begun (newest_places kept) (one_makes (newest_tables past) op)
+    (schema_after_each (newest_tables past) op) places)
     (entry : (name : List ℕ) → BeginsEntry stamp (rows_under (get database name))
-    (get (schema_after (newest_tables past) op) name)
+    (get (schema_after_each (newest_tables past) op) name)
     (stored_as name (at_places (kept.stored ++ begun) places))) where
   abbrev before : Tables
   before = newest_tables past
 
   abbrev after : Tables
-  after = schema_after before op
+  after = schema_after_each before op
 
   abbrev n : ℕ
   n = length kept.versions
 
   abbrev ended : List MadeTable
-  ended = map (table_after (consumes before op) n) kept.stored
+  ended = map (table_after (one_consumes before op) n) kept.stored
 
   sizes_after : HaveSizes (sizes_evolved before op after database (length past.versions) past.sizes)
       (ended ++ begun)
@@ -217,17 +219,17 @@ module _ (kept : Kept) (past : Past) (op : Operator) (stamp : ℕ) (database : D
       number
       (have_joined (map (size_after before op n) past.sizes)
       (map (size_begun (n + 1) database) (filter
-      (λ (e : List ℕ × List Column). makes before op e.0) (entries after))) ended begun
+      (λ (e : List ℕ × List Column). one_makes before op e.0) (entries after))) ended begun
       (have_after before op n past.sizes kept.stored represents.sizes)
       (have_begun database (n + 1) stamp (filter
-      (λ (e : List ℕ × List Column). makes before op e.0) (entries after)) begun begin own))
+      (λ (e : List ℕ × List Column). one_makes before op e.0) (entries after)) begun begin own))
     where
       own : (m : List ℕ × List Column) → In m
-          (filter (λ (e : List ℕ × List Column). makes before op e.0) (entries after))
+          (filter (λ (e : List ℕ × List Column). one_makes before op e.0) (entries after))
           → IsRelation m.1 (rows_under (get database m.0))
       own m i =
           let there = listed_in after m (from_filter
-          (λ (e : List ℕ × List Column). makes before op e.0) m (entries after) i).0 in
+          (λ (e : List ℕ × List Column). one_makes before op e.0) m (entries after) i).0 in
           relation_in m.1 (get database m.0) (subst
           (λ (o : Option (List Column)). IsEntry o (get database m.0)) there (whole m.0))
 
@@ -258,23 +260,25 @@ module _ (kept : Kept) (past : Past) (op : Operator) (stamp : ℕ) (database : D
 
   still_living : AreLiving (ended ++ begun) places
   still_living =
-      living_after kept.stored begun (newest_places kept) places before op n accepted
+      living_after kept.stored begun (newest_places kept) places before op n
+      (all_accepted before op accepted)
       (newest_living kept represents.lifelines) known
       (λ j t l. (begin.each j ([], []) t (let as_many = begin.count in
       omega (arith, l, as_many))).last) placed gone
 
 -- an operator whose command is accepted is accepted
-pub operator_accepted : (past : Past) (stamp : ℕ) (op : Operator) (inverse : List Operator)
+pub operator_accepted : (past : Past) (stamp : ℕ) (op : List Operator)
+    (inverse : List (List Operator))
     → command_fault past (a_command stamp (evolving op inverse)) ≡ None
-    → op_fault (newest_tables past) op ≡ None
+    → evolution_fault (newest_tables past) op ≡ None
 operator_accepted past stamp op inverse accepted =
     let rest = none_of_first (unless (nat_lt (length past.versions) max_versions)
     (OverLimit Versions max_versions))
-    (option_map operator_refusal (op_fault (newest_tables past) op)
+    (option_map operator_refusal (evolution_fault (newest_tables past) op)
     ∷ inverse_tests (newest_tables past) op inverse)
     (body_accepted past (a_command stamp (evolving op inverse)) accepted) in
-    none_mapped operator_refusal (op_fault (newest_tables past) op)
-    (none_of_first (option_map operator_refusal (op_fault (newest_tables past) op))
+    none_mapped operator_refusal (evolution_fault (newest_tables past) op)
+    (none_of_first (option_map operator_refusal (evolution_fault (newest_tables past) op))
     (inverse_tests (newest_tables past) op inverse) rest.1).0
 
 -- a table that begins with its columns and rows is stored over a lifeline that begins
@@ -283,24 +287,25 @@ begins_line : (version stamp : ℕ) (rows : List ℕ → Relation) (m : List ℕ
 begins_line version stamp rows m t h = line_is version m t h.name h.first h.last h.columns
 
 -- a version that is ready, with the tables that begin with it
-module _ (kept : Kept) (past : Past) (stamp : ℕ) (op : Operator) (inverse : List Operator)
+module _ (kept : Kept) (past : Past) (stamp : ℕ) (op : List Operator)
+    (inverse : List (List Operator))
     (represents : Represents kept past) (number : length kept.versions ≡ length past.versions)
     (accepted : command_fault past (a_command stamp (evolving op inverse)) ≡ None) (made : Version)
     (begun : List MadeTable) (places : List ℕ)
     (ready : IsNextVersion kept (newest_tables past) (next_version stamp op inverse past)
     (next_database (evolving op inverse) past) (version_of made) begun places) where
-  op_accepted : op_fault (newest_tables past) op ≡ None
+  op_accepted : evolution_fault (newest_tables past) op ≡ None
   op_accepted = operator_accepted past stamp op inverse accepted
 
   -- the carried database is of the next schema
-  whole : IsDatabase (schema_after (newest_tables past) op)
+  whole : IsDatabase (schema_after_each (newest_tables past) op)
       (next_database (evolving op inverse) past)
-  whole = migrated_database (newest_tables past) op
-      (newest_database past) represents.valid.tables.schema
-      op_accepted represents.valid.database
+  whole = each_database (newest_tables past) op
+      (newest_database past) represents.valid.tables
+      (all_accepted (newest_tables past) op op_accepted) represents.valid.database
 
-  abbrev its : Operator
-  its = operator_of made.op
+  abbrev its : List Operator
+  its = evolution_of made.op
 
   same_op : its ≡ op
   same_op = ap (λ (v : PlainVersion). v.op) ready.version
@@ -315,7 +320,7 @@ module _ (kept : Kept) (past : Past) (stamp : ℕ) (op : Operator) (inverse : Li
         (λ name. rows_under (get (next_database (evolving op inverse) past) name)))
         (length kept.versions + 1) (begins_line (length kept.versions + 1) stamp
         (λ name. rows_under (get (next_database (evolving op inverse) past) name)))
-        (made_tables (newest_tables past) op (schema_after (newest_tables past) op)) begun
+        (made_tables (newest_tables past) op (schema_after_each (newest_tables past) op)) begun
         ready.begin
         ∙ sym (ap (λ (t : Tables). map (line_begun (length kept.versions + 1))
         (made_tables t its made.schema)) same_before
@@ -325,9 +330,10 @@ module _ (kept : Kept) (past : Past) (stamp : ℕ) (op : Operator) (inverse : Li
         (made_tables (newest_tables past) op t))
         (ap (λ (v : PlainVersion). v.tables) ready.version));
     living =
-        subst (λ (t : Tables). AreLiving (map (table_after (consumes t its) (length kept.versions))
+        subst (λ (t : Tables). AreLiving (map (table_after (one_consumes t its)
+        (length kept.versions))
         kept.stored ++ begun) places) (sym same_before)
-        (subst (λ o. AreLiving (map (table_after (consumes (newest_tables past) o)
+        (subst (λ o. AreLiving (map (table_after (one_consumes (newest_tables past) o)
         (length kept.versions)) kept.stored ++ begun) places) (sym same_op)
         (still_living kept past op stamp (next_database (evolving op inverse) past) represents
         op_accepted number whole begun places ready.begin ready.placed ready.tables));
@@ -336,11 +342,11 @@ module _ (kept : Kept) (past : Past) (stamp : ℕ) (op : Operator) (inverse : Li
   -- groups with the version have the sizes of the past with the operator
   module _ (new : Kept) (has : HasVersion kept new made begun places) where
     -- the tables, some of whose lifelines have ended, and those that begin
-    stored : new.stored ≡ map (table_after (consumes (newest_tables past) op)
+    stored : new.stored ≡ map (table_after (one_consumes (newest_tables past) op)
         (length kept.versions)) kept.stored ++ begun
     stored =
         has.stored (newest_tables past)
-        ∙ ap (λ o. map (table_after (consumes (newest_tables past) o) (length kept.versions))
+        ∙ ap (λ o. map (table_after (one_consumes (newest_tables past) o) (length kept.versions))
         kept.stored ++ begun) same_op
 
     -- the sizes are those after the operator
@@ -358,7 +364,7 @@ module _ (kept : Kept) (past : Past) (stamp : ℕ) (op : Operator) (inverse : Li
     stamps_after_it = subst (AreUpTo (Some stamp)) (sym stored) up_to
       where
         consumed : List ℕ → Bool
-        consumed = consumes (newest_tables past) op
+        consumed = one_consumes (newest_tables past) op
 
         ended : List MadeTable
         ended = map (table_after consumed (length kept.versions)) kept.stored
@@ -387,8 +393,8 @@ module _ (kept : Kept) (past : Past) (stamp : ℕ) (op : Operator) (inverse : Li
               (omega (arith, l, b, all, as_long, as_many))).later m later)
         ]
 
-pub sizes_begin : (kept new : Kept) (past : Past) (stamp : ℕ) (op : Operator)
-    (inverse : List Operator) (represents : Represents kept past)
+pub sizes_begin : (kept new : Kept) (past : Past) (stamp : ℕ) (op : List Operator)
+    (inverse : List (List Operator)) (represents : Represents kept past)
     → length kept.versions ≡ length past.versions
     → command_fault past (a_command stamp (evolving op inverse)) ≡ None
     → (made : Version) (begun : List MadeTable) (places : List ℕ)
@@ -400,8 +406,8 @@ sizes_begin kept new past stamp op inverse represents number accepted made begun
     sizes_after_it kept past stamp op inverse represents number accepted made begun places ready new
     has
 
-pub stamps_begin : (kept new : Kept) (past : Past) (stamp : ℕ) (op : Operator)
-    (inverse : List Operator) (represents : Represents kept past)
+pub stamps_begin : (kept new : Kept) (past : Past) (stamp : ℕ) (op : List Operator)
+    (inverse : List (List Operator)) (represents : Represents kept past)
     → length kept.versions ≡ length past.versions
     → command_fault past (a_command stamp (evolving op inverse)) ≡ None
     → (made : Version) (begun : List MadeTable) (places : List ℕ)

@@ -3,10 +3,10 @@ use Rattle.std.specs.Prelude.{◌≡◌, ◌<◌, None}
 use Rattle.relations_spec.specs.Spans.{forever}
 use Rattle.smo_ops_types.specs.Changes.{changes_of}
 use Rattle.smo_ops_types.specs.Commands.{changing, evolving, PlainCommand}
-use Rattle.smo_ops_types.specs.Operators.{operator_of, operators_of}
+use Rattle.smo_ops_types.specs.Operators.{evolution_of, evolutions_of}
 use Rattle.smo_ops_types.specs.declared.version.Version.{Version}
 use Rattle.smo_ops_spec.specs.Accepts.{command_fault}
-use Rattle.smo_ops_spec.specs.After.{schema_after}
+use Rattle.smo_ops_spec.specs.Evolutions.{schema_after_each}
 use Rattle.smo_ops_spec.specs.ValidValues.{BodyHolds}
 use Rattle.smo_ops_spec.specs.Past.{Past, newest_tables}
 use Rattle.smo_ops.specs.TablePlaces.{StandAt}
@@ -19,12 +19,12 @@ use Rattle.version_groups.specs.declared.checked_command.CheckedCommand.TheVaria
 abbrev pub checked_command : CheckedCommand → PlainCommand
 checked_command (Changes stamp changes places) = a_command stamp (changing (changes_of changes.now))
 checked_command (Evolve version) = a_command version.stamp
-    (evolving (operator_of version.op) (operators_of version.inverse.items))
+    (evolving (evolution_of version.op) (evolutions_of version.inverse.items))
 
 -- the schema that was found is the one after the operator
 abbrev pub HasNext : Past → Version → Type 0
 HasNext past version = version.schema
-    ≡ schema_after (newest_tables past) (operator_of version.op)
+    ≡ schema_after_each (newest_tables past) (evolution_of version.op)
 
 -- what was found: of each change where its table stands in the newest schema, and of an operator
 -- the schema after it

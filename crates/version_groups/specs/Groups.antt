@@ -9,9 +9,9 @@ use Rattle.version_groups_tables.specs.Places.{at_places}
 use Rattle.version_groups_tables.specs.Stored.{stored_as}
 
 -- versions 1 to the newest; the stored tables, in the order in which they begin, each kept once
--- over all versions in which no operator makes or consumes it; of each version, those of version 0
--- first, the places of its tables among them; and how many versions more, and how many tables,
--- there is room for
+-- over all versions in which no member of an operator makes or consumes it; of each version, those
+-- of version 0 first, the places of its tables among them; and how many versions more, and how many
+-- tables, there is room for
 pub record Kept : Type 0 where
   pub versions : List Version
   pub stored : List MadeTable

@@ -7,10 +7,10 @@ use Rattle.history_store.specs.Store.{Store, relation_at}
 use Rattle.history_store.specs.Change.{PreparedChange}
 use Rattle.schema_catalog.specs.Tables.{Tables}
 use Rattle.smo_ops_types.specs.declared.version.Version.{Version}
-use Rattle.smo_ops_types.specs.Operators.{operator_of}
+use Rattle.smo_ops_types.specs.Operators.{evolution_of}
 use Rattle.smo_ops_types.specs.Commands.{PlainVersion}
 use Rattle.smo_ops_spec.specs.Past.{no_tables, newest_from}
-use Rattle.smo_ops_spec.specs.Touching.{consumes}
+use Rattle.smo_ops_spec.specs.Evolutions.{one_consumes}
 use Rattle.version_groups_tables.specs.declared.made_table.MadeTable.{MadeTable}
 use Rattle.version_groups_tables.specs.Stored.{stored_as, stored_names}
 use Rattle.version_groups_tables.specs.Becoming.{AreMadeBy}
@@ -66,7 +66,8 @@ pub record HasVersion (kept new : Kept) (made : Version) (begun : List MadeTable
   pub versions : new.versions ≡ kept.versions ++ made ∷ []
   pub newest : newest_places new ≡ places
   pub stored : (before : Tables) → new.stored
-      ≡ map (table_after (consumes before (operator_of made.op)) (length kept.versions)) kept.stored
+      ≡ map (table_after (one_consumes before (evolution_of made.op)) (length kept.versions))
+      kept.stored
       ++ begun
   pub tables : (k : ℕ) → (name : List ℕ) → k ≤ length kept.versions
       → table_in new k name ≡ table_in kept k name
@@ -79,9 +80,9 @@ pub record HasVersion (kept new : Kept) (made : Version) (begun : List MadeTable
 pub record ComeWith (kept : Kept) (made : Version) (begun : List MadeTable) (places : List ℕ) :
     Type 0 where
   pub lines : map line_of begun ≡ map (line_begun (length kept.versions + 1))
-      (made_tables (newest_from no_tables (versions_in kept)) (operator_of made.op) made.schema)
-  pub living : AreLiving (map (table_after (consumes (newest_from no_tables (versions_in kept))
-      (operator_of made.op)) (length kept.versions)) kept.stored ++ begun) places
+      (made_tables (newest_from no_tables (versions_in kept)) (evolution_of made.op) made.schema)
+  pub living : AreLiving (map (table_after (one_consumes (newest_from no_tables (versions_in kept))
+      (evolution_of made.op)) (length kept.versions)) kept.stored ++ begun) places
 
 -- what installing a step makes of the groups
 abbrev pub HasStep : Kept → Kept → Step → Type 0

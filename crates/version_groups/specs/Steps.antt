@@ -15,7 +15,7 @@ use Rattle.smo_ops_spec.specs.ValidValues.{BodyHolds}
 use Rattle.smo_ops_types.specs.Commands.{PlainBody, changing, evolving, PlainCommand, PlainVersion}
 use Rattle.smo_ops_types.specs.Commands.{version_of}
 use Rattle.smo_ops_spec.specs.Effects.{rows_under, gained, lost}
-use Rattle.smo_ops_spec.specs.Touching.{makes}
+use Rattle.smo_ops_spec.specs.Evolutions.{one_makes}
 use Rattle.smo_ops_spec.specs.Past.{Past, newest_tables, newest_database, next_version}
 use Rattle.smo_ops_spec.specs.Past.{next_database}
 use Rattle.version_groups_tables.specs.declared.made_table.MadeTable.{MadeTable}
@@ -64,8 +64,8 @@ pub record IsNextVersion (kept : Kept) (before : Tables) (due : PlainVersion) (n
   pub version : made ≡ due
   pub begin : BeginInOrder (BeginsWith (length kept.versions + 1) due.stamp
       (λ name. rows_under (get next name))) (filter
-      (λ (e : List ℕ × List Column). makes before due.op e.0) (entries due.tables)) begun
-  pub placed : ArePlaced kept.stored begun (newest_places kept) (makes before due.op) due.tables
+      (λ (e : List ℕ × List Column). one_makes before due.op e.0) (entries due.tables)) begun
+  pub placed : ArePlaced kept.stored begun (newest_places kept) (one_makes before due.op) due.tables
       places
   pub there : AreWithin places (length kept.stored + length begun)
   pub ordered : Ascends bytes_cmp (stored_names (at_places (kept.stored ++ begun) places))

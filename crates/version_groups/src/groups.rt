@@ -117,11 +117,12 @@ impl Groups {
     ghost use Rattle.relations_spec.specs.Spans.{forever};
     ghost use Rattle.prima_base.specs.Order.{bytes_cmp};
     ghost use Rattle.prima_base.specs.Limits.{max_versions};
-    ghost use Rattle.smo_ops_types.specs.Operators.{operator_of};
+    ghost use Rattle.smo_ops_types.specs.Operators.{evolution_of};
     ghost use Rattle.smo_ops_types.specs.Changes.{changes_of};
     ghost use Rattle.smo_ops_types.specs.Commands.{changing, PlainCommand, versions_of};
     ghost use Rattle.smo_ops_spec.specs.Accepts.{command_fault};
-    ghost use Rattle.smo_ops_spec.specs.After.{op_fault, schema_after, IsValid};
+    ghost use Rattle.smo_ops_spec.specs.Evolutions.{evolution_fault, schema_after_each};
+    ghost use Rattle.smo_ops_spec.specs.After.{IsValid};
     ghost use Rattle.smo_ops_spec.specs.ValidPast.{AreVersions};
     ghost use Rattle.smo_ops_spec.specs.ValidValues.{BodyHolds};
     ghost use Rattle.smo_ops_spec.specs.Past.{Past, beginning, no_tables, tables_from, newest_from};
@@ -499,13 +500,13 @@ impl Groups {
     ) -> Result<(), NoMemory>
         requires restored { AreRestored self.old }
         requires schema { IsValid (newest_from no_tables (versions_in self.old)) }
-        requires accepted { op_fault (newest_from no_tables (versions_in self.old))
-            (operator_of version.op) ≡ None }
-        requires tables { version.schema ≡ schema_after
-            (newest_from no_tables (versions_in self.old)) (operator_of version.op) }
+        requires accepted { evolution_fault (newest_from no_tables (versions_in self.old))
+            (evolution_of version.op) ≡ None }
+        requires tables { version.schema ≡ schema_after_each
+            (newest_from no_tables (versions_in self.old)) (evolution_of version.op) }
         requires fits { length self.old.versions + 1 < 2 ^ 32 }
         requires due { HaveColumns (into_iter_items stores.old)
-            (made_tables (newest_from no_tables (versions_in self.old)) (operator_of version.op)
+            (made_tables (newest_from no_tables (versions_in self.old)) (evolution_of version.op)
             version.schema) }
         ensures versions { OnOk result (self.new.versions ≡ self.old.versions ++ version ∷ []) }
         ensures restored { OnOk result (AreRestored self.new) }

@@ -1,4 +1,4 @@
--- Which lifelines live after an operator.
+-- Which lifelines live after the members of an operator.
 use Rattle.std.proofs.Common.{◌≡◌, ◌≤◌, ◌<◌, ◌-◌, ℕ, Bool, true, false, List, ◌++◌, map, length}
 use Rattle.std.proofs.Common.{get_or, refl, sym, ap, subst, ◌∙◌, arith, length-append, inl, inr}
 use Rattle.std.proofs.Common.{is_some}
@@ -10,10 +10,10 @@ use Rattle.prima_base.specs.Columns.{Column}
 use Rattle.schema_catalog.specs.Tables.{Tables}
 use Rattle.history_store.specs.Store.{Store}
 use Rattle.smo_ops_types.specs.Operators.{Operator}
-use Rattle.smo_ops_spec.specs.After.{op_fault, schema_after}
-use Rattle.smo_ops_spec.specs.Touching.{makes, consumes}
+use Rattle.smo_ops_spec.specs.Evolutions.{schema_after_each, AllOperatorsAccepted}
+use Rattle.smo_ops_spec.specs.Evolutions.{one_makes, one_consumes}
 use Rattle.smo_ops_spec.proofs.PastMoments.{before_or_not}
-use Rattle.smo_ops_spec.proofs.TouchedTables.{table_stays, table_gone, made_is_free}
+use Rattle.smo_ops_spec.proofs.MemberLaws.{each_table_stays, each_table_gone, each_made_is_free}
 use Rattle.version_groups_tables.specs.declared.made_table.MadeTable.{MadeTable}
 use Rattle.smo_ops_versions_spec.specs.Lifelines.{last_after}
 use Rattle.version_groups_tables.specs.Ending.{table_after, AreLiving}
@@ -37,26 +37,27 @@ entry_none Is (Some store) h = absurd h
 
 -- the tables that are stored, at the places of the version before, each of which is in its schema;
 -- and those that begin, at the places of the next version
-module _ (stored begun : List MadeTable) (own places : List ℕ) (before : Tables) (op : Operator)
-    (n : ℕ) (accepted : op_fault before op ≡ None) (living : AreLiving stored own)
+module _ (stored begun : List MadeTable) (own places : List ℕ) (before : Tables)
+    (op : List Operator)
+    (n : ℕ) (accepted : AllOperatorsAccepted before op) (living : AreLiving stored own)
     (known : (name : List ℕ) (s : Store) → stored_as name (at_places stored own) ≡ Some s
     → is_some (get before name) ≡ true)
     (fresh : (j : ℕ) (t : MadeTable) → j < length begun → (get_or begun j t).last ≡ None)
-    (placed : ArePlaced stored begun own (makes before op) (schema_after before op) places)
-    (gone : (name : List ℕ) → get (schema_after before op) name ≡ None
+    (placed : ArePlaced stored begun own (one_makes before op) (schema_after_each before op) places)
+    (gone : (name : List ℕ) → get (schema_after_each before op) name ≡ None
     → stored_as name (at_places (stored ++ begun) places) ≡ None) where
   abbrev ended : List MadeTable
-  ended = map (table_after (consumes before op) n) stored
+  ended = map (table_after (one_consumes before op) n) stored
 
   count : length ended ≡ length stored
-  count = length-map stored (table_after (consumes before op) n)
+  count = length-map stored (table_after (one_consumes before op) n)
 
   -- a table that stood before, and one that begins
   pub stood : (p : ℕ) (t : MadeTable) → p < length stored
-      → get_or (ended ++ begun) p t ≡ table_after (consumes before op) n (get_or stored p t)
+      → get_or (ended ++ begun) p t ≡ table_after (one_consumes before op) n (get_or stored p t)
   stood p t l =
       get_or_append_left ended begun t p (omega (arith, l, count))
-      ∙ get_or-map (table_after (consumes before op) n) stored p t t l
+      ∙ get_or-map (table_after (one_consumes before op) n) stored p t t l
 
   came : (p : ℕ) (t : MadeTable) → length stored ≤ p → p < length (ended ++ begun)
       → (get_or (ended ++ begun) p t).last ≡ None
@@ -67,8 +68,8 @@ module _ (stored begun : List MadeTable) (own places : List ℕ) (before : Table
 
   -- a table that goes on is in the next schema, and so it is not consumed
   goes_on : (p : ℕ) (t : MadeTable) → p < length stored → In p places
-      → consumes before op (get_or stored p t).name ≡ false
-  goes_on p t l i = step (consumes before op name) refl
+      → one_consumes before op (get_or stored p t).name ≡ false
+  goes_on p t l i = step (one_consumes before op name) refl
     where
       name : List ℕ
       name = (get_or stored p t).name
@@ -83,16 +84,16 @@ module _ (stored begun : List MadeTable) (own places : List ℕ) (before : Table
           (get_or_append_left stored begun t p l)
           (stored_named (stored ++ begun) p t places all i)
 
-      step : (b : Bool) → consumes before op name ≡ b → b ≡ false
+      step : (b : Bool) → one_consumes before op name ≡ b → b ≡ false
       step true e = absurd (let none = gone name
-          (table_gone before op name (placed.went_on p t l i).1 e) in let some = there.1 in cc)
+          (each_table_gone before op name (placed.went_on p t l i).1 e) in let some = there.1 in cc)
       step false e = refl
 
   -- a table of the newest version that is not consumed goes on
   stays_on : (p : ℕ) (t : MadeTable) → p < length stored → In p own
-      → consumes before op (get_or stored p t).name ≡ false → In p places
+      → one_consumes before op (get_or stored p t).name ≡ false → In p places
   stays_on p t l i unconsumed = placed.go_on p t l i
-      (ap is_some (table_stays before op name unmade unconsumed) ∙ is_there) unmade
+      (ap is_some (each_table_stays before op name unmade unconsumed) ∙ is_there) unmade
     where
       name : List ℕ
       name = (get_or stored p t).name
@@ -100,11 +101,11 @@ module _ (stored begun : List MadeTable) (own places : List ℕ) (before : Table
       is_there : is_some (get before name) ≡ true
       is_there = (let s = stored_named stored p t own l i in known name s.0 s.1)
 
-      unmade : makes before op name ≡ false
-      unmade = step (makes before op name) refl
+      unmade : one_makes before op name ≡ false
+      unmade = step (one_makes before op name) refl
         where
-          step : (b : Bool) → makes before op name ≡ b → b ≡ false
-          step true e = absurd (let c = made_is_free before op name accepted e is_there in cc)
+          step : (b : Bool) → one_makes before op name ≡ b → b ≡ false
+          step true e = absurd (let c = each_made_is_free before op name accepted e is_there in cc)
           step false e = refl
 
   -- a lifeline lives just where its table is one of the next version's
@@ -119,7 +120,7 @@ module _ (stored begun : List MadeTable) (own places : List ℕ) (before : Table
     ];
     among = λ p t l e. elim (before_or_not p (length stored)) [
       | inl m ↦
-          let ends = ends_not (consumes before op (get_or stored p t).name) n
+          let ends = ends_not (one_consumes before op (get_or stored p t).name) n
           (get_or stored p t).last (sym (ap (λ (x : MadeTable). x.last) (stood p t m)) ∙ e) in
           stays_on p t m (living.among p t m ends.0) ends.1
       | inr m ↦ placed.begin p m (let long = length-append ended begun in

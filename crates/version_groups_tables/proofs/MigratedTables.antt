@@ -17,7 +17,9 @@ use Rattle.smo_ops_spec.specs.Effects.{rows_under}
 use Rattle.smo_ops_spec.specs.OneRow.{Relation, same}
 use Rattle.smo_ops_spec.specs.Preconditions.{among}
 use Rattle.smo_ops_spec.specs.Touching.{makes, consumes, these_names}
+use Rattle.smo_ops_spec.specs.Evolutions.{one_makes}
 use Rattle.smo_ops_spec.proofs.NameLaws.{same_turned}
+use Rattle.smo_ops_spec.proofs.OneMembers.{one_makes_of_one}
 use Rattle.smo_ops_spec.proofs.TouchedTables.{table_stays, entry_stays, table_gone}
 use Rattle.smo_ops_spec.proofs.MigratedDatabases.{migrated_database}
 use Rattle.smo_maps.specs.Carrying.{Has}
@@ -181,31 +183,33 @@ module _ (before : Tables) (op : Operator) (database : Database) (stamp : ℕ) (
       others_after = subst (λ (t : Tables). OthersStay t it stamp made) (sym is) others_next
 
       -- which are made
-      pub made_is : (name : List ℕ) → is_made it name ≡ makes before op name
+      pub made_is : (name : List ℕ) → is_made it name ≡ one_makes before (op ∷ []) name
       made_is name =
           sym (among_these it.first it.second name (second ∙ ap (λ ns. slice_get ns 1) names))
-          ∙ sym (ap (among name) names)
+          ∙ sym (ap (among name) names) ∙ sym (one_makes_of_one before op name)
 
-      -- so what begins and goes on by names and rows that were made is what the operator makes and
-      -- carries
+      -- so what begins and goes on by names and rows that were made is what the operator, which
+      -- has this one member, makes and carries
       pub next_evolved : (places : List ℕ) (version : ℕ) (own : List MadeTable)
           (begun : List MadeTable) (next_places : List ℕ)
           → AreNext own places version stamp (is_made it) (next_rows it stamp made) after begun
-          next_places → AreNext own places version stamp (makes before op)
+          next_places → AreNext own places version stamp (one_makes before (op ∷ []))
           (λ name. rows_under (get next name)) after begun next_places
       next_evolved places version own begun next_places h = record {
         begin = begin_alike version stamp (λ name. rows_under (get next name))
-            (next_rows it stamp made) (filter (λ (e : List ℕ × List Column). makes before op e.0)
+            (next_rows it stamp made) (filter (λ (e : List ℕ × List Column).
+            one_makes before (op ∷ []) e.0)
             (entries after)) begun
             (λ e i. next_is e.0 e.1 (ap (λ (t : Tables). get t e.0) (sym is)
-            ∙ listed_in after e (from_filter (λ (x : List ℕ × List Column). makes before op x.0)
-            e (entries after) i).0))
+            ∙ listed_in after e (from_filter (λ (x : List ℕ × List Column).
+            one_makes before (op ∷ []) x.0) e (entries after) i).0))
             (subst (λ (es : List (List ℕ × List Column)).
             BeginInOrder (BeginsWith version stamp (next_rows it stamp made)) es begun)
             (filter_alike (λ (x : List ℕ × List Column). is_made it x.0)
-            (λ (x : List ℕ × List Column). makes before op x.0) (entries after)
+            (λ (x : List ℕ × List Column). one_makes before (op ∷ []) x.0) (entries after)
             (λ x. made_is x.0)) h.begin);
-        placed = placed_alike own begun places (is_made it) (makes before op) after next_places
+        placed = placed_alike own begun places (is_made it) (one_makes before (op ∷ [])) after
+            next_places
             made_is h.placed;
         there = h.there;
         ordered = h.ordered;

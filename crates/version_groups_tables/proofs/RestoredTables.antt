@@ -1,5 +1,5 @@
 -- The tables of a version that is restored.
-use Rattle.std.proofs.Common.{◌≡◌, ◌+◌, ℕ, Bool, List, ◌∷◌, drop, sym, ap, subst}
+use Rattle.std.proofs.Common.{◌≡◌, ◌+◌, ℕ, Bool, List, [], ◌∷◌, drop, sym, ap, subst, ◌∙◌}
 use Rattle.std.specs.Prelude.{Some, slice_get}
 use Rattle.std.specs.List.{filter}
 use Rattle.std.specs.Option.{option_copied}
@@ -11,7 +11,9 @@ use Rattle.history_store.specs.Store.{Store}
 use Rattle.smo_ops_types.specs.Operators.{Operator}
 use Rattle.smo_ops_spec.specs.OperatorTable.{line, made_names}
 use Rattle.smo_ops_spec.specs.Preconditions.{among}
-use Rattle.smo_ops_spec.specs.Touching.{makes, these_names}
+use Rattle.smo_ops_spec.specs.Touching.{these_names}
+use Rattle.smo_ops_spec.specs.Evolutions.{one_makes}
+use Rattle.smo_ops_spec.proofs.OneMembers.{one_makes_of_one}
 use Rattle.smo_ops_spec.proofs.Firsts.{drop_at}
 use Rattle.smo_ops_operators.specs.declared.name.Made.{Made}
 use Rattle.version_groups_tables.specs.declared.made_table.MadeTable.{MadeTable}
@@ -52,12 +54,13 @@ due_now made stores listed i e s h =
     (drop_at listed i e (slice_get_within listed i e s)
     (sym (get_or_from_slice_get listed i e e s))) h
 
--- the names of the tables that an operator makes
+-- the names of the tables that an operator of one member makes
 pub one_of_made : (names : Made) (before : Tables) (op : Operator)
     → made_names (line before op).made ≡ these_names (option_copied names.first)
     (option_copied names.second)
-    → (name : List ℕ) → is_one_of names name ≡ makes before op name
-one_of_made names before op all name = sym (ap (among name) all)
+    → (name : List ℕ) → is_one_of names name ≡ one_makes before (op ∷ []) name
+one_of_made names before op all name =
+    sym (one_makes_of_one before op name ∙ ap (among name) all)
 
 -- by what agrees on which are made
 pub come_alike : (stored : List MadeTable) (before : List ℕ) (made other : List ℕ → Bool)

@@ -9,11 +9,10 @@ use Rattle.prima_base.specs.Order.{bytes_cmp}
 use Rattle.schema_catalog.specs.Tables.{Tables}
 use Rattle.schema_catalog.specs.Databases.{Database}
 use Rattle.history_store.specs.Store.{Store, AllBefore}
-use Rattle.smo_ops_spec.specs.After.{schema_after, migrate}
+use Rattle.smo_ops_spec.specs.Evolutions.{schema_after_each, carried_each, one_makes}
 use Rattle.smo_ops_types.specs.Commands.{PlainVersion}
 use Rattle.smo_ops_spec.specs.Effects.{rows_under}
 use Rattle.smo_ops_spec.specs.OneRow.{Relation}
-use Rattle.smo_ops_spec.specs.Touching.{makes}
 use Rattle.smo_ops_types.specs.Operators.{Operator}
 use Rattle.version_groups_tables.specs.declared.made_table.MadeTable.{MadeTable}
 use Rattle.version_groups_tables.specs.Stored.{stored_as, stored_names, HasEntry}
@@ -50,19 +49,20 @@ abbrev pub BeginsEntry : ℕ → Relation → Option (List Column) → Option St
 BeginsEntry stamp rows = HasEntry (λ columns store. Begins columns stamp rows store)
 
 -- the version of this number, and its tables: each has from the stamp on what is carried over the
--- operator
+-- members of the operator
 pub record IsEvolved (stored : List MadeTable) (own : List ℕ) (number : ℕ) (before : Tables)
-    (database : Database) (stamp : ℕ) (op : Operator) (inverse : List Operator)
+    (database : Database) (stamp : ℕ) (op : List Operator) (inverse : List (List Operator))
     (made : PlainVersion) (begun : List MadeTable) (places : List ℕ) : Type 0 where
   pub version : made ≡ record {
     stamp = stamp;
     op = op;
     inverse = inverse;
     tables =
-        schema_after before op;
+        schema_after_each before op;
   }
-  pub tables : AreNext stored own number stamp (makes before op)
-      (λ name. rows_under (get (migrate before op database) name)) (schema_after before op) begun
+  pub tables : AreNext stored own number stamp (one_makes before op)
+      (λ name. rows_under (get (carried_each before op database) name))
+      (schema_after_each before op) begun
       places
 
 -- a table of the next version at its place: it is there already, or the last that begins; and what

@@ -5,8 +5,8 @@ ghost use Rattle.std.specs.Option.{option_copied};
 ghost use Rattle.relations_spec.specs.Sets.{Ascends};
 ghost use Rattle.prima_base.specs.Order.{bytes_cmp};
 ghost use Rattle.schema_catalog.specs.Tables.{Tables};
-ghost use Rattle.smo_ops_types.specs.Operators.{operator_of};
-ghost use Rattle.smo_ops_spec.specs.Touching.{consumes};
+ghost use Rattle.smo_ops_types.specs.Operators.{evolution_of};
+ghost use Rattle.smo_ops_spec.specs.Evolutions.{one_consumes};
 ghost use Rattle.version_groups_tables.specs.Stored.{stored_names};
 ghost use Rattle.version_groups_tables.specs.Ending.{table_after, AreLiving, AreEnding};
 ghost use Rattle.version_groups_tables.specs.Places.{at_places, AreWithin};
@@ -41,7 +41,7 @@ pub fn end_consumed(tables: &mut [MadeTable], places: &[usize], op: &Op, last: u
     requires ordered { Ascends bytes_cmp (stored_names (at_places tables.old places.now)) }
     requires living { AreLiving tables.old places.now }
     ensures { (before : Tables) → tables.new ≡ map
-        (table_after (consumes before (operator_of op.now)) last) tables.old }
+        (table_after (one_consumes before (evolution_of op.now)) last) tables.old }
 {
     let names = consumed(op);
     end_named(tables, places, names.first, last);

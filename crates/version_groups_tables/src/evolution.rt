@@ -10,8 +10,9 @@ ghost use Rattle.prima_base.specs.Order.{bytes_cmp};
 ghost use Rattle.prima_base.specs.Columns.{AreColumns, IsRelation};
 ghost use Rattle.schema_catalog.specs.Databases.{Database, IsDatabase};
 ghost use Rattle.history_store.specs.Store.{AllBefore};
-ghost use Rattle.smo_ops_types.specs.Operators.{operator_of, operators_of};
-ghost use Rattle.smo_ops_spec.specs.After.{op_fault, schema_after, migrate, IsValid};
+ghost use Rattle.smo_ops_types.specs.Operators.{operator_of, evolution_of, evolutions_of};
+ghost use Rattle.smo_ops_spec.specs.After.{op_fault, migrate, IsValid};
+ghost use Rattle.smo_ops_spec.specs.Evolutions.{schema_after_each, evolution_fault};
 ghost use Rattle.smo_ops_spec.specs.Effects.{rows_under};
 ghost use Rattle.smo_ops_types.specs.Commands.{version_of};
 ghost use Rattle.smo_ops_spec.specs.OperatorTable.{line, made_names};
@@ -264,8 +265,9 @@ pub fn begin_version(
     version: &Version,
 ) -> Result<NextTables, NoMemory>
     requires schema { IsValid before.now }
-    requires accepted { op_fault before.now (operator_of version.now.op) ≡ None }
-    requires next { version.now.schema ≡ schema_after before.now (operator_of version.now.op) }
+    requires accepted { evolution_fault before.now (evolution_of version.now.op) ≡ None }
+    requires next { version.now.schema
+        ≡ schema_after_each before.now (evolution_of version.now.op) }
     requires there { AreWithin places.now (length tables.now) }
     requires ordered { Ascends bytes_cmp (stored_names (at_places tables.now places.now)) }
     requires valid { version.now.stamp < forever }
@@ -274,7 +276,7 @@ pub fn begin_version(
     ensures { (database : Database) → IsDatabase before.now database
         → AreStored before.now database version.now.stamp (at_places tables.now places.now)
         → IfOk result (λ t. IsEvolved tables.now places.now number before.now database
-        version.now.stamp (operator_of version.now.op) (operators_of version.now.inverse.items)
+        version.now.stamp (evolution_of version.now.op) (evolutions_of version.now.inverse.items)
         (version_of version.now) t.begun.items t.places.items) }
 {
     next_schema_is_valid();

@@ -1,11 +1,12 @@
-use Rattle.std.proofs.Common.{◌≡◌, ◌∙◌, ℕ, List, map, sym, ap, subst}
+use Rattle.std.proofs.Common.{◌≡◌, ◌∙◌, ℕ, List, [], ◌∷◌, map, sym, ap, subst}
 use Rattle.std.specs.Prelude.{slice_get, ◌||◌}
 use Rattle.std.specs.Option.{option_copied}
 use Rattle.relations_spec.specs.Sets.{Ascends}
 use Rattle.prima_base.specs.Order.{bytes_cmp}
 use Rattle.smo_ops_types.specs.Operators.{operator_of}
 use Rattle.smo_ops_spec.specs.Preconditions.{among}
-use Rattle.smo_ops_spec.specs.Touching.{consumes}
+use Rattle.smo_ops_spec.specs.Evolutions.{one_consumes}
+use Rattle.smo_ops_spec.proofs.OneMembers.{one_consumes_of_one}
 use Rattle.version_groups_tables.specs.declared.made_table.MadeTable.{MadeTable}
 use Rattle.version_groups_tables.specs.Ending.{AreEnding, table_after}
 use Rattle.version_groups_tables.specs.Places.{at_places}
@@ -42,10 +43,11 @@ returns c = λ before.
     let names = c.consumed-names.result in
     let first = is_name (option_copied names.first) in
     let second = is_name (option_copied names.second) in
-    let either : (name : List ℕ) → consumes before op name ≡ (first name || second name) = λ name.
-    ap (among name) (c.consumed-names.ensures.names before)
+    let either : (name : List ℕ) → one_consumes before (op ∷ []) name ≡ (first name || second name)
+    = λ name. one_consumes_of_one before op name ∙ ap (among name)
+    (c.consumed-names.ensures.names before)
     ∙ among_these (option_copied names.first) (option_copied names.second) name
     (c.consumed-names.ensures.second before
     ∙ ap (λ ns. slice_get ns 1) (c.consumed-names.ensures.names before)) in
     c.end_named-2.ensures ∙ ap (map (table_after second c.args.last)) c.end_named.ensures
-    ∙ both_end first second (consumes before op) c.args.last either c.args.tables.now
+    ∙ both_end first second (one_consumes before (op ∷ [])) c.args.last either c.args.tables.now

@@ -3,7 +3,7 @@ use Rattle.std.specs.Prelude.{List, ◌^◌, ℕ}
 use Rattle.std.specs.Global.{Vec}
 use Rattle.relations_spec.specs.Sets.{Ascends}
 use Rattle.prima_base.specs.Order.{bytes_cmp}
-use Rattle.smo_ops_types.specs.Operators.{operator_of}
+use Rattle.smo_ops_types.specs.Operators.{evolution_of}
 use Rattle.version_groups_tables.specs.declared.made_table.MadeTable.{MadeTable}
 use Rattle.version_groups_tables.specs.Stored.{stored_names}
 use Rattle.version_groups_tables.specs.Places.{at_places, AreWithin}
@@ -54,7 +54,8 @@ invariant_of-self c =
       newest = c.replace-before.new.dest;
     } in
     let n = c.len-last.ensures in
-    let stored = put_with a (operator_of c.args.version.op) c.len-last.result c.deref_mut.result.now
+    let stored = put_with a (evolution_of c.args.version.op) c.len-last.result
+    c.deref_mut.result.now
     c.end_consumed.new.tables c.args.begun.items c.put_after.new.list.items (omega (arith, n))
     c.deref_mut.ensures.value c.end_consumed.ensures c.put_after.ensures in
     let kept : a.stored.items ≡ c.args.self.now.stored =
@@ -102,7 +103,8 @@ returns c =
       newest = c.replace-before.new.dest;
     } in
     let n = c.len-last.ensures in
-    let stored = put_with a (operator_of c.args.version.op) c.len-last.result c.deref_mut.result.now
+    let stored = put_with a (evolution_of c.args.version.op) c.len-last.result
+    c.deref_mut.result.now
     c.end_consumed.new.tables c.args.begun.items c.put_after.new.list.items (omega (arith, n))
     c.deref_mut.ensures.value c.end_consumed.ensures c.put_after.ensures in
     let kept : a.stored.items ≡ c.args.self.now.stored =

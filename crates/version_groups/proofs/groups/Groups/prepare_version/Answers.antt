@@ -3,9 +3,10 @@ use Rattle.relations_spec.specs.Sets.{Ascends}
 use Rattle.prima_base.specs.Order.{bytes_cmp}
 use Rattle.schema_catalog.specs.Tables.{Tables}
 use Rattle.schema_catalog.specs.Databases.{IsDatabase}
-use Rattle.smo_ops_spec.specs.After.{op_fault, schema_after, IsValid}
+use Rattle.smo_ops_spec.specs.Evolutions.{evolution_fault, schema_after_each}
+use Rattle.smo_ops_spec.specs.After.{IsValid}
 use Rattle.smo_ops_types.specs.Commands.{version_of}
-use Rattle.smo_ops_types.specs.Operators.{operator_of, operators_of}
+use Rattle.smo_ops_types.specs.Operators.{evolution_of, evolutions_of}
 use Rattle.smo_ops_spec.specs.Past.{newest_tables, newest_database}
 use Rattle.version_groups_tables.specs.Stored.{stored_names}
 use Rattle.version_groups_tables.specs.Evolving.{IsEvolved}
@@ -22,8 +23,8 @@ pub overflow_add-number : goal.overflow_add-number
 overflow_add-number c =
     let v = c.args.version in
     let h = c.requires in
-    let few = few_versions c.args.self.now h.0 v.stamp (operator_of v.op)
-    (operators_of v.inverse.items) h.1 h.2.stamp h.2.accepted in
+    let few = few_versions c.args.self.now h.0 v.stamp (evolution_of v.op)
+    (evolutions_of v.inverse.items) h.1 h.2.stamp h.2.accepted in
     let n = as_many c.args.self.now h.0 h.1 in
     let is = c.newest-number.ensures in
     omega (arith, few, n, is)
@@ -46,8 +47,8 @@ begin_version-requires-clause-accepted c =
     let schema = c.newest_schema-schema.ensures
     ∙ schema_is c.args.self.now h.0 h.1 a.nothing a.versions.list.items c.self.invariant.nothing
     (ap (λ (k : Kept). k.versions) c.self.view_is) in
-    subst (λ (t : Tables). op_fault t (operator_of v.op) ≡ None) (sym schema)
-    (op_accepted c.args.self.now h.0 v.stamp (operator_of v.op) (operators_of v.inverse.items) h.1
+    subst (λ (t : Tables). evolution_fault t (evolution_of v.op) ≡ None) (sym schema)
+    (op_accepted c.args.self.now h.0 v.stamp (evolution_of v.op) (evolutions_of v.inverse.items) h.1
     h.2.stamp h.2.accepted)
 
 pub begin_version-requires-clause-next : goal.begin_version-requires-clause-next
@@ -58,7 +59,7 @@ begin_version-requires-clause-next c =
     let schema = c.newest_schema-schema.ensures
     ∙ schema_is c.args.self.now h.0 h.1 a.nothing a.versions.list.items c.self.invariant.nothing
     (ap (λ (k : Kept). k.versions) c.self.view_is) in
-    h.2.found ∙ ap (λ (t : Tables). schema_after t (operator_of v.op)) (sym schema)
+    h.2.found ∙ ap (λ (t : Tables). schema_after_each t (evolution_of v.op)) (sym schema)
 
 pub begin_version-requires-clause-valid : goal.begin_version-requires-clause-valid
 begin_version-requires-clause-valid c = c.requires.2.stamp
@@ -95,7 +96,8 @@ begin_version-requires-clause-stored c =
       subst (λ (t : Tables). AreStored t (newest_database h.0) v.stamp
           (at_places c.deref.result.now c.deref-2.result.now)) (sym schema)
           (subst (AreStored (newest_tables h.0) (newest_database h.0) v.stamp) group
-          (stored_now c.args.self.now h.0 v.stamp (operator_of v.op) (operators_of v.inverse.items)
+          (stored_now c.args.self.now h.0 v.stamp (evolution_of v.op)
+          (evolutions_of v.inverse.items)
           h.1 h.2.stamp h.2.accepted)),
     )
 
@@ -107,8 +109,8 @@ returns-clause-prepared c = λ past represents checked.
     let a = c.self.inside in
     let version = c.args.version in
     let stamp = version.stamp in
-    let op = operator_of version.op in
-    let inverse = operators_of version.inverse.items in
+    let op = evolution_of version.op in
+    let inverse = evolutions_of version.inverse.items in
     let schema = c.newest_schema-schema.ensures
     ∙ schema_is c.args.self.now past represents a.nothing a.versions.list.items
     c.self.invariant.nothing (ap (λ (k : Kept). k.versions) c.self.view_is) in

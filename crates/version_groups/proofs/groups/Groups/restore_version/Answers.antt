@@ -4,11 +4,11 @@ use Rattle.std.specs.FinMap.{entries}
 use Rattle.std.specs.Vec.Iter.{into_iter_items}
 use Rattle.prima_base.specs.Columns.{Column}
 use Rattle.history_store.specs.Store.{Store}
-use Rattle.smo_ops_types.specs.Operators.{operator_of}
+use Rattle.smo_ops_types.specs.Operators.{operator_of, evolution_of}
 use Rattle.smo_ops_spec.specs.After.{IsValid}
 use Rattle.smo_ops_spec.specs.Past.{no_tables, newest_from}
-use Rattle.smo_ops_spec.specs.Touching.{makes}
-use Rattle.smo_ops_spec.proofs.NextSchemas.{next_is_valid}
+use Rattle.smo_ops_spec.specs.Evolutions.{one_makes}
+use Rattle.smo_ops_spec.proofs.MemberLaws.{all_accepted, each_is_valid}
 use Rattle.version_groups_tables.specs.declared.made_table.MadeTable.{MadeTable}
 use Rattle.version_groups_tables.specs.Evolving.{ComeNext}
 use Rattle.version_groups_tables.specs.Stored.{stored_as}
@@ -26,25 +26,27 @@ use Rattle.version_groups.proofs.groups.Groups.restore_version.Goals as goal
 
 pub restored_tables-requires-clause-schema : goal.restored_tables-requires-clause-schema
 restored_tables-requires-clause-schema c =
-    subst IsValid (sym c.requires.tables) (next_is_valid
-    (newest_from no_tables (versions_in c.args.self.now)) (operator_of c.args.version.op)
-    c.requires.schema c.requires.accepted)
+    let before = newest_from no_tables (versions_in c.args.self.now) in
+    let op = evolution_of c.args.version.op in
+    subst IsValid (sym c.requires.tables)
+    (each_is_valid before op c.requires.schema (all_accepted before op c.requires.accepted))
 
 pub restored_tables-requires-clause-due : goal.restored_tables-requires-clause-due
 restored_tables-requires-clause-due c =
     let before = newest_from no_tables (versions_in c.args.self.now) in
-    let op = operator_of c.args.version.op in
+    let op = evolution_of c.args.version.op in
     subst (HaveColumns (into_iter_items c.args.stores.now))
-    (filter_alike (λ (e : List ℕ × List Column). makes before op e.0)
+    (filter_alike (λ (e : List ℕ × List Column). one_makes before op e.0)
     (λ (e : List ℕ × List Column). is_one_of c.made.result e.0) (entries c.args.version.schema)
-    (λ e. sym (one_of_made c.made.result before op (c.made.ensures.names before) e.0)))
+    (λ e. sym (one_of_made c.made.result before (operator_of c.args.version.op)
+    (c.made.ensures.names before) e.0)))
     c.requires.due
 
 pub restored_tables-requires-clause-others : goal.restored_tables-requires-clause-others
 restored_tables-requires-clause-others c =
     let a = c.self.inside in
     let before = newest_from no_tables (versions_in c.args.self.now) in
-    let op = operator_of c.args.version.op in
+    let op = evolution_of c.args.version.op in
     let group : newest_group c.args.self.now ≡ at_places c.deref.result.now c.deref-2.result.now =
     ap newest_group (sym c.self.view_is) ∙ newest_is a c.self.invariant
     ∙ ap (λ ts. at_places ts a.newest.items) (sym c.deref.ensures.value)
@@ -53,7 +55,8 @@ restored_tables-requires-clause-others c =
     (λ name. stored_as name ts)) group
     (others_stored c.args.self.now c.requires.restored op c.args.version.schema c.requires.tables
     (is_one_of c.made.result)
-    (one_of_made c.made.result before op (c.made.ensures.names before)))
+    (one_of_made c.made.result before (operator_of c.args.version.op)
+    (c.made.ensures.names before)))
 
 pub install_version-requires-clause-come : goal.install_version-requires-clause-come
 install_version-requires-clause-come c =
@@ -63,7 +66,7 @@ install_version-requires-clause-come c =
     let places = c.in_ok-tables.tables.places.items in
     let a = c.self.inside in
     let before = newest_from no_tables (versions_in old) in
-    let op = operator_of c.args.version.op in
+    let op = evolution_of c.args.version.op in
     let kept : c.deref.result.now ≡ old.stored = c.deref.ensures.value
     ∙ ap (λ (k : Kept). k.stored) c.self.view_is in
     let own : c.deref-2.result.now ≡ newest_places old = c.deref-2.ensures.value
@@ -71,21 +74,23 @@ install_version-requires-clause-come c =
     let number : c.newest-number.result + 1 ≡ length old.versions + 1 =
     ap (λ n. n + 1) c.newest-number.ensures in
     let made = come_alike c.deref.result.now c.deref-2.result.now (is_one_of c.made.result)
-    (makes before op) (BeginsOver (c.newest-number.result + 1)) HasColumns c.args.version.schema
+    (one_makes before op) (BeginsOver (c.newest-number.result + 1)) HasColumns c.args.version.schema
     begun places
-    (one_of_made c.made.result before op (c.made.ensures.names before))
+    (one_of_made c.made.result before (operator_of c.args.version.op)
+    (c.made.ensures.names before))
     c.in_ok-tables.ensures.next in
-    let next : ComeNext old.stored (newest_places old) (makes before op)
+    let next : ComeNext old.stored (newest_places old) (one_makes before op)
     (BeginsOver (length old.versions + 1)) HasColumns c.args.version.schema begun places =
-    subst (λ ts. ComeNext ts (newest_places old) (makes before op)
+    subst (λ ts. ComeNext ts (newest_places old) (one_makes before op)
     (BeginsOver (length old.versions + 1)) HasColumns c.args.version.schema begun places) kept
-    (subst (λ ps. ComeNext c.deref.result.now ps (makes before op)
+    (subst (λ ps. ComeNext c.deref.result.now ps (one_makes before op)
     (BeginsOver (length old.versions + 1)) HasColumns c.args.version.schema begun places) own
-    (subst (λ n. ComeNext c.deref.result.now c.deref-2.result.now (makes before op) (BeginsOver n)
+    (subst (λ n. ComeNext c.deref.result.now c.deref-2.result.now (one_makes before op)
+    (BeginsOver n)
     HasColumns c.args.version.schema begun places) number made)) in
     come_again old mid c.args.version begun places (sym c.reserve_version.ensures.same.versions)
     (sym c.reserve_version.ensures.stored)
-    (comes_over old c.requires.restored (operator_of c.args.version.op) c.args.version begun places
+    (comes_over old c.requires.restored (evolution_of c.args.version.op) c.args.version begun places
     refl c.requires.accepted c.requires.tables next)
 
 pub returns-clause-restored : goal.returns-clause-restored
@@ -100,7 +105,7 @@ returns-clause-restored c =
     c.reserve_version.ensures.stored c.reserve_version.ensures.same.places
     c.install_version.ensures in
     let before = newest_from no_tables (versions_in old) in
-    let op = operator_of c.args.version.op in
+    let op = evolution_of c.args.version.op in
     let kept : c.deref.result.now ≡ old.stored = c.deref.ensures.value
     ∙ ap (λ (k : Kept). k.stored) c.self.view_is in
     let own : c.deref-2.result.now ≡ newest_places old = c.deref-2.ensures.value
@@ -108,17 +113,19 @@ returns-clause-restored c =
     let number : c.newest-number.result + 1 ≡ length old.versions + 1 =
     ap (λ n. n + 1) c.newest-number.ensures in
     let made = come_alike c.deref.result.now c.deref-2.result.now (is_one_of c.made.result)
-    (makes before op) (BeginsOver (c.newest-number.result + 1)) HasColumns c.args.version.schema
+    (one_makes before op) (BeginsOver (c.newest-number.result + 1)) HasColumns c.args.version.schema
     begun places
-    (one_of_made c.made.result before op (c.made.ensures.names before))
+    (one_of_made c.made.result before (operator_of c.args.version.op)
+    (c.made.ensures.names before))
     c.in_ok-tables.ensures.next in
-    let next : ComeNext old.stored (newest_places old) (makes before op)
+    let next : ComeNext old.stored (newest_places old) (one_makes before op)
     (BeginsOver (length old.versions + 1)) HasColumns c.args.version.schema begun places =
-    subst (λ ts. ComeNext ts (newest_places old) (makes before op)
+    subst (λ ts. ComeNext ts (newest_places old) (one_makes before op)
     (BeginsOver (length old.versions + 1)) HasColumns c.args.version.schema begun places) kept
-    (subst (λ ps. ComeNext c.deref.result.now ps (makes before op)
+    (subst (λ ps. ComeNext c.deref.result.now ps (one_makes before op)
     (BeginsOver (length old.versions + 1)) HasColumns c.args.version.schema begun places) own
-    (subst (λ n. ComeNext c.deref.result.now c.deref-2.result.now (makes before op) (BeginsOver n)
+    (subst (λ n. ComeNext c.deref.result.now c.deref-2.result.now (one_makes before op)
+    (BeginsOver n)
     HasColumns c.args.version.schema begun places) number made)) in
     restored_with old c.install_version.new.self c.requires.restored c.args.version begun places has
     next
