@@ -1,5 +1,6 @@
 -- Back over one operator by its derived inverse.
-use Rattle.std.proofs.Common.{◌≡◌, ℕ, List, ◌∷◌, refl, sym, ap, subst, ◌∙◌}
+use Rattle.std.proofs.Common.{◌≡◌, ◌≤◌, ℕ, List, [], ◌∷◌, length, refl, sym, ap, subst, ◌∙◌}
+use Rattle.std.proofs.Common.{arith}
 use Rattle.std.specs.Prelude.{Option, Some, None}
 use Rattle.std.proofs.lemmas.Option.{same_Some}
 use Rattle.schema_catalog.specs.Tables.{Tables}
@@ -56,11 +57,12 @@ module _ (before : Tables) (op : Operator) where
   some_inverse i e = no_inverse (way_back_over before op) i e
 
 -- over the operators of an inverse, each of them one member
-pub back_named : (k : ℕ) (before : Tables) (op : List Operator) (after : Tables) (x : Op)
-    (ops : List Op) (l : Losses)
-    → taken losses_stepped (carrying_each after (operators_of (x ∷ ops))) l
-    ≡ taken losses_stepped (back_over k before op after (evolutions_of (x ∷ ops))) l
-back_named k before op after x ops l =
+pub back_named : (k : ℕ) (before : Tables) (op : List Operator) (after : Tables) (ops : List Op)
+    (l : Losses) → 1 ≤ length ops
+    → taken losses_stepped (carrying_each after (operators_of ops)) l
+    ≡ taken losses_stepped (back_over k before op after (evolutions_of ops)) l
+back_named k before op after [] l h = absurd (omega (arith, h))
+back_named k before op after (x ∷ ops) l h =
     ap (λ (members : List Operator). taken losses_stepped (carrying_each after members) l)
     (sym (members_of_ones (operators_of (x ∷ ops))))
 

@@ -103,7 +103,6 @@ fn lose_over_each(
 }
 
 /// Back over the operator of version `k`, by its inverse or with none named.
-#[tactic(auto, using(crate::proofs::OneBack::back_named))]
 pub(crate) fn lose_back(
     alloc: Global,
     k: u32,

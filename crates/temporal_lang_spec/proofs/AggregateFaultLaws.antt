@@ -1,5 +1,5 @@
 -- Which of the tests of an aggregate decides.
-use Rattle.std.specs.Prelude.{◌≡◌, ℕ, List, [], ◌∷◌, ◌++◌, None, Some}
+use Rattle.std.specs.Prelude.{◌≡◌, ℕ, List, [], ◌∷◌, None, Some}
 use Rattle.std.proofs.Common.{sym, ◌∙◌}
 use Rattle.prima_base.specs.declared.refusal.Refusal.{Refusal}
 use Rattle.smo_ops_spec.specs.First.{first_refusal}

@@ -1,8 +1,8 @@
 -- An item of a query that is lost on the way from a version is lost on the way from each later one;
 -- and where no item is lost, no item's table is.
-use Rattle.std.proofs.Common.{◌≡◌, ◌+◌, ◌<◌, ◌≤◌, ℕ, List, [], ◌∷◌, refl, ap, subst}
+use Rattle.std.proofs.Common.{◌≡◌, ◌+◌, ◌≤◌, ℕ, List, [], ◌∷◌, refl, ap, subst}
 use Rattle.std.proofs.Common.{◌∙◌, inl, inr, sym}
-use Rattle.std.specs.Prelude.{Option, Some, None}
+use Rattle.std.specs.Prelude.{None}
 use Rattle.std.specs.List.{filter, flat_map}
 use Rattle.relations_spec.specs.Sets.{In}
 use Rattle.cond_expr.specs.References.{is_to, written_names}

@@ -1,7 +1,7 @@
 -- Which of the tests of two paired queries decides.
-use Rattle.std.specs.Prelude.{◌≡◌, ℕ, ◌+◌, List, [], ◌∷◌, ◌++◌, map, min, Option, None, Some}
+use Rattle.std.specs.Prelude.{◌≡◌, ℕ, ◌+◌, List, [], ◌∷◌, map, min, None, Some}
 use Rattle.std.specs.Option.{option_map}
-use Rattle.std.proofs.Common.{refl, ap, ◌∙◌, arith}
+use Rattle.std.proofs.Common.{refl, ◌∙◌, arith}
 use Rattle.prima_base.specs.declared.refusal.Refusal.{Refusal}
 use Rattle.smo_ops_spec.specs.First.{first_refusal}
 use Rattle.smo_ops_spec.specs.Checks.{Fault}

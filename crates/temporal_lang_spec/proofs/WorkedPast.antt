@@ -493,7 +493,14 @@ one_is : IsValid (int 1)
 one_is = small_number 1 (omega arith)
 
 holds : PastHolds past_9
-holds = subst PastHolds past_is (history_holds beginning commands beginning_is_past is_history
-    (((tt, tt), tt), (((one_is, (x_is, tt)), tt), (((y_is, tt), tt),
-    (((tt, tt), ((tt, tt), tt)), tt))))
+holds = subst PastHolds past_is (history_holds beginning commands beginning_is_past is_history (
+  ((tt, tt), tt),
+  (
+    ((one_is, (x_is, tt)), tt),
+    (
+      ((y_is, tt), tt),
+      (((tt, tt), ((tt, tt), tt)), tt),
+    ),
+  ),
+)
     beginning_holds)

@@ -1,7 +1,8 @@
 //! Inverses of an operator: one that leads back, one that leads elsewhere, and one that is refused.
 ghost use Rattle.std.specs.Prelude.{◌≡◌, None, IsTrue};
-ghost use Rattle.smo_ops_types.specs.Operators.{operator_of};
-ghost use Rattle.smo_ops_spec.specs.After.{IsValid, op_fault, HasFewNodes};
+ghost use Rattle.smo_ops_types.specs.Operators.{evolution_of};
+ghost use Rattle.smo_ops_spec.specs.After.{IsValid, HaveFewNodes};
+ghost use Rattle.smo_ops_spec.specs.Evolutions.{evolution_fault};
 
 use crate::operator::{are_small, is_small, next, operator, two_tables};
 use prima_base::{NoMemory, OpRefusal};
@@ -13,8 +14,8 @@ use std::test::Fail;
 // Whether the operator is small, and accepted on the schema.
 fn is_accepted(alloc: Global, before: &Schema, op: &Op) -> bool
     requires { IsValid before.now }
-    ensures { IsTrue result → (op_fault before.now (operator_of op.now) ≡ None)
-        × HasFewNodes (operator_of op.now) }
+    ensures { IsTrue result → (evolution_fault before.now (evolution_of op.now) ≡ None)
+        × HaveFewNodes (evolution_of op.now) }
 {
     match next(alloc, before, op) {
         Some(_) => is_small(op),

@@ -1,8 +1,9 @@
 //! Operators read from texts, and the schemas that they make one after the other.
 ghost use Rattle.std.specs.Prelude.{◌≡◌, None, IsTrue, MatchOption, ⊤};
-ghost use Rattle.smo_ops_types.specs.Operators.{operator_of, operators_of};
+ghost use Rattle.smo_ops_types.specs.Operators.{operator_of, evolution_of, evolutions_of};
 ghost use Rattle.smo_ops_spec.specs.After.{op_fault, schema_after, IsValid};
-ghost use Rattle.smo_ops_spec.specs.After.{HasFewNodes, HaveFewNodes};
+ghost use Rattle.smo_ops_spec.specs.After.{HasFewNodes, AllHaveFewNodes};
+ghost use Rattle.smo_ops_spec.specs.Evolutions.{evolution_fault};
 
 use cond_expr::{cond_size, expr_size};
 use lexer::tokens;
@@ -39,7 +40,7 @@ pub(crate) fn is_small(op: &Op) -> bool
 
 /// Whether each of the operators is small.
 pub(crate) fn are_small(ops: &[Op]) -> bool
-    ensures { IsTrue result → HaveFewNodes (operators_of ops.now) }
+    ensures { IsTrue result → AllHaveFewNodes (evolutions_of ops.now) }
 {
     match ops {
         [] => true,
@@ -63,6 +64,7 @@ pub(crate) fn nothing(alloc: Global) -> Schema
 pub(crate) fn next(alloc: Global, before: &Schema, op: &Op) -> Option<Schema>
     requires { IsValid before.now }
     ensures { MatchOption result ⊤ (λ s. (op_fault before.now (operator_of op.now) ≡ None)
+        × (evolution_fault before.now (evolution_of op.now) ≡ None)
         × (s ≡ schema_after before.now (operator_of op.now)) × IsValid s) }
 {
     if !is_small(op) {
