@@ -24,6 +24,7 @@ pub use smo_ops_operators::{
 };
 pub use smo_ops_spec::{
     a_command_is_checked_by_the_newest_schema, a_command_is_seen_from_its_stamp_on,
+    a_list_is_refused_by_its_first_refused_member,
     a_past_has_the_states_of_its_history, a_version_is_in_force_up_to_the_next,
     add_column_keeps_the_cells, an_inverse_leads_back, change_keeps_a_relation,
     changes_keep_a_database, commands_make_valid_pasts, consumed_tables_are_gone,
