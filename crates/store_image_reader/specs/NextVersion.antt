@@ -9,7 +9,7 @@ use Rattle.smo_ops_types.specs.declared.version.Version.{Version}
 use Rattle.std.specs.declared.vec.Vec.{Vec}
 use Rattle.std.specs.declared.alloc.Global.{Global}
 use Rattle.prima_base.specs.Limits.{max_versions}
-use Rattle.smo_ops_spec.specs.After.{op_fault, schema_after}
+use Rattle.smo_ops_spec.specs.Evolutions.{schema_after_each, evolution_fault}
 use Rattle.smo_ops_spec.specs.Counts.{first_excess}
 use Rattle.smo_ops_spec.specs.Inverses.{inverse_fault}
 use Rattle.store_image_spec.specs.ItemChecks.{is_stamp, is_later, is_version}
@@ -28,15 +28,16 @@ is_in_turn last number before stamp = is_stamp last stamp
     && (nat_lt number max_versions && is_later before stamp)
 
 -- the operator is accepted and its inverse leads back
-abbrev pub is_valid : Tables → Operator → List Operator → Bool
+abbrev pub is_valid : Tables → List Operator → List (List Operator) → Bool
 is_valid tables op inverse = is_none (first_excess (evolving op inverse))
-    && (is_none (op_fault tables op) && is_none (inverse_fault tables op inverse))
+    && (is_none (evolution_fault tables op) && is_none (inverse_fault tables op inverse))
 
 -- the schema after it is told just where it is
-abbrev pub IsOperatorAccepted : Tables → Operator → List Operator → Option Tables → Type 0
+abbrev pub IsOperatorAccepted : Tables → List Operator → List (List Operator) → Option Tables
+    → Type 0
 IsOperatorAccepted tables op inverse None = is_valid tables op inverse ≡ false
 IsOperatorAccepted tables op inverse (Some next) = (is_valid tables op inverse ≡ true)
-    × (next ≡ schema_after tables op)
+    × (next ≡ schema_after_each tables op)
 
 abbrev pub version_read : Tables → ℕ × Op × Vec Op Global → PlainVersion
 version_read tables read = version_after tables

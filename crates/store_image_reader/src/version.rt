@@ -2,7 +2,8 @@
 
 ghost use Rattle.std.specs.Prelude.{◌≡◌, length, map, IfOk};
 ghost use Rattle.smo_ops_types.specs.Commands.{version_of, versions_of};
-ghost use Rattle.smo_ops_types.specs.Operators.{operator_of, operators_of};
+ghost use Rattle.smo_ops_types.specs.Operators.{operator_of, operators_of, evolution_of};
+ghost use Rattle.smo_ops_types.specs.Operators.{evolutions_of};
 ghost use Rattle.smo_ops_spec.specs.Past.{no_tables, newest_from};
 ghost use Rattle.command_codec_spec.specs.Reading.{pair};
 ghost use Rattle.command_codec_spec.specs.Reader as parts;
@@ -44,8 +45,8 @@ fn next_schema(
     op: &Op,
     inverse: &[Op],
 ) -> Result<Option<Schema>, NoMemory>
-    ensures { IfOk result (IsOperatorAccepted schema.now (operator_of op.now)
-        (operators_of inverse.now)) }
+    ensures { IfOk result (IsOperatorAccepted schema.now (evolution_of op.now)
+        (evolutions_of inverse.now)) }
 {
     match check_evolve(op, inverse) {
         Ok(()) => {}
