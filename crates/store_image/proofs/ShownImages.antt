@@ -33,6 +33,7 @@ use Rattle.version_groups.specs.Representation.{Represents, RepresentsTable, Rep
 use Rattle.version_groups.proofs.OwnMoments.{own_moment}
 use Rattle.store_image.specs.ImageIn.{kept_line, image_in, ColumnHolds, TableHolds, GroupsHold}
 use Rattle.store_image.specs.ImageIn.{IsImageOf}
+use Rattle.store_image.proofs.WrittenParts.{versions_of_one}
 use Rattle.store_image.proofs.KeptTables.{got_in, all_before, ends_up_to, sizes_are, lines_are}
 use Rattle.store_image.proofs.KeptTables.{same_relations, covering, found_at, all_in}
 
@@ -99,6 +100,7 @@ module _ (kept : Kept) (past : Past) (last : Option ℕ) (represents : Represent
     few = subst (λ (vs : List PlainVersion). length vs ≤ max_versions) (sym represents.versions)
         represents.valid.few;
     named = holds.named;
+    members = versions_of_one kept.versions;
     ends = subst (λ l. last_or_nought l < forever) (sym ends) represents.ends;
     begun = subst (λ l. AllInForce (last_or_nought l) (versions_in kept)) (sym ends)
         (subst (AllInForce (last_or_nought past.last))

@@ -11,11 +11,14 @@ use Rattle.schema_catalog.specs.Tables.{Tables}
 use Rattle.history_store.specs.Scans.{keys_from}
 use Rattle.history_store.specs.declared.scan.KeyEntry.{KeyEntry}
 use Rattle.history_store_spec.specs.Store.{Cell}
-use Rattle.smo_ops_types.specs.Commands.{PlainVersion}
+use Rattle.smo_ops_types.specs.declared.version.Version.{Version}
+use Rattle.smo_ops_types.specs.Commands.{PlainVersion, version_of}
 use Rattle.smo_ops_spec.specs.After.{IsValid as AreTables}
 use Rattle.smo_ops_spec.specs.ValidPast.{AreVersions}
-use Rattle.smo_ops_spec.proofs.NextSchemas.{next_is_valid}
+use Rattle.smo_ops_spec.proofs.MemberLaws.{all_accepted, each_is_valid}
 use Rattle.command_codec_spec.specs.Encoding.{number, list_bytes}
+use Rattle.command_codec_spec.proofs.OneMember.{ones_of_code}
+use Rattle.store_image_spec.specs.Images.{VersionsOfOne}
 use Rattle.store_image_spec.specs.Encoding.{span_bytes, cell_bytes, stored_bytes}
 use Rattle.store_image_spec.proofs.ValidVersions.{version_writable}
 use Rattle.version_groups_tables.specs.declared.made_table.MadeTable.{MadeTable}
@@ -77,12 +80,18 @@ stored_more out new tables k t inside is written =
     (ap (map kept_line) (drop_more tables k t inside ∙ ap (λ u. u ∷ drop (k + 1) tables) is))
     written
 
--- versions that are accepted one after the other can be written
+-- the operators of versions of the code have one member each
+pub versions_of_one : (versions : List Version) → VersionsOfOne (map version_of versions)
+versions_of_one [] = tt
+versions_of_one (v ∷ versions) = (ones_of_code v.op v.inverse.items, versions_of_one versions)
+
+-- such versions, accepted one after the other, can be written
 pub all_writable : (last : Option ℕ) (tables : Tables) (versions : List PlainVersion)
-    → AreTables tables → AreVersions last tables versions → AllByRecursion CanBeWritten versions
-all_writable last tables [] valid are = tt
-all_writable last tables (v ∷ versions) valid are = (
-  version_writable last tables v valid are.0,
+    → AreTables tables → AreVersions last tables versions → VersionsOfOne versions
+    → AllByRecursion CanBeWritten versions
+all_writable last tables [] valid are one = tt
+all_writable last tables (v ∷ versions) valid are one = (
+  version_writable last tables v valid one.0 are.0,
   all_writable _ v.tables versions (subst AreTables (sym are.0.tables)
-      (next_is_valid tables v.op valid are.0.accepted)) are.1,
+      (each_is_valid tables v.op valid (all_accepted tables v.op are.0.accepted))) are.1 one.1,
 )
