@@ -15,7 +15,8 @@ use Rattle.smo_ops_types.specs.Operators.{Operator}
 use Rattle.smo_ops_types.specs.declared.version.Versions.{Versions}
 use Rattle.smo_ops_spec.specs.First.{unless, first_refusal}
 use Rattle.smo_ops_spec.specs.Accepts.{operator_refusal, command_fault, body_tests}
-use Rattle.smo_ops_spec.specs.After.{op_fault, HasFewNodes, HaveFewNodes}
+use Rattle.smo_ops_spec.specs.Evolutions.{evolution_fault}
+use Rattle.smo_ops_spec.specs.After.{HaveFewNodes, AllHaveFewNodes}
 use Rattle.smo_ops_spec.specs.Inverses.{inverse_fault, inverse_tests}
 use Rattle.smo_ops_spec.specs.Past.{Past, no_tables, newest_from, newest_tables}
 use Rattle.smo_ops_spec.specs.ValidPast.{AreVersions}
@@ -44,7 +45,7 @@ module _ (kept : Kept) (past : Past) (represents : Represents kept past) (versio
   past_versions = subst (λ (vs : List PlainVersion). AreVersions None no_tables vs)
       (sym same_versions) represents.valid.evolved
 
-  module _ (stamp : ℕ) (op : Operator) (inverse : List Operator) where
+  module _ (stamp : ℕ) (op : List Operator) (inverse : List (List Operator)) where
     pub measured : (most : ℕ)
         → most ≡ widest (with_version (versions_of versions) stamp op inverse)
         → measure_fault most ≡ width_fault past (a_command stamp (evolving op inverse))
@@ -52,34 +53,35 @@ module _ (kept : Kept) (past : Past) (represents : Represents kept past) (versio
         ∙ ap (λ (vs : List PlainVersion). widest (with_version vs stamp op inverse)) same_versions)
 
     module _ (accepted : command_fault past (a_command stamp (evolving op inverse)) ≡ None) where
-      rest : first_refusal (option_map operator_refusal (op_fault (newest_tables past) op)
+      rest : first_refusal (option_map operator_refusal (evolution_fault (newest_tables past) op)
           ∷ inverse_tests (newest_tables past) op inverse) ≡ None
       rest = (none_of_first (unless (nat_lt (length past.versions) max_versions)
           (TooMany TheVersions max_versions))
-          (option_map operator_refusal (op_fault (newest_tables past) op)
+          (option_map operator_refusal (evolution_fault (newest_tables past) op)
           ∷ inverse_tests (newest_tables past) op inverse)
           (body_accepted past (a_command stamp (evolving op inverse)) accepted)).1
 
-      both : (option_map operator_refusal (op_fault (newest_tables past) op) ≡ None)
+      both : (option_map operator_refusal (evolution_fault (newest_tables past) op) ≡ None)
           × (inverse_fault (newest_tables past) op inverse ≡ None)
-      both = none_of_first (option_map operator_refusal (op_fault (newest_tables past) op))
+      both = none_of_first (option_map operator_refusal (evolution_fault (newest_tables past) op))
           (inverse_tests (newest_tables past) op inverse) rest
 
-      pub operator_met : op_fault (newest_from no_tables (versions_of versions)) op ≡ None
-      operator_met = subst (λ (vs : List PlainVersion). op_fault (newest_from no_tables vs) op
+      pub operator_met : evolution_fault (newest_from no_tables (versions_of versions)) op ≡ None
+      operator_met = subst (λ (vs : List PlainVersion). evolution_fault (newest_from no_tables vs)
+          op
           ≡ None) (sym same_versions)
-          (none_mapped operator_refusal (op_fault (newest_tables past) op) both.0)
+          (none_mapped operator_refusal (evolution_fault (newest_tables past) op) both.0)
 
       pub inverse_met : inverse_fault (newest_from no_tables (versions_of versions)) op inverse
           ≡ None
       inverse_met = subst (λ (vs : List PlainVersion). inverse_fault (newest_from no_tables vs) op
           inverse ≡ None) (sym same_versions) both.1
 
-      pub few_nodes : HasFewNodes op
+      pub few_nodes : HaveFewNodes op
       few_nodes = counted_operator op inverse
           (counts_accepted past (a_command stamp (evolving op inverse)) accepted)
 
-      pub few_nodes_each : HaveFewNodes inverse
+      pub few_nodes_each : AllHaveFewNodes inverse
       few_nodes_each = counted_inverse op inverse
           (counts_accepted past (a_command stamp (evolving op inverse)) accepted)
 

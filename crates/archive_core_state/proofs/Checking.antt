@@ -1,5 +1,5 @@
 -- How the tests of a command are joined.
-use Rattle.std.proofs.Common.{◌≡◌, ◌≤◌, ◌<◌, ℕ, List, ◌∷◌, length, refl, sym, ap, subst}
+use Rattle.std.proofs.Common.{◌≡◌, ◌≤◌, ◌<◌, ℕ, List, [], ◌∷◌, length, refl, sym, ap, subst}
 use Rattle.std.proofs.Common.{◌∙◌, arith}
 use Rattle.std.specs.Borrow.{Bor}
 use Rattle.std.specs.Global.{Vec}
@@ -13,7 +13,7 @@ use Rattle.prima_base.specs.declared.refusal.What.{What}
 use Rattle.relations_spec.specs.Spans.{forever}
 use Rattle.schema_catalog.specs.Tables.{Tables}
 use Rattle.smo_ops_types.specs.declared.op.Op.{Op}
-use Rattle.smo_ops_types.specs.Operators.{Operator, operator_of, operators_of}
+use Rattle.smo_ops_types.specs.Operators.{Operator, operator_of, operators_of, evolutions_of}
 use Rattle.smo_ops_types.specs.Changes.{changes_of}
 use Rattle.smo_ops_types.specs.Commands.{changing, evolving, PlainCommand}
 use Rattle.smo_ops_types.specs.declared.change.Change.{Change}
@@ -37,11 +37,12 @@ use Rattle.archive_core_state.specs.declared.accepted_command.AcceptedCommand.Th
 use Rattle.archive_core_state.specs.AcceptedCommands.{accepted_command, HasFound, IsAcceptedAfter}
 
 -- an inverse whose count is within its limit
-pub few_operators : (op : Operator) (inverse : List Op)
-    → first_excess (evolving op (operators_of inverse)) ≡ None → length inverse ≤ 8
+pub few_operators : (op : List Operator) (inverse : List Op)
+    → first_excess (evolving op (evolutions_of inverse)) ≡ None → length inverse ≤ 8
 few_operators op inverse counted =
-    let few = counted_length op (operators_of inverse) counted in
-    let same : length (operators_of inverse) ≡ length inverse = length-map inverse operator_of in
+    let few = counted_length op (evolutions_of inverse) counted in
+    let same : length (evolutions_of inverse) ≡ length inverse =
+    length-map (operators_of inverse) (λ o. o ∷ []) ∙ length-map inverse operator_of in
     omega arith
 
 -- the newest schema has no table with too many columns

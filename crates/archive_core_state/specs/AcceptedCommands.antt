@@ -1,7 +1,7 @@
 -- Commands that checking accepted, with what it found.
 use Rattle.smo_ops_types.specs.Changes.{changes_of}
 use Rattle.smo_ops_types.specs.Commands.{changing, evolving, PlainCommand}
-use Rattle.smo_ops_types.specs.Operators.{operator_of, operators_of}
+use Rattle.smo_ops_types.specs.Operators.{evolution_of, evolutions_of}
 use Rattle.smo_ops_spec.specs.Past.{Past, newest_tables}
 use Rattle.smo_ops.specs.TablePlaces.{StandAt}
 use Rattle.version_groups.specs.CheckedCommands.{HasNext, IsAcceptedAs}
@@ -15,7 +15,7 @@ abbrev pub accepted_command : AcceptedCommand → PlainCommand
 accepted_command (Changes stamp changes places) =
     a_command stamp (changing (changes_of changes.items))
 accepted_command (Evolve version) = a_command version.stamp
-    (evolving (operator_of version.op) (operators_of version.inverse.items))
+    (evolving (evolution_of version.op) (evolutions_of version.inverse.items))
 
 -- what was found: of each change where its table stands in the newest schema, and of an operator
 -- the schema after it

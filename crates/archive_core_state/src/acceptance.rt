@@ -9,9 +9,10 @@ ghost use Rattle.prima_base.specs.declared.refusal.Refusal.TheVariants.{TooMany}
 ghost use Rattle.prima_base.specs.Limits.{max_versions};
 ghost use Rattle.smo_ops_spec.specs.First.{unless, first_refusal};
 ghost use Rattle.smo_ops_types.specs.Commands.{evolving, body_of, command_of};
-ghost use Rattle.smo_ops_types.specs.Operators.{Operator, operator_of, operators_of};
+ghost use Rattle.smo_ops_types.specs.Operators.{Operator, evolution_of, evolutions_of};
 ghost use Rattle.smo_ops_spec.specs.Counts.{first_excess};
-ghost use Rattle.smo_ops_spec.specs.After.{op_fault, schema_after, HasFewNodes, HaveFewNodes};
+ghost use Rattle.smo_ops_spec.specs.Evolutions.{evolution_fault, schema_after_each};
+ghost use Rattle.smo_ops_spec.specs.After.{HaveFewNodes, AllHaveFewNodes};
 ghost use Rattle.smo_ops_spec.specs.ValidValues.{BodyHolds};
 ghost use Rattle.smo_ops_spec.specs.Inverses.{inverse_fault};
 ghost use Rattle.smo_ops_spec.specs.Accepts.{operator_refusal, count_fault, stamp_fault};
@@ -70,10 +71,10 @@ fn check_versions(newest: u32) -> Result<(), CommandFault>
 
 // The preconditions of the operator; the schema after it.
 fn check_operator(alloc: Global, schema: &Schema, op: &Op) -> Result<Schema, CommandFault>
-    requires { HasFewNodes (operator_of op.now) }
+    requires { HaveFewNodes (evolution_of op.now) }
     ensures tested { IsTested (option_map operator_refusal
-        (op_fault schema.now (operator_of op.now))) result }
-    ensures next { IfOk result (λ next. next ≡ schema_after schema.now (operator_of op.now)) }
+        (evolution_fault schema.now (evolution_of op.now))) result }
+    ensures next { IfOk result (λ next. next ≡ schema_after_each schema.now (evolution_of op.now)) }
 {
     match after(alloc, schema, op) {
         Ok(next) => Ok(next),
@@ -89,10 +90,10 @@ fn check_its_inverse(
     next: &Schema,
     inverse: &[Op],
 ) -> Result<(), CommandFault>
-    requires inverse { HaveFewNodes (operators_of inverse.now) }
+    requires inverse { AllHaveFewNodes (evolutions_of inverse.now) }
     requires few { length inverse.now ≤ 8 }
-    ensures { (op : Operator) → next.now ≡ schema_after before.now op
-        → IsTested (inverse_fault before.now op (operators_of inverse.now)) result }
+    ensures { (op : List Operator) → next.now ≡ schema_after_each before.now op
+        → IsTested (inverse_fault before.now op (evolutions_of inverse.now)) result }
 {
     match check_way_back(alloc, before, next, inverse) {
         Ok(()) => Ok(()),
@@ -112,14 +113,14 @@ fn check_evolve(
     op: &Op,
     inverse: &[Op],
 ) -> Result<Schema, CommandFault>
-    requires counted { first_excess (evolving (operator_of op.now) (operators_of inverse.now))
+    requires counted { first_excess (evolving (evolution_of op.now) (evolutions_of inverse.now))
         ≡ None }
     requires represents { (past : Past) × Represents groups.now past }
     ensures tested { (past : Past) → Represents groups.now past
         → IsTested (first_refusal (body_tests past
-        (evolving (operator_of op.now) (operators_of inverse.now)))) result }
+        (evolving (evolution_of op.now) (evolutions_of inverse.now)))) result }
     ensures next { (past : Past) → Represents groups.now past
-        → IfOk result (λ next. next ≡ schema_after (newest_tables past) (operator_of op.now)) }
+        → IfOk result (λ next. next ≡ schema_after_each (newest_tables past) (evolution_of op.now)) }
 {
     counted_operators_are_few();
     check_versions(groups.newest())?;

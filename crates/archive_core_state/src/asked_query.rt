@@ -1,9 +1,10 @@
 //! A query, checked, and answered over all of history or told piece by piece.
 
-ghost use Rattle.std.specs.Prelude.{◌≡◌, ◌≤◌, ◌+◌, List, MatchResult, None, IfOk};
+ghost use Rattle.std.specs.Prelude.{◌≡◌, ◌≤◌, ◌+◌, ◌-◌, List, MatchResult, None, IfOk, slice_get};
+ghost use Rattle.smo_ops_types.specs.Operators.{operators_of};
 ghost use Rattle.smo_ops_types.specs.Commands.{versions_of};
 ghost use Rattle.smo_ops_spec.specs.Past.{Past};
-ghost use Rattle.temporal_lang_spec.specs.Accepted.{no_way_back, fault_of_query};
+ghost use Rattle.temporal_lang_spec.specs.Accepted.{member_kind, no_way_back, fault_of_query};
 ghost use Rattle.temporal_lang_types.specs.Queries.{query_of};
 ghost use Rattle.piece_ir.specs.ExplainedPieces.{PlainExplained};
 ghost use Rattle.query_exec.specs.Borrowed.{BorrowedByBranch, AreSpared, AreBorrowedBy};
@@ -25,8 +26,9 @@ use prima_base::{OpKind, Refusal, Steps};
 use query_exec::{answer, explain, first_loss_in_slice};
 use rewrite_rules_book::{Rule, RuleBook, kind_of};
 use schema_catalog::Schema;
-use smo_ops::Versions;
+use smo_ops::{Op, Versions};
 use std::alloc::Global;
+use std::slice;
 use std::sync::ledger::Ledger;
 use temporal_lang::{Query, When, check_query, check_query_counts};
 use version_groups::Groups;
@@ -57,12 +59,23 @@ fn resolved_query(alloc: Global, schema: &Schema, query: &Query) -> Result<Query
     check_query(alloc, schema, query)
 }
 
-// Which version's operator has neither a named nor a derived inverse, and of what kind it is.
+// The kind of the member with this number, the first of which is 1, of an operator's members.
+fn member_kind(ops: &[Op], number: u32) -> OpKind
+    ensures { result ≡ member_kind (slice_get (operators_of ops.now) (number - 1)) }
+{
+    match ops.get((number as usize).saturating_sub(1)) {
+        Some(op) => kind_of(op),
+        None => OpKind::Nop,
+    }
+}
+
+// Which version names no inverse, and of what kind the member of its operator is that has no
+// derived one.
 fn no_way_back(versions: &Versions, loss: (u32, u32)) -> Refusal
     ensures { result ≡ no_way_back (versions_of versions.now) loss }
 {
     let kind = match versions.list.get((loss.0 as usize).saturating_sub(1)) {
-        Some(version) => kind_of(&version.op),
+        Some(version) => member_kind(slice::from_ref(&version.op), loss.1),
         None => OpKind::Nop,
     };
     Refusal::NoInverse(loss.0, kind)

@@ -2,7 +2,7 @@
 
 ghost use Rattle.std.specs.Prelude.{◌≡◌, None};
 ghost use Rattle.prima_base.specs.Faults.{IsTested};
-ghost use Rattle.smo_ops_types.specs.Operators.{operator_of, operators_of};
+ghost use Rattle.smo_ops_types.specs.Operators.{evolution_of, evolutions_of};
 ghost use Rattle.smo_ops_types.specs.Commands.{evolving};
 ghost use Rattle.smo_ops_spec.specs.Accepts.{command_fault};
 ghost use Rattle.smo_ops_spec.specs.Past.{Past};
@@ -31,11 +31,11 @@ fn check_measure(measure: u64) -> Result<(), CommandFault>
 // So is that of the version that an operator makes.
 fn check_version(alloc: Global, groups: &Groups, version: &Version) -> Result<(), CommandFault>
     requires { (past : Past) × Represents groups.now past
-        × (command_fault past (a_command version.now.stamp (evolving (operator_of version.now.op)
-        (operators_of version.now.inverse.items))) ≡ None) }
+        × (command_fault past (a_command version.now.stamp (evolving (evolution_of version.now.op)
+        (evolutions_of version.now.inverse.items))) ≡ None) }
     ensures { (past : Past) → Represents groups.now past
         → IsTested (width_fault past (a_command version.now.stamp (evolving
-        (operator_of version.now.op) (operators_of version.now.inverse.items)))) result }
+        (evolution_of version.now.op) (evolutions_of version.now.inverse.items)))) result }
 {
     let measure = widest(alloc, groups.versions(), &version.op, &version.inverse)?;
     check_measure(measure)
