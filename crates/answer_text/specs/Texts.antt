@@ -17,7 +17,7 @@ use Rattle.smo_ops_types.specs.Commands.{PlainVersion}
 use Rattle.smo_ops_spec.specs.InForce.{begins_at}
 use Rattle.smo_ops_spec.specs.Sizes.{Size, cells_in}
 use Rattle.smo_parse.specs.TreeTexts.{value_text}
-use Rattle.smo_parse.specs.Texts.{listed, column_text, operator_text}
+use Rattle.smo_parse.specs.Texts.{listed, column_text, evolution_text}
 use Rattle.piece_ir.specs.ExplainedPieces.{PlainExplained}
 use Rattle.answer_text.specs.PieceTexts.{piece_text}
 
@@ -131,18 +131,6 @@ unfoldable pub explain_text : List PlainExplained → List ℕ
 explain_text list = flat_map explained_text list ++ count_text (length list)
 
 -- ---- versions
-
--- members of an operator, each after THEN
-abbrev pub more_members : List Operator → List ℕ
-more_members [] = []
-more_members (op ∷ ops) = codes " THEN " ++ operator_text op ++ more_members ops
-
--- the members of an operator, in brackets where there are several
-abbrev pub evolution_text : List Operator → List ℕ
-evolution_text [] = []
-evolution_text (op ∷ []) = operator_text op
-evolution_text (op ∷ next ∷ ops) = codes "(" ++ operator_text op ++ more_members (next ∷ ops)
-    ++ codes ")"
 
 -- operators, each after THEN
 abbrev pub more_operators : List (List Operator) → List ℕ

@@ -29,7 +29,7 @@ fresh = a_world (shown past.beginning) no_sessions
 -- another statement makes a version
 abbrev evolved : Step
 evolved = elsewhere (shown (past.past_with past.beginning
-    (record { stamp = 7; body = evolving nop [] })))
+    (record { stamp = 7; body = evolving (nop ∷ []) [] })))
 
 abbrev change : PlainChange
 change = insertion (codes "t") ((codes "a", Int (pos 1)) ∷ [])

@@ -57,3 +57,15 @@ operator_text (add_column n e r) = codes "ADD COLUMN " ++ n ++ codes " AS " ++ e
 operator_text (drop_column n r) = codes "DROP COLUMN " ++ n ++ codes " FROM " ++ r
 operator_text (rename_column b r c) = codes "RENAME COLUMN " ++ b ++ codes " IN " ++ r
     ++ codes " TO " ++ c
+
+-- members of an operator, each after THEN
+abbrev pub more_members : List Operator → List ℕ
+more_members [] = []
+more_members (op ∷ ops) = codes " THEN " ++ operator_text op ++ more_members ops
+
+-- the members of an operator, in brackets where there are several
+abbrev pub evolution_text : List Operator → List ℕ
+evolution_text [] = []
+evolution_text (op ∷ []) = operator_text op
+evolution_text (op ∷ next ∷ ops) = codes "(" ++ operator_text op ++ more_members (next ∷ ops)
+    ++ codes ")"

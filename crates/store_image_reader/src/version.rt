@@ -1,9 +1,12 @@
 //! Reading versions.
 
-ghost use Rattle.std.specs.Prelude.{◌≡◌, length, map, IfOk};
+ghost use Rattle.std.specs.Prelude.{◌≡◌, List, length, map, is_none, IfOk};
 ghost use Rattle.smo_ops_types.specs.Commands.{version_of, versions_of};
-ghost use Rattle.smo_ops_types.specs.Operators.{operator_of, operators_of, evolution_of};
-ghost use Rattle.smo_ops_types.specs.Operators.{evolutions_of};
+ghost use Rattle.smo_ops_types.specs.Operators.{Operator, operator_of, operators_of};
+ghost use Rattle.smo_ops_types.specs.Operators.{evolution_of, evolutions_of};
+ghost use Rattle.smo_ops_spec.specs.After.{AllHaveFewNodes};
+ghost use Rattle.smo_ops_spec.specs.Evolutions.{schema_after_each};
+ghost use Rattle.smo_ops_spec.specs.Inverses.{inverse_fault};
 ghost use Rattle.smo_ops_spec.specs.Past.{no_tables, newest_from};
 ghost use Rattle.command_codec_spec.specs.Reading.{pair};
 ghost use Rattle.command_codec_spec.specs.Reader as parts;
@@ -38,6 +41,26 @@ fn evolution(alloc: Global, reader: &mut Reader<'_>) -> Result<(u64, Op, Vec<Op>
     Ok((stamp, op, inverse))
 }
 
+// Whether the inverse leads back from the schema after an operator to the one before it.
+fn leads_back(
+    alloc: Global,
+    before: &Schema,
+    next: &Schema,
+    inverse: &[Op],
+) -> Result<bool, NoMemory>
+    requires { AllHaveFewNodes (evolutions_of inverse.now) }
+    ensures { (op : List Operator) → next.now ≡ schema_after_each before.now op
+        → IfOk result (λ b. b ≡ is_none (inverse_fault before.now op
+        (evolutions_of inverse.now))) }
+{
+    match check_way_back(alloc, before, next, inverse) {
+        Ok(()) => Ok(true),
+        Err(InverseFault::Op(_, _)) => Ok(false),
+        Err(InverseFault::Misses(_)) => Ok(false),
+        Err(InverseFault::NoMemory) => Err(NoMemory),
+    }
+}
+
 // The schema after the operator, where it is accepted and its inverse leads back; none where not.
 fn next_schema(
     alloc: Global,
@@ -58,10 +81,10 @@ fn next_schema(
         Err(OpFault::Refused(_)) => return Ok(None),
         Err(OpFault::NoMemory) => return Err(NoMemory),
     };
-    match check_way_back(alloc, schema, &next, inverse) {
-        Ok(()) => Ok(Some(next)),
-        Err(InverseFault::Op(_, _)) | Err(InverseFault::Misses(_)) => Ok(None),
-        Err(InverseFault::NoMemory) => Err(NoMemory),
+    if leads_back(alloc, schema, &next, inverse)? {
+        Ok(Some(next))
+    } else {
+        Ok(None)
     }
 }
 

@@ -148,7 +148,7 @@ abbrev ann_begins : List ℕ → PlainChange
 ann_begins p = insertion emp ((city, text p) ∷ (id, int 1) ∷ (name, text (codes "Ann")) ∷ [])
 
 abbrev script_1 : List PlainCommand
-script_1 = a_command 1 (evolving (create_table emp emp_columns) [])
+script_1 = a_command 1 (evolving (create_table emp emp_columns ∷ []) [])
     ∷ a_command 2 (changing (ann_begins (codes "Oslo") ∷ []))
     ∷ a_command 5 (changing (deletion emp is_ann_in_oslo ∷ ann_begins (codes "Bergen") ∷ [])) ∷ []
 
@@ -158,7 +158,7 @@ abbrev by_rows : Option DatabaseEntry
     → Option DatabaseEntry
     → Option DatabaseEntry
     → Option DatabaseEntry → List PlainCommand
-by_rows a b c d e = a_command 1 (evolving (create_table emp emp_columns) [])
+by_rows a b c d e = a_command 1 (evolving (create_table emp emp_columns ∷ []) [])
     ∷ (if_any 2 (table_changes emp_table (rows_under a) (rows_under b) ++ [])
     ++ (if_any 3 (table_changes emp_table (rows_under b) (rows_under c) ++ [])
     ++ (if_any 5 (table_changes emp_table (rows_under d) (rows_under e) ++ []) ++ [])))

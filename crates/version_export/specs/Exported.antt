@@ -56,6 +56,6 @@ on_version version query = a_query version query.branches query.when query.keep
 -- ---- the EVOLVE that creates tables: of one table; of several it is to be one list of operators
 
 abbrev pub creating_one : List NamedColumns → PlainBody
-creating_one [] = evolving nop []
-creating_one (t ∷ []) = evolving (create_table t.0 t.1) []
-creating_one (t ∷ u ∷ tables) = evolving nop []
+creating_one [] = evolving (nop ∷ []) []
+creating_one (t ∷ []) = evolving (create_table t.0 t.1 ∷ []) []
+creating_one (t ∷ u ∷ tables) = evolving (nop ∷ []) []

@@ -20,7 +20,8 @@ use Rattle.version_export.specs.Statements.{Statement, statements}
 pub data Fault : Type 0 where
   -- the asked version, and the newest
   no_version : ℕ → ℕ → Fault
-  -- the version whose operator loses a table or a column of one, and the operator's kind
+  -- the version by which a table or a column of one is lost, and the kind of the member of its
+  -- operator that loses it
   no_inverse : ℕ → OpKind → Fault
   -- the stamp of the statement, and the length of its text
   too_long : ℕ → ℕ → Fault
@@ -30,7 +31,8 @@ version_test past version = unless (nat_le version (length past.versions))
     (no_version version (length past.versions))
 
 abbrev pub by_loss : List PlainVersion → Loss → Fault
-by_loss versions loss = no_inverse loss.0 (version_kind (slice_get versions (loss.0 - 1)))
+by_loss versions loss = no_inverse loss.0
+    (version_kind (slice_get versions (loss.0 - 1)) loss.1)
 
 abbrev pub table_test : Past → ℕ → NamedColumns → Option Fault
 table_test past version t = option_map (by_loss past.versions)

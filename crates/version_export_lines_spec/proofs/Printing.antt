@@ -16,7 +16,7 @@ use Rattle.schema_catalog.specs.Places.{NamedColumns}
 use Rattle.cond_expr.specs.Trees.{Test}
 use Rattle.smo_ops_types.specs.Operators.{Operator, create_table}
 use Rattle.smo_ops_types.specs.Changes.{PlainChange, insertion, deletion}
-use Rattle.smo_ops_types.specs.Commands.{changing, evolving, PlainCommand}
+use Rattle.smo_ops_types.specs.Commands.{changing, PlainCommand}
 use Rattle.smo_ops_spec.specs.Checks.{pair_names}
 use Rattle.lexer_spec.specs.Lexemes.{Lexeme, word, number, text}
 use Rattle.lexer_combinators.specs.Grammar.{Grammar, Size, nothing_counted, both, no_end, AreMore}
@@ -43,7 +43,7 @@ use Rattle.smo_parse.proofs.PrintedParts.{spaced_printed, open_next, close_last}
 use Rattle.script_parse.specs.Productions.{AreSoMany, IsRow, IsInsert, IsDelete}
 use Rattle.script_parse.specs.Productions.{IsChange, AreChanges, IsOp, IsInverse, IsEvolve}
 use Rattle.script_parse.specs.Productions.{IsBody, IsWrite, IsStatement}
-use Rattle.script_parse.specs.Statements.{write}
+use Rattle.script_parse.specs.Statements.{evolving_by, write}
 use Rattle.version_export_past_spec.specs.Rows.{Cell, is_row_of}
 use Rattle.version_export_lines_spec.specs.Lines.{cell_values, change_text, then_texts}
 use Rattle.version_export_lines_spec.specs.Lines.{changes_text, body_text}
@@ -363,13 +363,13 @@ create_printed t h = by_columns t.1 h.some h.columns
 
 -- an operator, with no inverse
 pub evolve_printed : (op : Operator) → Printed IsOperator 256 op (operator_text op)
-    → Printed IsEvolve 0 (evolving op []) (body_text (evolving op []))
+    → Printed IsEvolve 0 (evolving_by op []) (body_text (evolving_by op []))
 evolve_printed op p = word_first (codes "EVOLVE") _ 0 _ _ EVOLVE
     (as_bytes _ 0 _ _ _ (sym (append-nil (operator_text op)))
-    (bind_printed IsOp (λ o. grammar.map (λ inverse. evolving o inverse) IsInverse) 0 0 0 op
-    (evolving op []) (operator_text op) [] (omega arith) tt
+    (bind_printed IsOp (λ o. grammar.map (λ inverse. evolving_by o inverse) IsInverse) 0 0 0 op
+    (evolving_by op []) (operator_text op) [] (omega arith) tt
     (fresh_printed IsOperator op (operator_text op) p)
-    (map_printed (λ inverse. evolving op inverse) IsInverse 0 [] []
+    (map_printed (λ inverse. evolving_by op inverse) IsInverse 0 [] []
     (among (grammar.pure []) IsInverse 0 [] [] (λ s f k. inl k) (pure_printed 0 [])))))
 
 -- ---- the whole command

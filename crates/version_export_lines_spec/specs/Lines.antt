@@ -6,7 +6,7 @@ use Rattle.smo_ops_types.specs.Changes.{PlainChange, insertion, deletion, update
 use Rattle.smo_ops_types.specs.Commands.{PlainBody, changing, evolving, PlainCommand}
 use Rattle.smo_ops_spec.specs.Checks.{pair_names}
 use Rattle.smo_parse.specs.TreeTexts.{value_text}
-use Rattle.smo_parse.specs.Texts.{listed, part_text, expr_text, cond_text, operator_text}
+use Rattle.smo_parse.specs.Texts.{listed, part_text, expr_text, cond_text, evolution_text}
 
 abbrev pub cell_values : List (List ℕ × Value) → List Value
 cell_values [] = []
@@ -35,7 +35,7 @@ changes_text (c ∷ changes) = change_text c ++ then_texts changes
 -- an EVOLVE without an inverse
 abbrev pub body_text : PlainBody → List ℕ
 body_text (changing changes) = changes_text changes
-body_text (evolving op inverse) = codes "EVOLVE " ++ operator_text op
+body_text (evolving op inverse) = codes "EVOLVE " ++ evolution_text op
 
 abbrev pub command_text : PlainCommand → List ℕ
 command_text c = codes "AT " ++ decimal c.stamp ++ codes " " ++ body_text c.body

@@ -21,7 +21,8 @@ use Rattle.smo_ops_spec.specs.Making.{from_one, from_two}
 use Rattle.smo_ops_spec.specs.Losses.{Loss}
 use Rattle.smo_ops_spec.specs.WaysBack.{blank, filled_with}
 use Rattle.smo_ops_spec.specs.OperatorTable.{Made, line, made_names}
-use Rattle.smo_ops_spec.specs.After.{migrate, lose_all, make_all}
+use Rattle.smo_ops_spec.specs.After.{schema_after, migrate, lose_all, make_all}
+use Rattle.smo_ops_spec.specs.Evolutions.{carried_each}
 use Rattle.smo_ops_versions_spec.specs.Steps.{Step, carrying, filling, undoing, taken}
 use Rattle.smo_ops_versions_spec.specs.Ways.{way}
 use Rattle.smo_ops_versions_spec.specs.Migration.{lost_by, stepped, migrated_from}
@@ -93,6 +94,12 @@ pub blank_carried : (tables : Tables) (op : Operator) (db : Database) → IsBlan
 blank_carried tables op db h = blank_made db (line tables op).made
     (lose_all (line tables op).consumed db) (each_blank tables op db h)
     (blank_lost (line tables op).consumed db h)
+
+pub blank_carried_each : (tables : Tables) (ops : List Operator) (db : Database) → IsBlank db
+    → IsBlank (carried_each tables ops db)
+blank_carried_each tables [] db h = h
+blank_carried_each tables (op ∷ ops) db h = blank_carried_each (schema_after tables op) ops
+    (migrate tables op db) (blank_carried tables op db h)
 
 -- ---- over steps, which lose tables or carry them
 

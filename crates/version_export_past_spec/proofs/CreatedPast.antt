@@ -32,6 +32,7 @@ use Rattle.smo_ops_spec.specs.After.{op_fault, schema_after}
 use Rattle.smo_ops_spec.specs.Past.{Past, no_tables, beginning, past_with}
 use Rattle.smo_ops_spec.specs.Past.{next_version, newest_database}
 use Rattle.smo_ops_spec.specs.Accepts.{command_fault, operator_refusal}
+use Rattle.smo_ops_spec.proofs.OneMembers.{one_member_fault}
 use Rattle.smo_ops_spec.proofs.PastMoments.{before_or_not}
 use Rattle.smo_ops_spec.proofs.PastSteps.{beginning_is_past, before_command, from_command}
 use Rattle.version_export_past_spec.specs.Commands.{a_command}
@@ -72,7 +73,7 @@ fits m n l = grind (arith, l)
 module _ (t : NamedColumns) (are : AreColumns t.1) (some : 1 ≤ length t.1)
     (narrow : length t.1 ≤ max_columns) (stamp : ℕ) where
   abbrev body : PlainBody
-  body = evolving (create_table t.0 t.1) []
+  body = evolving (create_table t.0 t.1 ∷ []) []
 
   one_table : len (insert no_tables t.0 (in_order t.1)) ≡ 1
   one_table =
@@ -101,7 +102,8 @@ module _ (t : NamedColumns) (are : AreColumns t.1) (some : 1 ≤ length t.1)
 
   pub creation_accepted : command_fault beginning (a_command stamp body) ≡ None
   creation_accepted = ap (λ (o : Option OpRefusal).
-      first_refusal (option_map operator_refusal o ∷ [])) accepted_operator
+      first_refusal (option_map operator_refusal o ∷ []))
+      (one_member_fault no_tables (create_table t.0 t.1) ∙ accepted_operator)
 
   ok : IsAccepted beginning (a_command stamp body)
   ok = accepted_so beginning (a_command stamp body) creation_accepted
@@ -125,7 +127,7 @@ module _ (t : NamedColumns) (are : AreColumns t.1) (some : 1 ≤ length t.1)
   pub is_created : (tables : Tables) → entries tables ≡ t ∷ [] → IsCreated tables stamp created
   is_created tables e = record {
     valid = next_is_past beginning (a_command stamp body) beginning_is_past ok;
-    version = next_version stamp (create_table t.0 t.1) [] beginning;
+    version = next_version stamp (create_table t.0 t.1 ∷ []) [] beginning;
     versions = refl;
     begins = refl;
     has = same_tables tables e;

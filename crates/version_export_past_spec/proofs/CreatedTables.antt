@@ -29,7 +29,7 @@ use Rattle.smo_ops_spec.specs.Preconditions.{among, is_some_column, each_once, f
 use Rattle.smo_ops_spec.specs.Preconditions.{few_tables}
 use Rattle.smo_ops_spec.specs.Making.{in_order}
 use Rattle.smo_ops_spec.specs.After.{op_fault}
-use Rattle.smo_ops_spec.specs.Inverses.{schema_after_each, AllOperatorsAccepted}
+use Rattle.smo_ops_spec.specs.Evolutions.{schema_after_each, AllOperatorsAccepted}
 use Rattle.smo_ops_spec.specs.Past.{no_tables}
 use Rattle.smo_ops_spec.proofs.CountingLaws.{first, second, less}
 use Rattle.smo_ops_spec.proofs.NameLaws.{same_not, same_turned}

@@ -23,7 +23,7 @@ use Rattle.smo_ops_spec.proofs.PastLaws.{newest_holds}
 use Rattle.smo_ops_spec.proofs.PastMoments.{before_or_not, is_later}
 use Rattle.smo_ops_spec.proofs.PastSteps.{before_command, from_command, stays_valid}
 use Rattle.version_export_past_spec.specs.Blank.{IsBlank}
-use Rattle.version_export_past_spec.proofs.BlankDatabases.{blank_carried}
+use Rattle.version_export_past_spec.proofs.BlankDatabases.{blank_carried_each}
 
 -- ---- what an accepted command is tested for
 
@@ -145,7 +145,8 @@ early_with past stamp (evolving op inverse) commands h e ok a m l again =
           (blank_without past h e m)
       | inr b ↦ subst IsBlank (sym (from_command past stamp (evolving op inverse) h
           (not_before past.last stamp ok.later) ok.tests m b))
-          (blank_carried (newest_tables past) op (newest_database past) (blank_newest past h e))
+          (blank_carried_each (newest_tables past) op (newest_database past)
+          (blank_newest past h e))
     ])
   where
     next : Past

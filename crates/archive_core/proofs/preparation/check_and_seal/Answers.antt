@@ -10,4 +10,5 @@ pub seal-requires-clause-writable : goal.seal-requires-clause-writable
 seal-requires-clause-writable c =
     let some = c.in-Ok.ensures.represents in
     c.accepted_commands_can_be_written.ensures.past some.0 (accepted_command c.in-Ok.accepted)
-    some.1.groups.valid (c.in-Ok.ensures.checks some.0 some.1).1.accepted
+    some.1.groups.valid (one_each c.in-Ok.accepted)
+    (c.in-Ok.ensures.checks some.0 some.1).1.accepted
