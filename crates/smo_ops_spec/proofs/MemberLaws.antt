@@ -1,6 +1,6 @@
 -- Operators one after the other: where none is refused each is accepted, and what an operator keeps
 -- they keep.
-use Rattle.std.proofs.Common.{◌≡◌, ◌+◌, ℕ, Bool, true, false, List, [], ◌∷◌, ◌++◌, refl, ap, ◌∙◌}
+use Rattle.std.proofs.Common.{◌≡◌, ◌+◌, ℕ, Bool, true, false, List, [], ◌∷◌, ◌++◌, refl, ap, ◌∙◌, arith}
 use Rattle.std.specs.Prelude.{◌||◌, is_some, Option, Some, None}
 use Rattle.std.specs.FinMap.{get}
 use Rattle.std.specs.Option.{option_map, option_or}
@@ -12,7 +12,8 @@ use Rattle.smo_ops_spec.specs.After.{op_fault, schema_after, migrate, IsValid}
 use Rattle.smo_ops_spec.specs.Touching.{makes, consumes}
 use Rattle.smo_ops_spec.specs.Evolutions.{one_makes, one_consumes}
 use Rattle.smo_ops_spec.specs.Evolutions.{schema_after_each, carried_each, AllOperatorsAccepted}
-use Rattle.smo_ops_spec.specs.Evolutions.{operator_nodes, counted_from, members_fault}
+use Rattle.smo_ops_spec.specs.Evolutions.{operator_nodes, members_nodes, counted_from}
+use Rattle.smo_ops_spec.specs.Evolutions.{members_fault}
 use Rattle.smo_ops_spec.specs.Evolutions.{evolution_fault}
 use Rattle.smo_ops_spec.proofs.Firsts.{none_mapped}
 use Rattle.smo_ops_spec.proofs.NextSchemas.{next_is_valid}
@@ -49,6 +50,32 @@ none_refused now at (op ∷ ops) a =
 pub accepted_all : (now : Tables) (ops : List Operator) → AllOperatorsAccepted now ops
     → evolution_fault now ops ≡ None
 accepted_all now ops a = none_refused now 0 ops a
+
+-- the first that is refused, behind others that are not
+refused_from : (now : Tables) (at : ℕ) (earlier : List Operator) (op : Operator)
+    (later : List Operator) (refusal : OpRefusal) → AllOperatorsAccepted now earlier
+    → op_fault (schema_after_each now earlier) op ≡ Some refusal
+    → members_fault now at (earlier ++ op ∷ later)
+    ≡ Some (counted_from (at + members_nodes earlier) refusal)
+refused_from now at [] op later refusal a e =
+    ap (λ (o : Option OpRefusal). option_or (option_map (counted_from at) o)
+    (members_fault (schema_after now op) (at + operator_nodes op) later)) e
+    ∙ ap (λ (k : ℕ). Some (counted_from k refusal)) (omega arith)
+refused_from now at (x ∷ earlier) op later refusal a e =
+    ap (λ (o : Option OpRefusal). option_or (option_map (counted_from at) o)
+    (members_fault (schema_after now x) (at + operator_nodes x) (earlier ++ op ∷ later))) a.0
+    ∙ refused_from (schema_after now x) (at + operator_nodes x) earlier op later refusal a.1 e
+    ∙ ap (λ (k : ℕ). Some (counted_from k refusal)) (omega arith)
+
+pub refused_first : (now : Tables) (earlier : List Operator) (op : Operator)
+    (later : List Operator) (refusal : OpRefusal) → AllOperatorsAccepted now earlier
+    → op_fault (schema_after_each now earlier) op ≡ Some refusal
+    → evolution_fault now (earlier ++ op ∷ later)
+    ≡ Some (counted_from (members_nodes earlier) refusal)
+refused_first now earlier op later refusal a e =
+    let all : 0 + members_nodes earlier ≡ members_nodes earlier = omega arith in
+    refused_from now 0 earlier op later refusal a e
+    ∙ ap (λ (k : ℕ). Some (counted_from k refusal)) all
 
 pub each_is_valid : (now : Tables) (ops : List Operator) → IsValid now
     → AllOperatorsAccepted now ops → IsValid (schema_after_each now ops)

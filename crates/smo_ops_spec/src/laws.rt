@@ -18,7 +18,8 @@ ghost use Rattle.smo_ops_spec.specs.Effects.{relation_after, after_each, gained_
 ghost use Rattle.smo_ops_spec.specs.Inserting.{relation_after_each, insertions};
 ghost use Rattle.smo_ops_spec.specs.After.{op_fault, schema_after, migrate, IsValid};
 ghost use Rattle.smo_ops_spec.specs.After.{HaveFewNodes, AllHaveFewNodes};
-ghost use Rattle.smo_ops_spec.specs.Evolutions.{schema_after_each, evolution_fault};
+ghost use Rattle.smo_ops_spec.specs.Evolutions.{schema_after_each, AllOperatorsAccepted};
+ghost use Rattle.smo_ops_spec.specs.Evolutions.{members_nodes, counted_from, evolution_fault};
 ghost use Rattle.smo_ops_spec.specs.Inverses.{inverse_fault, schema_after_all};
 ghost use Rattle.smo_ops_spec.specs.Inverses.{AllAcceptedInTurn, IsFirstRefused, IsMissed};
 ghost use Rattle.smo_ops_spec.specs.Checks.{tests_after, changes_fault};
@@ -75,6 +76,24 @@ pub fn create_table_is_valid()
         → (columns : List Column) → IsDatabase tables database
         → IsDatabase (schema_after tables (create_table r columns))
         (migrate tables (create_table r columns) database) }
+{}
+
+/// Operators that together make a version are refused by the first of them that is refused on the
+/// schema behind those before it, with its refusal, in which the number of a node counts on behind
+/// the nodes of those before it. They are accepted just where each is accepted on the schema behind
+/// those before it; and one operator alone is refused as it is by itself.
+pub fn a_list_is_refused_by_its_first_refused_member()
+    ensures refused { (now : Tables) → (earlier : List Operator) → (op : Operator)
+        → (later : List Operator) → (refusal : OpRefusal) → AllOperatorsAccepted now earlier
+        → op_fault (schema_after_each now earlier) op ≡ Some refusal
+        → evolution_fault now (earlier ++ op ∷ later)
+        ≡ Some (counted_from (members_nodes earlier) refusal) }
+    ensures accepted { (now : Tables) → (ops : List Operator) → AllOperatorsAccepted now ops
+        → evolution_fault now ops ≡ None }
+    ensures each { (now : Tables) → (ops : List Operator) → evolution_fault now ops ≡ None
+        → AllOperatorsAccepted now ops }
+    ensures one { (now : Tables) → (op : Operator)
+        → evolution_fault now (op ∷ []) ≡ op_fault now op }
 {}
 
 /// Where a command's counts are within their limits, its operator and those of its inverse have few

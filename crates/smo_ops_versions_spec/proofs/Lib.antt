@@ -17,6 +17,7 @@ pub mod MappedTables
 pub mod WholeDatabases
 pub mod WorkedWords
 pub mod WorkedWays
+pub mod WorkedMembers
 pub mod NamedEntries
 pub mod LifelinesAfter
 pub mod VersionsCovered

@@ -16,21 +16,21 @@ use Rattle.smo_ops_types.specs.Commands.{PlainVersion}
 use Rattle.smo_ops_spec.specs.OneRow.{same}
 use Rattle.smo_ops_spec.specs.Making.{in_order}
 use Rattle.smo_ops_spec.specs.After.{schema_after}
+use Rattle.smo_ops_spec.specs.Evolutions.{schema_after_each}
 use Rattle.smo_ops_spec.specs.Past.{no_tables, tables_from}
 use Rattle.smo_ops_spec.proofs.NameLaws.{same_itself}
-use Rattle.smo_ops_spec.proofs.TouchedTables.{table_stays}
-use Rattle.smo_ops_versions_spec.specs.Steps.{taken}
+use Rattle.smo_ops_versions_spec.specs.Steps.{carrying_each, taken}
 use Rattle.smo_ops_versions_spec.specs.Ways.{over_version}
 use Rattle.smo_ops_versions_spec.proofs.NamedEntries.{found_under}
 use Rattle.smo_ops_versions_spec.proofs.WaySteps.{taken_stays, taken_forward}
 use Rattle.smo_ops_widths.specs.Widths.{Width, Widths, a_width, own_width, own_widths, widths_over}
 use Rattle.smo_ops_widths.specs.Widths.{widths_stepped, widths_of, measure_of, greatest}
 use Rattle.smo_ops_widths.specs.Widths.{greatest_of, put_width}
-use Rattle.smo_ops_widths.specs.Creating.{LeavesOut, LeaveOut}
+use Rattle.smo_ops_widths.specs.Creating.{AllLeaveOut, LeaveOut}
 use Rattle.smo_ops_widths.proofs.ShownLaws.{put_at}
 use Rattle.smo_ops_widths.proofs.WithinLaws.{MayBeWithin, measured_within}
 use Rattle.smo_ops_widths.proofs.OwnWithin.{own_by, own_there, maybe_itself}
-use Rattle.smo_ops_widths.proofs.NamesLeftOut.{Beside, own_stays, over_beside}
+use Rattle.smo_ops_widths.proofs.NamesLeftOut.{Beside, each_own_stays, each_beside, each_left}
 
 -- ---- where it is created
 
@@ -78,9 +78,9 @@ module _ (tables : Tables) (r : List ℕ) (cs : List Column) where
 -- ---- and behind it
 
 module _ (versions : List PlainVersion) (k : ℕ) (v : PlainVersion) (r : List ℕ)
-    (cs : List Column) (here : slice_get versions k ≡ Some v) (op : v.op ≡ create_table r cs)
+    (cs : List Column) (here : slice_get versions k ≡ Some v) (op : v.op ≡ create_table r cs ∷ [])
     (next : tables_from no_tables versions (k + 1)
-    ≡ schema_after (tables_from no_tables versions k) v.op)
+    ≡ schema_after (tables_from no_tables versions k) (create_table r cs))
     (left : LeaveOut versions (k + 1) r) where
   abbrev at : ℕ → Tables
   at j = tables_from no_tables versions j
@@ -94,21 +94,21 @@ module _ (versions : List PlainVersion) (k : ℕ) (v : PlainVersion) (r : List �
       (over_version (at k) (slice_get versions k)) w)
       (taken_stays versions widths_stepped k (own k))
       ∙ ap (λ o. taken widths_stepped (over_version (at k) o) (own k)) here
-      ∙ ap (λ (o : Operator). widths_over (at k) o (own k)) op
+      ∙ ap (λ (ops : List Operator). taken widths_stepped (carrying_each (at k) ops) (own k)) op
 
   begun : Beside r (widths_of versions (k + 1) (k + 1)) (widths_of versions k (k + 1))
   begun = subst (λ (w : Widths). Beside r w (widths_of versions k (k + 1)))
       (sym (taken_stays versions widths_stepped (k + 1) (own (k + 1))
-      ∙ ap own_widths (next ∙ ap (λ (o : Operator). schema_after (at k) o) op)))
+      ∙ ap own_widths next))
       (subst (λ (w : Widths). Beside r (own_widths (schema_after (at k) (create_table r cs))) w)
       (sym one_on) (created_beside (at k) r cs))
 
   one_more : (t : Tables) (xs ys : Widths) (o : Option PlainVersion)
-      → ((w : PlainVersion) → o ≡ Some w → LeavesOut w.op r) → Beside r xs ys
+      → ((w : PlainVersion) → o ≡ Some w → AllLeaveOut w.op r) → Beside r xs ys
       → Beside r (taken widths_stepped (over_version t o) xs)
       (taken widths_stepped (over_version t o) ys)
   one_more t xs ys None l h = h
-  one_more t xs ys (Some w) l h = over_beside t w.op r (l w refl) xs ys h
+  one_more t xs ys (Some w) l h = each_beside t w.op r (l w refl) xs ys h
 
   on_to : (n : ℕ) → Beside r (widths_of versions (k + 1) (k + 1 + n))
       (widths_of versions k (k + 1 + n))
@@ -133,7 +133,7 @@ module _ (versions : List PlainVersion) (k : ℕ) (v : PlainVersion) (r : List �
 
   module _ (l : ℕ) (behind : k + 1 ≤ l) (w : PlainVersion) (last : slice_get versions l ≡ Some w)
       (made : tables_from no_tables versions (l + 1)
-      ≡ schema_after (tables_from no_tables versions l) w.op) where
+      ≡ schema_after_each (tables_from no_tables versions l) w.op) where
     abbrev all : Widths
     all = widths_of versions (k + 1) (l + 1)
 
@@ -149,23 +149,22 @@ module _ (versions : List PlainVersion) (k : ℕ) (v : PlainVersion) (r : List �
         subst (λ (p : ℕ). Beside r (widths_of versions (k + 1) p) (widths_of versions k p)) end
         (on_to (l - k))
 
-    last_step : newest ≡ widths_over (at l) w.op (own l)
+    last_step : newest ≡ taken widths_stepped (carrying_each (at l) w.op) (own l)
     last_step = taken_forward versions widths_stepped l l (own l) (omega arith)
         ∙ ap (λ (x : Widths). taken widths_stepped
         (over_version (at l) (slice_get versions l)) x)
         (taken_stays versions widths_stepped l (own l))
         ∙ ap (λ o. taken widths_stepped (over_version (at l) o) (own l)) last
 
-    leaves : LeavesOut w.op r
+    leaves : AllLeaveOut w.op r
     leaves = left l behind w last
 
     own_newest : (columns : List Column) → get (at (l + 1)) r ≡ Some columns
         → get newest r ≡ Some own_width
     own_newest columns e =
-        let was : get (at l) r ≡ Some columns = sym (table_stays (at l) w.op r
-        (leaves.makes (at l)) (leaves.consumes (at l)))
+        let was : get (at l) r ≡ Some columns = sym (each_left (at l) w.op r leaves)
         ∙ ap (λ (t : Tables). get t r) (sym made) ∙ e in
-        ap (λ (x : Widths). get x r) last_step ∙ own_stays (at l) w.op r leaves (own l)
+        ap (λ (x : Widths). get x r) last_step ∙ each_own_stays (at l) w.op r leaves (own l)
         ∙ own_there (at l) r (ap (λ (o : Option (List Column)). is_some o) was)
 
     measured : (t : List ℕ × List Column) → In t (entries (at (l + 1)))

@@ -12,12 +12,16 @@ use Rattle.smo_ops_spec.specs.OneRow.{same}
 use Rattle.smo_ops_spec.specs.Preconditions.{among}
 use Rattle.smo_ops_spec.specs.OperatorTable.{line, made_names}
 use Rattle.smo_ops_spec.specs.Touching.{made_of}
-use Rattle.smo_ops_spec.proofs.TouchedTables.{neither}
+use Rattle.smo_ops_spec.specs.After.{schema_after}
+use Rattle.smo_ops_spec.specs.Evolutions.{schema_after_each}
+use Rattle.smo_ops_spec.proofs.TouchedTables.{neither, table_stays}
 use Rattle.smo_ops_spec.proofs.NameLaws.{same_turned}
+use Rattle.smo_ops_versions_spec.specs.Steps.{carrying_each, taken}
 use Rattle.smo_ops_widths.specs.Widths.{Width, Widths, own_width, made_widths, of_both}
 use Rattle.smo_ops_widths.specs.Widths.{part_width, merged_width, joined_width, with_size, sized_as}
 use Rattle.smo_ops_widths.specs.Widths.{sized, no_width, put_width, put_widths, widths_over}
-use Rattle.smo_ops_widths.specs.Creating.{LeavesOut}
+use Rattle.smo_ops_widths.specs.Widths.{widths_stepped}
+use Rattle.smo_ops_widths.specs.Creating.{LeavesOut, AllLeaveOut}
 use Rattle.smo_ops_widths.proofs.ShownLaws.{put_at}
 use Rattle.smo_ops_widths.proofs.WithinLaws.{MayBeWithin, AllWithin, over_within}
 
@@ -134,3 +138,28 @@ over_beside tables op r left xs ys h = record {
     step n false e = subst (λ (o : Option Width). MayBeWithin o (get (widths_over tables op ys) n))
         (other_alike tables op r left xs n e)
         (over_within tables op (remove xs r) ys h.others n)
+
+-- ---- operators one after the other
+
+pub each_own_stays : (tables : Tables) (ops : List Operator) (r : List ℕ) → AllLeaveOut ops r
+    → (xs : Widths) → get (taken widths_stepped (carrying_each tables ops) xs) r ≡ get xs r
+each_own_stays tables [] r l xs = refl
+each_own_stays tables (op ∷ ops) r l xs =
+    each_own_stays (schema_after tables op) ops r l.1 (widths_over tables op xs)
+    ∙ own_stays tables op r l.0 xs
+
+pub each_beside : (tables : Tables) (ops : List Operator) (r : List ℕ) → AllLeaveOut ops r
+    → (xs ys : Widths) → Beside r xs ys
+    → Beside r (taken widths_stepped (carrying_each tables ops) xs)
+    (taken widths_stepped (carrying_each tables ops) ys)
+each_beside tables [] r l xs ys h = h
+each_beside tables (op ∷ ops) r l xs ys h =
+    each_beside (schema_after tables op) ops r l.1 (widths_over tables op xs)
+    (widths_over tables op ys) (over_beside tables op r l.0 xs ys h)
+
+pub each_left : (tables : Tables) (ops : List Operator) (r : List ℕ) → AllLeaveOut ops r
+    → get (schema_after_each tables ops) r ≡ get tables r
+each_left tables [] r l = refl
+each_left tables (op ∷ ops) r l =
+    each_left (schema_after tables op) ops r l.1
+    ∙ table_stays tables op r (l.0.makes tables) (l.0.consumes tables)

@@ -6,10 +6,11 @@ use Rattle.std.proofs.lemmas.List.{take_all}
 use Rattle.std.specs.Prelude.{Some, None}
 use Rattle.schema_catalog.specs.Tables.{Tables}
 use Rattle.smo_ops_types.specs.declared.op.Op.{Op}
-use Rattle.smo_ops_types.specs.Operators.{Operator, operator_of, operators_of}
+use Rattle.smo_ops_types.specs.Operators.{Operator, operator_of, operators_of, evolutions_of}
 use Rattle.smo_ops_spec.specs.After.{op_fault, schema_after, HaveFewNodes}
-use Rattle.smo_ops_spec.specs.Inverses.{AllOperatorsAccepted}
+use Rattle.smo_ops_spec.specs.Evolutions.{AllOperatorsAccepted}
 use Rattle.smo_ops_spec.specs.OperatorTable.{line, made_names}
+use Rattle.smo_ops_spec.proofs.OneMembers.{members_of_ones}
 use Rattle.smo_ops_spec.specs.Losses.{Loss}
 use Rattle.smo_ops_spec.specs.WaysBack.{WayBack, by_inverse, by_filling, no_way, way_back_over}
 use Rattle.smo_ops_spec.specs.WaysBack.{blank, filled_with, operator_of_way, derived}
@@ -113,12 +114,16 @@ module _ (k : ℕ) (before after : Tables) (op : Operator) (entries : List (List
     (shown : Widths) where
   pub back_by_none : (ops : List Op) → length ops ≡ 0
       → Show entries (widths_stepped (step_back (k, 1) before op) shown)
-      → Show entries (taken widths_stepped (back_over k before op after (operators_of ops)) shown)
+      → Show entries (taken widths_stepped (back_over k before (op ∷ []) after
+      (evolutions_of ops)) shown)
   back_by_none [] l s = s
   back_by_none (x ∷ xs) l s = absurd (omega (arith, l))
 
   pub back_by_each : (ops : List Op) → 1 ≤ length ops
       → Show entries (taken widths_stepped (carrying_each after (operators_of ops)) shown)
-      → Show entries (taken widths_stepped (back_over k before op after (operators_of ops)) shown)
+      → Show entries (taken widths_stepped (back_over k before (op ∷ []) after
+      (evolutions_of ops)) shown)
   back_by_each [] l s = absurd (omega arith)
-  back_by_each (x ∷ xs) l s = s
+  back_by_each (x ∷ xs) l s = subst (λ (ops : List Operator).
+      Show entries (taken widths_stepped (carrying_each after ops) shown))
+      (sym (members_of_ones (operators_of (x ∷ xs)))) s

@@ -1,16 +1,19 @@
 -- Versions that need not be read from, by their places in the code.
-use Rattle.std.proofs.Common.{◌≡◌, ◌+◌, ◌<◌, ◌≤◌, ℕ, suc, Bool, false, List, map, length, get_or}
-use Rattle.std.proofs.Common.{max, refl, sym, ap, subst, ◌∙◌, arith}
+use Rattle.std.proofs.Common.{◌≡◌, ◌+◌, ◌<◌, ◌≤◌, ℕ, suc, Bool, false, List, [], ◌∷◌, map, length}
+use Rattle.std.proofs.Common.{get_or, max, refl, sym, ap, subst, ◌∙◌, arith}
 use Rattle.std.specs.Prelude.{None}
 use Rattle.prima_base.specs.Columns.{Column}
 use Rattle.schema_catalog.specs.Tables.{Tables}
 use Rattle.smo_ops_types.specs.declared.version.Version.{Version}
-use Rattle.smo_ops_types.specs.Operators.{Operator, operator_of, nop, create_table, drop_table}
+use Rattle.smo_ops_types.specs.Operators.{Operator, operator_of, evolution_of, nop}
+use Rattle.smo_ops_types.specs.Operators.{create_table, drop_table}
 use Rattle.smo_ops_types.specs.Operators.{rename_table, copy_table, merge_table, partition_table}
 use Rattle.smo_ops_types.specs.Operators.{decompose_table, join_table, add_column, drop_column}
 use Rattle.smo_ops_types.specs.Operators.{rename_column}
 use Rattle.smo_ops_types.specs.Commands.{PlainVersion, version_of}
 use Rattle.smo_ops_spec.specs.After.{op_fault, schema_after}
+use Rattle.smo_ops_spec.specs.Evolutions.{schema_after_each, evolution_fault}
+use Rattle.smo_ops_spec.proofs.OneMembers.{one_member_fault}
 use Rattle.smo_ops_spec.specs.Past.{no_tables, tables_from}
 use Rattle.smo_ops_spec.specs.ValidPast.{AreVersions}
 use Rattle.smo_ops_widths.specs.Widths.{greatest_of, widest_with, with_version}
@@ -20,7 +23,7 @@ use Rattle.smo_ops_widths.proofs.VersionLaws.{tables_last, newest_here, new, new
 use Rattle.smo_ops_widths.proofs.ReadFrom.{read_before}
 use Rattle.smo_ops_widths.proofs.CreatedBeside.{read_beside}
 
-module _ (vs : List Version) (stamp : ℕ) (op : Operator) (inverse : List Operator)
+module _ (vs : List Version) (stamp : ℕ) (op : List Operator) (inverse : List (List Operator))
     (are : AreVersions None no_tables (map version_of vs)) (k : ℕ) (v : Version)
     (l : k < length vs) (e : v ≡ get_or vs k v) where
   abbrev all : List PlainVersion
@@ -33,7 +36,8 @@ module _ (vs : List Version) (stamp : ℕ) (op : Operator) (inverse : List Opera
   here = tables_before vs stamp op inverse k (omega (arith, l))
 
   accepted : op_fault (at k) (operator_of v.op) ≡ None
-  accepted = subst (λ (t : Tables). op_fault t (operator_of v.op) ≡ None) (sym here)
+  accepted = sym (one_member_fault (at k) (operator_of v.op))
+      ∙ subst (λ (t : Tables). evolution_fault t (evolution_of v.op) ≡ None) (sym here)
       (version_leads vs are k v l e).accepted
 
   next : at (k + 1) ≡ schema_after (at k) (operator_of v.op)
@@ -48,8 +52,8 @@ module _ (vs : List Version) (stamp : ℕ) (op : Operator) (inverse : List Opera
       → greatest_of all (k + 1) last
       ≤ max (widest_with all last (suc k)) (greatest_of all (length vs) last)
   other_read none =
-      let less = read_before all k (version_of v) (version_here vs stamp op inverse k v l e) none
-      accepted next last (omega (arith, l)) in
+      let less = read_before all k (version_of v) (version_here vs stamp op inverse k v l e)
+      (operator_of v.op) refl none accepted next last (omega (arith, l)) in
       omega (arith, less)
 
   module _ (these : List ℕ → Bool) (named : NameAll these (with_version (map version_of vs) stamp
@@ -59,10 +63,11 @@ module _ (vs : List Version) (stamp : ℕ) (op : Operator) (inverse : List Opera
         ≤ max (widest_with all last (suc k)) (greatest_of all (length vs) last)
     created_read r cs is free =
         let less = read_beside all k (version_of v) r cs
-        (version_here vs stamp op inverse k v l e) is next (named r free) (length vs)
+        (version_here vs stamp op inverse k v l e) (ap (λ (o : Operator). o ∷ []) is)
+        (next ∙ ap (λ (o : Operator). schema_after (at k) o) is) (named r free) (length vs)
         (omega (arith, l)) (new vs stamp op inverse) (new_here vs stamp op inverse)
         (tables_last vs stamp op inverse
-        ∙ ap (λ (t : Tables). schema_after t op) (sym (newest_here vs stamp op inverse))) in
+        ∙ ap (λ (t : Tables). schema_after_each t op) (sym (newest_here vs stamp op inverse))) in
         omega (arith, less)
 
     read_by : (o : Operator) → operator_of v.op ≡ o → creates_one these o ≡ false
@@ -82,7 +87,8 @@ module _ (vs : List Version) (stamp : ℕ) (op : Operator) (inverse : List Opera
     read_by (rename_column b r x) is c = other_read (ap creates is)
 
 -- what is read from version j is no greater than what is read from one before, or from the newest
-pub read_less : (vs : List Version) (stamp : ℕ) (op : Operator) (inverse : List Operator)
+pub read_less : (vs : List Version) (stamp : ℕ) (op : List Operator)
+    (inverse : List (List Operator))
     → AreVersions None no_tables (map version_of vs) → (k j : ℕ) (v : Version) → k < length vs
     → v ≡ get_or vs k v → k + 1 ≡ j → (these : List ℕ → Bool)
     → NameAll these (with_version (map version_of vs) stamp op inverse) j

@@ -6,16 +6,19 @@ use Rattle.std.specs.Prelude.{Some, None, slice_get}
 use Rattle.schema_catalog.specs.Tables.{Tables}
 use Rattle.smo_ops_types.specs.declared.version.Version.{Version}
 use Rattle.smo_ops_types.specs.Operators.{Operator, operator_of, operators_of}
+use Rattle.smo_ops_types.specs.Operators.{evolution_of, evolutions_of}
 use Rattle.smo_ops_types.specs.Commands.{PlainVersion, version_of}
-use Rattle.smo_ops_spec.specs.After.{schema_after, HaveFewNodes}
-use Rattle.smo_ops_spec.specs.Inverses.{inverse_fault, AllOperatorsAccepted}
+use Rattle.smo_ops_spec.specs.After.{HaveFewNodes}
+use Rattle.smo_ops_spec.specs.Evolutions.{schema_after_each, AllOperatorsAccepted}
+use Rattle.smo_ops_spec.specs.Inverses.{inverse_fault, AllAcceptedInTurn}
 use Rattle.smo_ops_spec.specs.Past.{no_tables, tables_from, newest_from}
 use Rattle.smo_ops_spec.specs.ValidPast.{AreVersions}
 use Rattle.smo_ops_spec.proofs.CountedOperators.{counted_inverse}
 use Rattle.smo_ops_spec.proofs.PastMoments.{newest_tables_from, tables_added}
 use Rattle.smo_ops_spec.proofs.ValidInverses.{accepted_leads_back}
+use Rattle.smo_ops_spec.proofs.OneMembers.{accepted_ones, few_nodes_of_ones}
 use Rattle.smo_ops_operators.proofs.VersionPlaces.{version_at_place}
-use Rattle.smo_ops_versions_spec.specs.Steps.{Step, taken}
+use Rattle.smo_ops_versions_spec.specs.Steps.{Step, carrying_each, taken}
 use Rattle.smo_ops_versions_spec.specs.Ways.{back_over, over_version, back_over_version, to_next}
 use Rattle.smo_ops_widths.specs.Widths.{widths_over, widths_stepped, widths_of}
 use Rattle.smo_ops_widths.specs.Widths.{own_widths, with_version}
@@ -67,12 +70,12 @@ on_step vs k v before stored l e b low =
 pub back_step : (vs : List Version) (k : ℕ) (v : Version) (before : Tables) (stored : ℕ)
     → k < length vs → v ≡ get_or vs k v → before ≡ tables_from no_tables (map version_of vs) k
     → k < stored
-    → taken widths_stepped (back_over (k + 1) before (operator_of v.op) v.schema
-    (operators_of v.inverse.items)) (widths_of (map version_of vs) stored (k + 1))
+    → taken widths_stepped (back_over (k + 1) before (evolution_of v.op) v.schema
+    (evolutions_of v.inverse.items)) (widths_of (map version_of vs) stored (k + 1))
     ≡ widths_of (map version_of vs) stored k
 back_step vs k v before stored l e b low =
-    ap (λ (t : Tables). taken widths_stepped (back_over (k + 1) t (operator_of v.op) v.schema
-    (operators_of v.inverse.items)) (widths_of (map version_of vs) stored (k + 1))) b
+    ap (λ (t : Tables). taken widths_stepped (back_over (k + 1) t (evolution_of v.op) v.schema
+    (evolutions_of v.inverse.items)) (widths_of (map version_of vs) stored (k + 1))) b
     ∙ sym (ap (λ o. taken widths_stepped (back_over_version (k + 1)
     (tables_from no_tables (map version_of vs) k) o)
     (widths_of (map version_of vs) stored (k + 1))) (version_at_place vs k v l e))
@@ -81,7 +84,8 @@ back_step vs k v before stored l e b low =
 
 -- ---- with one more
 
-module _ (vs : List Version) (stamp : ℕ) (op : Operator) (inverse : List Operator) where
+module _ (vs : List Version) (stamp : ℕ) (op : List Operator)
+    (inverse : List (List Operator)) where
   abbrev plain : List PlainVersion
   plain = map version_of vs
 
@@ -94,7 +98,7 @@ module _ (vs : List Version) (stamp : ℕ) (op : Operator) (inverse : List Opera
     op = op;
     inverse = inverse;
     tables =
-        schema_after (newest_from no_tables (map version_of vs)) op;
+        schema_after_each (newest_from no_tables (map version_of vs)) op;
   }
 
   abbrev all : List PlainVersion
@@ -121,7 +125,7 @@ module _ (vs : List Version) (stamp : ℕ) (op : Operator) (inverse : List Opera
       ∙ ap (tables_from no_tables plain) (sym count) ∙ newest_tables_from no_tables plain
 
   pub tables_last : tables_from no_tables (with_version (map version_of vs) stamp op inverse)
-      (length vs + 1) ≡ schema_after (newest_from no_tables (map version_of vs)) op
+      (length vs + 1) ≡ schema_after_each (newest_from no_tables (map version_of vs)) op
   tables_last = (let further : length vs + 1 ≡ suc (length plain) = omega (arith, count) in
       ap (tables_from no_tables all) further ∙ tables_added no_tables plain new)
 
@@ -169,14 +173,16 @@ module _ (vs : List Version) (stamp : ℕ) (op : Operator) (inverse : List Opera
 
   pub last_step : (before : Tables) (stored : ℕ) → stored ≤ length vs
       → before ≡ tables_from no_tables (map version_of vs) (length vs)
-      → widths_over before op (widths_of (map version_of vs) stored (length vs))
+      → taken widths_stepped (carrying_each before op)
+      (widths_of (map version_of vs) stored (length vs))
       ≡ widths_of (with_version (map version_of vs) stamp op inverse) stored (length vs + 1)
   last_step before stored l b =
       let end : stored + (length vs - stored) ≡ length vs = omega (arith, l) in
       let fits : stored + (length vs - stored) ≤ length vs = omega (arith, l) in
-      ap (λ (t : Tables). widths_over t op (widths_of plain stored (length vs)))
+      ap (λ (t : Tables). taken widths_stepped (carrying_each t op)
+      (widths_of plain stored (length vs)))
       (b ∙ sym (tables_before (length vs) (omega arith)))
-      ∙ ap (widths_over (tables_from no_tables all (length vs)) op)
+      ∙ ap (taken widths_stepped (carrying_each (tables_from no_tables all (length vs)) op))
       (sym (ap (widths_of all stored) (sym end) ∙ same_on stored (length vs - stored) fits
       ∙ ap (widths_of plain stored) end))
       ∙ sym (ap (λ o. taken widths_stepped (over_version (tables_from no_tables all (length vs)) o)
@@ -186,7 +192,7 @@ module _ (vs : List Version) (stamp : ℕ) (op : Operator) (inverse : List Opera
 
   -- back
 
-  pub own_last : own_widths (schema_after (newest_from no_tables (map version_of vs)) op)
+  pub own_last : own_widths (schema_after_each (newest_from no_tables (map version_of vs)) op)
       ≡ widths_of (with_version (map version_of vs) stamp op inverse) (length vs + 1)
       (length vs + 1)
   own_last = ap own_widths (sym tables_last)
@@ -194,7 +200,7 @@ module _ (vs : List Version) (stamp : ℕ) (op : Operator) (inverse : List Opera
       (own_widths (tables_from no_tables all (length vs + 1))))
 
   pub first_step_back : (next : Tables)
-      → next ≡ schema_after (newest_from no_tables (map version_of vs)) op
+      → next ≡ schema_after_each (newest_from no_tables (map version_of vs)) op
       → taken widths_stepped (back_over (length vs + 1)
       (newest_from no_tables (map version_of vs)) op next inverse)
       (widths_of (with_version (map version_of vs) stamp op inverse) (length vs + 1)
@@ -205,7 +211,7 @@ module _ (vs : List Version) (stamp : ℕ) (op : Operator) (inverse : List Opera
       ap (λ (t : Tables). taken widths_stepped (back_over (length vs + 1) newest op t inverse)
       (widths_of all (length vs + 1) (length vs + 1))) n
       ∙ sym (ap (λ (t : Tables). taken widths_stepped (back_over (length vs + 1) t op
-      (schema_after newest op) inverse) (widths_of all (length vs + 1) (length vs + 1)))
+      (schema_after_each newest op) inverse) (widths_of all (length vs + 1) (length vs + 1)))
       newest_here)
       ∙ sym (ap (λ o. taken widths_stepped (back_over_version (length vs + 1)
       (tables_from no_tables all (length vs)) o) (widths_of all (length vs + 1) (length vs + 1)))
@@ -216,7 +222,7 @@ module _ (vs : List Version) (stamp : ℕ) (op : Operator) (inverse : List Opera
   pub step_back : (k : ℕ) (v : Version) → k < length vs → v ≡ get_or vs k v
       → taken widths_stepped (back_over (k + 1)
       (tables_from no_tables (with_version (map version_of vs) stamp op inverse) k)
-      (operator_of v.op) v.schema (operators_of v.inverse.items))
+      (evolution_of v.op) v.schema (evolutions_of v.inverse.items))
       (widths_of (with_version (map version_of vs) stamp op inverse) (length vs + 1) (k + 1))
       ≡ widths_of (with_version (map version_of vs) stamp op inverse) (length vs + 1) k
   step_back k v l e =
@@ -235,12 +241,12 @@ newest_at vs = ap (tables_from no_tables (map version_of vs)) (sym (mapped vs))
 
 -- ---- the inverses of versions
 
-pub accepted_back : (before after : Tables) (op : Operator) (inverse : List Operator)
-    → after ≡ schema_after before op → inverse_fault before op inverse ≡ None
-    → AllOperatorsAccepted after inverse
+pub accepted_back : (before after : Tables) (op : List Operator) (inverse : List (List Operator))
+    → after ≡ schema_after_each before op → inverse_fault before op inverse ≡ None
+    → AllAcceptedInTurn after inverse
 accepted_back before after op [] a i = tt
 accepted_back before after op (x ∷ inverse) a i =
-    subst (λ (t : Tables). AllOperatorsAccepted t (x ∷ inverse)) (sym a)
+    subst (λ (t : Tables). AllAcceptedInTurn t (x ∷ inverse)) (sym a)
     (accepted_leads_back before op x inverse i).0
 
 module _ (vs : List Version) (are : AreVersions None no_tables (map version_of vs)) (k : ℕ)
@@ -251,9 +257,10 @@ module _ (vs : List Version) (are : AreVersions None no_tables (map version_of v
       (version_at_place vs k v l e)
 
   pub version_few : HaveFewNodes (operators_of v.inverse.items)
-  version_few = counted_inverse (operator_of v.op) (operators_of v.inverse.items)
-      version_leads.counted
+  version_few = few_nodes_of_ones (operators_of v.inverse.items)
+      (counted_inverse (evolution_of v.op) (evolutions_of v.inverse.items) version_leads.counted)
 
   pub version_accepted : AllOperatorsAccepted v.schema (operators_of v.inverse.items)
-  version_accepted = accepted_back (tables_from no_tables (map version_of vs) k) v.schema
-      (operator_of v.op) (operators_of v.inverse.items) version_leads.tables version_leads.inverse
+  version_accepted = accepted_ones v.schema (operators_of v.inverse.items)
+      (accepted_back (tables_from no_tables (map version_of vs) k) v.schema (evolution_of v.op)
+      (evolutions_of v.inverse.items) version_leads.tables version_leads.inverse)

@@ -6,17 +6,17 @@ use Rattle.std.proofs.lemmas.Option.{slice_get_within}
 use Rattle.std.specs.Prelude.{Option, Some, None, slice_get}
 use Rattle.schema_catalog.specs.Tables.{Tables}
 use Rattle.smo_ops_types.specs.declared.version.Version.{Version}
-use Rattle.smo_ops_types.specs.Operators.{Operator, operator_of, operators_of}
+use Rattle.smo_ops_types.specs.Operators.{Operator, evolution_of, evolutions_of}
 use Rattle.smo_ops_types.specs.Commands.{PlainVersion, version_of}
-use Rattle.smo_ops_spec.specs.After.{op_fault, schema_after}
-use Rattle.smo_ops_spec.specs.Inverses.{inverse_fault, AllOperatorsAccepted}
+use Rattle.smo_ops_spec.specs.Evolutions.{schema_after_each, evolution_fault}
+use Rattle.smo_ops_spec.specs.Inverses.{inverse_fault, AllAcceptedInTurn}
 use Rattle.smo_ops_spec.specs.Past.{no_tables, tables_from, newest_from}
 use Rattle.smo_ops_versions_spec.specs.Steps.{taken}
 use Rattle.smo_ops_versions_spec.specs.Ways.{back_over}
 use Rattle.smo_ops_widths.specs.declared.width.TableWidth.{TableWidth}
 use Rattle.smo_ops_widths.specs.Widths.{Widths, own_widths, widths_of, widths_stepped, with_version}
 use Rattle.smo_ops_widths.specs.Widths.{widest, widest_with, greatest_of}
-use Rattle.smo_ops_widths.specs.Creating.{LeavesOut, NameAll}
+use Rattle.smo_ops_widths.specs.Creating.{AllLeaveOut, NameAll}
 use Rattle.smo_ops_widths.specs.Counted.{stopped}
 use Rattle.smo_ops_widths.specs.Shown.{Show}
 use Rattle.smo_ops_widths.proofs.StoppedLaws.{same_at_most, first_read}
@@ -28,30 +28,30 @@ the_same : {v w : PlainVersion} → ◌≡◌ {A = Option PlainVersion} (Some v)
 the_same e = cc
 
 -- what going back over an operator does to widths
-abbrev pub GoesBack : List (List ℕ × TableWidth) → List (List ℕ × TableWidth) → Tables → Operator
-    → Tables → List Operator → Type 0
+abbrev pub GoesBack : List (List ℕ × TableWidth) → List (List ℕ × TableWidth) → Tables
+    → List Operator → Tables → List (List Operator) → Type 0
 GoesBack old new before op after inverse = (k : ℕ) → (shown : Widths)
     → Show old shown → Show new (taken widths_stepped (back_over k before op after inverse) shown)
 
-module _ (vs : List Version) (op : Operator) (inverse : List Operator) where
+module _ (vs : List Version) (op : List Operator) (inverse : List (List Operator)) where
   -- the schema that the code takes behind the operator, from the tables of the newest version
   module _ (newest next : Tables)
       (n : newest ≡ tables_from no_tables (map version_of vs) (length vs)) where
     newest_is : newest ≡ newest_from no_tables (map version_of vs)
     newest_is = n ∙ newest_at vs
 
-    pub accepted_here : op_fault (newest_from no_tables (map version_of vs)) op ≡ None
-        → op_fault newest op ≡ None
-    accepted_here a = ap (λ (t : Tables). op_fault t op) newest_is ∙ a
+    pub accepted_here : evolution_fault (newest_from no_tables (map version_of vs)) op ≡ None
+        → evolution_fault newest op ≡ None
+    accepted_here a = ap (λ (t : Tables). evolution_fault t op) newest_is ∙ a
 
-    pub next_here : next ≡ schema_after newest op
-        → next ≡ schema_after (newest_from no_tables (map version_of vs)) op
-    next_here e = e ∙ ap (λ (t : Tables). schema_after t op) newest_is
+    pub next_here : next ≡ schema_after_each newest op
+        → next ≡ schema_after_each (newest_from no_tables (map version_of vs)) op
+    next_here e = e ∙ ap (λ (t : Tables). schema_after_each t op) newest_is
 
   pub inverse_accepted : (next : Tables)
-      → next ≡ schema_after (newest_from no_tables (map version_of vs)) op
+      → next ≡ schema_after_each (newest_from no_tables (map version_of vs)) op
       → inverse_fault (newest_from no_tables (map version_of vs)) op inverse ≡ None
-      → AllOperatorsAccepted next inverse
+      → AllAcceptedInTurn next inverse
   inverse_accepted next e i = accepted_back (newest_from no_tables (map version_of vs)) next op
       inverse e i
 
@@ -62,7 +62,7 @@ module _ (vs : List Version) (op : Operator) (inverse : List Operator) where
     -- the widths of the newest of the versions before, read from the new one
     pub shown_first : (newest next : Tables) (old new : List (List ℕ × TableWidth))
         → newest ≡ newest_from no_tables (map version_of vs)
-        → next ≡ schema_after (newest_from no_tables (map version_of vs)) op
+        → next ≡ schema_after_each (newest_from no_tables (map version_of vs)) op
         → Show old (own_widths next) → GoesBack old new newest op next inverse
         → Show new (widths_of (with_version (map version_of vs) stamp op inverse)
         (length vs + 1) (length vs))
@@ -81,12 +81,12 @@ module _ (vs : List Version) (op : Operator) (inverse : List Operator) where
         → before ≡ tables_from no_tables (map version_of vs) j
         → Show old (widths_of (with_version (map version_of vs) stamp op inverse)
         (length vs + 1) k)
-        → GoesBack old new before (operator_of v.op) v.schema (operators_of v.inverse.items)
+        → GoesBack old new before (evolution_of v.op) v.schema (evolutions_of v.inverse.items)
         → Show new (widths_of (with_version (map version_of vs) stamp op inverse)
         (length vs + 1) j)
     shown_next k j v before old new e l is b s back =
         subst (λ (w : Widths). Show new w) (ap (λ (t : Tables). taken widths_stepped
-        (back_over (j + 1) t (operator_of v.op) v.schema (operators_of v.inverse.items))
+        (back_over (j + 1) t (evolution_of v.op) v.schema (evolutions_of v.inverse.items))
         (widths_of all (length vs + 1) (j + 1)))
         (b ∙ sym (tables_before vs stamp op inverse j (omega (arith, l))))
         ∙ step_back vs stamp op inverse j v l is)
@@ -127,11 +127,11 @@ module _ (vs : List Version) (op : Operator) (inverse : List Operator) where
 
     -- the names of one operator more
     pub named_first : (these : List ℕ → Bool)
-        → ((n : List ℕ) → these n ≡ false → LeavesOut op n)
+        → ((n : List ℕ) → these n ≡ false → AllLeaveOut op n)
         → NameAll these (with_version (map version_of vs) stamp op inverse) (length vs)
     named_first these leaves n f j low w is = step (cases_lt (length vs) j)
       where
-        step : (length vs < j) ⊎ (j ≤ length vs) → LeavesOut w.op n
+        step : (length vs < j) ⊎ (j ≤ length vs) → AllLeaveOut w.op n
         step (inl l) =
             let inside = slice_get_within all j w is in
             let count = all_count vs stamp op inverse in
@@ -140,24 +140,24 @@ module _ (vs : List Version) (op : Operator) (inverse : List Operator) where
             let same_place : j ≡ length vs = omega (arith, low, l) in
             let is_new : ◌≡◌ {A = Option PlainVersion} (Some (new vs stamp op inverse)) (Some w) =
             sym (new_here vs stamp op inverse) ∙ sym (ap (slice_get all) same_place) ∙ is in
-            subst (λ (x : PlainVersion). LeavesOut x.op n) (the_same is_new) (leaves n f)
+            subst (λ (x : PlainVersion). AllLeaveOut x.op n) (the_same is_new) (leaves n f)
 
     pub named_next : (old new_ones : List ℕ → Bool) (k j : ℕ) (v : Version) → j + 1 ≡ k
         → j < length vs → v ≡ get_or vs j v
         → ((n : List ℕ) → new_ones n ≡ false
-        → (old n ≡ false) × LeavesOut (operator_of v.op) n)
+        → (old n ≡ false) × AllLeaveOut (evolution_of v.op) n)
         → NameAll old (with_version (map version_of vs) stamp op inverse) k
         → NameAll new_ones (with_version (map version_of vs) stamp op inverse) j
     named_next old new_ones k j v e l is leaves named n f i low w here = step (cases_lt j i)
       where
-        step : (j < i) ⊎ (i ≤ j) → LeavesOut w.op n
+        step : (j < i) ⊎ (i ≤ j) → AllLeaveOut w.op n
         step (inl m) = named n (leaves n f).0 i (omega (arith, m, e)) w here
         step (inr m) =
             let same_place : i ≡ j = omega (arith, low, m) in
             let is_this : ◌≡◌ {A = Option PlainVersion} (Some (version_of v)) (Some w) =
             sym (version_here vs stamp op inverse j v l is)
             ∙ sym (ap (slice_get all) same_place) ∙ here in
-            subst (λ (x : PlainVersion). LeavesOut x.op n) (the_same is_this) (leaves n f).1
+            subst (λ (x : PlainVersion). AllLeaveOut x.op n) (the_same is_this) (leaves n f).1
 
     -- and in the end
     pub most_last : (k most : ℕ) → k ≡ 0

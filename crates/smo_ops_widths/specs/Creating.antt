@@ -1,6 +1,6 @@
 -- Operators that create a table, and those that name one: from a version that creates none, or one
 -- that no later operator names, the tables of a later version need not be read.
-use Rattle.std.specs.Prelude.{◌≡◌, ◌≤◌, ℕ, Bool, true, false, List, Some, slice_get}
+use Rattle.std.specs.Prelude.{◌≡◌, ◌≤◌, ℕ, Bool, true, false, List, [], ◌∷◌, Some, slice_get, ⊤}
 use Rattle.schema_catalog.specs.Tables.{Tables}
 use Rattle.smo_ops_types.specs.Operators.{Operator, nop, create_table, drop_table, rename_table}
 use Rattle.smo_ops_types.specs.Operators.{copy_table, merge_table, partition_table, decompose_table}
@@ -33,10 +33,15 @@ pub record LeavesOut (op : Operator) (n : List ℕ) : Type 0 where
   pub consumes : (tables : Tables) → consumes tables op n ≡ false
   pub reads : among n (made_of op) ≡ false
 
+-- and so does each of several
+abbrev pub AllLeaveOut : List Operator → List ℕ → Type 0
+AllLeaveOut [] n = ⊤
+AllLeaveOut (op ∷ ops) n = LeavesOut op n × AllLeaveOut ops n
+
 -- the operators behind version k leave the table out
 abbrev pub LeaveOut : List PlainVersion → ℕ → List ℕ → Type 0
 LeaveOut versions k n = (j : ℕ) → k ≤ j → (v : PlainVersion) → slice_get versions j ≡ Some v
-    → LeavesOut v.op n
+    → AllLeaveOut v.op n
 
 -- they do so with each name that is not one of these
 abbrev pub NameAll : (List ℕ → Bool) → List PlainVersion → ℕ → Type 0

@@ -18,7 +18,7 @@ use Rattle.smo_ops_types.specs.Commands.{PlainVersion}
 use Rattle.smo_ops_spec.specs.OneRow.{same}
 use Rattle.smo_ops_spec.specs.Preconditions.{among}
 use Rattle.smo_ops_spec.specs.OperatorTable.{line, made_names}
-use Rattle.smo_ops_spec.specs.After.{schema_after}
+use Rattle.smo_ops_spec.specs.Evolutions.{schema_after_each}
 use Rattle.smo_ops_spec.specs.Past.{no_tables, tables_from, newest_from}
 use Rattle.smo_ops_spec.specs.WaysBack.{blank, filled_with}
 use Rattle.smo_ops_versions_spec.specs.Steps.{Step, carrying, filling, undoing, taken}
@@ -198,12 +198,13 @@ widest_with versions k (suc v) = max (max (greatest_of versions v k) (greatest_o
 abbrev pub widest : List PlainVersion → ℕ
 widest versions = min (2 ^ 63) (widest_with versions (length versions) (length versions))
 
--- the versions with one more, which the operator makes at this stamp
-abbrev pub with_version : List PlainVersion → ℕ → Operator → List Operator → List PlainVersion
+-- the versions with one more, which the operator, a list of members, makes at this stamp
+abbrev pub with_version : List PlainVersion → ℕ → List Operator → List (List Operator)
+    → List PlainVersion
 with_version versions stamp op inverse = versions ++ record {
   stamp = stamp;
   op = op;
   inverse = inverse;
   tables =
-      schema_after (newest_from no_tables versions) op;
+      schema_after_each (newest_from no_tables versions) op;
 } ∷ []

@@ -3,9 +3,11 @@ ghost use Rattle.std.specs.Prelude.{◌-◌, max, true, false, get_or};
 ghost use Rattle.std.specs.BTreeSet.{contains};
 ghost use Rattle.prima_base.specs.Order.{bytes_cmp};
 ghost use Rattle.smo_ops_types.specs.declared.version.Version.{Version};
-ghost use Rattle.smo_ops_types.specs.Operators.{Operator, operator_of, operators_of};
+ghost use Rattle.smo_ops_types.specs.Operators.{Operator, operator_of, evolution_of};
+ghost use Rattle.smo_ops_types.specs.Operators.{evolutions_of};
 ghost use Rattle.smo_ops_types.specs.Commands.{versions_of};
-ghost use Rattle.smo_ops_spec.specs.After.{op_fault, schema_after, HasFewNodes, HaveFewNodes};
+ghost use Rattle.smo_ops_spec.specs.After.{HaveFewNodes, AllHaveFewNodes};
+ghost use Rattle.smo_ops_spec.specs.Evolutions.{schema_after_each, evolution_fault};
 ghost use Rattle.smo_ops_spec.specs.Inverses.{inverse_fault};
 ghost use Rattle.smo_ops_spec.specs.Past.{no_tables, tables_from, newest_from};
 ghost use Rattle.smo_ops_spec.specs.ValidPast.{AreVersions};
@@ -44,11 +46,11 @@ fn measure_on(
     stored: usize,
 ) -> Result<u64, NoMemory>
     requires there { stored ≤ length versions.now.list.items }
-    requires next { next.now ≡ schema_after (newest_from no_tables (versions_of versions.now))
-        (operator_of op.now) }
-    ensures { IfOk result (λ most. (stamp : ℕ) → (inverse : List Operator)
+    requires next { next.now ≡ schema_after_each
+        (newest_from no_tables (versions_of versions.now)) (evolution_of op.now) }
+    ensures { IfOk result (λ most. (stamp : ℕ) → (inverse : List (List Operator))
         → most ≡ stopped (greatest_of (with_version (versions_of versions.now) stamp
-        (operator_of op.now) inverse) stored (length versions.now.list.items + 1))) }
+        (evolution_of op.now) inverse) stored (length versions.now.list.items + 1))) }
 {
     let last = versions.list.len();
     let mut widths = widths_ahead(alloc, versions, stored, last)?;
@@ -86,20 +88,20 @@ fn measure_at(
 ) -> Result<u64, NoMemory>
     requires there { k < length versions.now.list.items }
     requires versions { AreVersions None no_tables (versions_of versions.now) }
-    requires next { next.now ≡ schema_after (newest_from no_tables (versions_of versions.now))
-        (operator_of op.now) }
-    ensures { IfOk result (λ more. (stamp : ℕ) → (inverse : List Operator)
+    requires next { next.now ≡ schema_after_each
+        (newest_from no_tables (versions_of versions.now)) (evolution_of op.now) }
+    ensures { IfOk result (λ more. (stamp : ℕ) → (inverse : List (List Operator))
         → Show widths.now.entries (widths_of (with_version (versions_of versions.now) stamp
-        (operator_of op.now) inverse) (length versions.now.list.items + 1) k)
+        (evolution_of op.now) inverse) (length versions.now.list.items + 1) k)
         → NameAll (contains bytes_cmp names.now) (with_version (versions_of versions.now) stamp
-        (operator_of op.now) inverse) k
+        (evolution_of op.now) inverse) k
         → (most : ℕ) → stopped (greatest_of (with_version (versions_of versions.now) stamp
-        (operator_of op.now) inverse) (length versions.now.list.items)
+        (evolution_of op.now) inverse) (length versions.now.list.items)
         (length versions.now.list.items + 1)) ≤ most
         → stopped (max (max most more) (widest_with (with_version (versions_of versions.now) stamp
-        (operator_of op.now) inverse) (length versions.now.list.items + 1) k))
+        (evolution_of op.now) inverse) (length versions.now.list.items + 1) k))
         ≡ stopped (max most (widest_with (with_version (versions_of versions.now) stamp
-        (operator_of op.now) inverse) (length versions.now.list.items + 1) (suc k)))) }
+        (evolution_of op.now) inverse) (length versions.now.list.items + 1) (suc k)))) }
 {
     let nothing = Schema::empty(alloc);
     let back = greatest(tables_at(&nothing, versions, k), widths);
@@ -118,14 +120,14 @@ fn measure_at(
 /// back.
 pub fn widest(alloc: Global, versions: &Versions, op: &Op, inverse: &[Op]) -> Result<u64, NoMemory>
     requires versions { AreVersions None no_tables (versions_of versions.now) }
-    requires accepted { op_fault (newest_from no_tables (versions_of versions.now))
-        (operator_of op.now) ≡ None }
-    requires operator { HasFewNodes (operator_of op.now) }
-    requires few { HaveFewNodes (operators_of inverse.now) }
+    requires accepted { evolution_fault (newest_from no_tables (versions_of versions.now))
+        (evolution_of op.now) ≡ None }
+    requires operator { HaveFewNodes (evolution_of op.now) }
+    requires few { AllHaveFewNodes (evolutions_of inverse.now) }
     requires inverse { inverse_fault (newest_from no_tables (versions_of versions.now))
-        (operator_of op.now) (operators_of inverse.now) ≡ None }
+        (evolution_of op.now) (evolutions_of inverse.now) ≡ None }
     ensures { (stamp : ℕ) → IfOk result (λ most. most ≡ widest (with_version
-        (versions_of versions.now) stamp (operator_of op.now) (operators_of inverse.now))) }
+        (versions_of versions.now) stamp (evolution_of op.now) (evolutions_of inverse.now))) }
 {
     let nothing = Schema::empty(alloc);
     let mut k = versions.list.len();

@@ -7,9 +7,10 @@ ghost use Rattle.std.specs.FinMap.{get};
 ghost use Rattle.schema_catalog.specs.Tables.{Tables, columns_of};
 ghost use Rattle.cond_expr.specs.Seen.{tree, test};
 ghost use Rattle.smo_ops_types.specs.Operators.{Operator, operator_of, operators_of};
+ghost use Rattle.smo_ops_types.specs.Operators.{evolution_of, evolutions_of};
 ghost use Rattle.smo_ops_spec.specs.After.{schema_after, HaveFewNodes};
 ghost use Rattle.smo_ops_spec.specs.Losses.{Loss};
-ghost use Rattle.smo_ops_spec.specs.Inverses.{AllOperatorsAccepted};
+ghost use Rattle.smo_ops_spec.specs.Evolutions.{AllOperatorsAccepted};
 ghost use Rattle.smo_ops_versions_spec.specs.Steps.{carrying_each, taken};
 ghost use Rattle.smo_ops_versions_spec.specs.Ways.{back_over, step_back};
 ghost use Rattle.smo_ops_widths.specs.Widths.{Widths, Width, made_widths, widths_over};
@@ -270,7 +271,7 @@ pub(crate) fn go_back(
     requires few { HaveFewNodes (operators_of inverse.now) }
     ensures { OnOk result ((k : ℕ) → (shown : Widths) → Show widths.old.entries shown
         → Show widths.new.entries (taken widths_stepped (back_over k before.now
-        (operator_of op.now) after.now (operators_of inverse.now)) shown)) }
+        (evolution_of op.now) after.now (evolutions_of inverse.now)) shown)) }
 {
     match inverse {
         [] => go_back_unnamed(alloc, before, op, after, widths),

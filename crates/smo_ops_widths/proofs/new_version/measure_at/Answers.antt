@@ -4,7 +4,7 @@ use Rattle.std.specs.FinMap.{entries}
 use Rattle.std.specs.BTreeSet.{contains}
 use Rattle.prima_base.specs.Order.{bytes_cmp}
 use Rattle.schema_catalog.specs.Tables.{Tables}
-use Rattle.smo_ops_types.specs.Operators.{operator_of}
+use Rattle.smo_ops_types.specs.Operators.{evolution_of}
 use Rattle.smo_ops_types.specs.Commands.{versions_of}
 use Rattle.smo_ops_widths.specs.Widths.{widths_of, with_version, greatest, greatest_of}
 use Rattle.smo_ops_widths.specs.Widths.{widest_with}
@@ -17,7 +17,7 @@ use Rattle.smo_ops_widths.proofs.new_version.measure_at.Goals as goal
 pub returns : goal.returns
 returns c = λ stamp inverse s named most low.
     let vs = c.args.versions.now.list.items in
-    let op = operator_of c.args.op.now in
+    let op = evolution_of c.args.op.now in
     let k = c.args.k in
     let all = with_version (versions_of c.args.versions.now) stamp op inverse in
     let widths = widths_of all (length vs + 1) k in
@@ -33,7 +33,7 @@ returns c = λ stamp inverse s named most low.
 pub returns-then-is_covered : goal.returns-then-is_covered
 returns-then-is_covered c = λ stamp inverse s named most low.
     let vs = c.args.versions.now.list.items in
-    let op = operator_of c.args.op.now in
+    let op = evolution_of c.args.op.now in
     let k = c.args.k in
     let all = with_version (versions_of c.args.versions.now) stamp op inverse in
     let widths = widths_of all (length vs + 1) k in

@@ -1,7 +1,7 @@
 use Rattle.std.proofs.Common.{◌≡◌, ◌+◌, ◌∙◌, ℕ, sym, ap, subst, length, arith}
 use Rattle.std.specs.FinMap.{entries}
 use Rattle.schema_catalog.specs.Tables.{Tables}
-use Rattle.smo_ops_types.specs.Operators.{operator_of}
+use Rattle.smo_ops_types.specs.Operators.{evolution_of}
 use Rattle.smo_ops_types.specs.Commands.{versions_of}
 use Rattle.smo_ops_spec.specs.Past.{no_tables, tables_from}
 use Rattle.smo_ops_widths.specs.Widths.{Widths, widths_of, with_version, greatest}
@@ -17,7 +17,7 @@ returns c = λ stamp inverse.
     (let n = c.len-last.ensures in omega (arith, n)) in
     let there = c.tables_at-newest.ensures
     ∙ ap (tables_from no_tables (versions_of c.args.versions.now)) count in
-    let op = operator_of c.args.op.now in
+    let op = evolution_of c.args.op.now in
     let all = with_version (versions_of c.args.versions.now) stamp op inverse in
     let widths = widths_of all c.args.stored (length vs + 1) in
     let shown = subst (λ (w : Widths). Show c.carry.new.widths.entries w)

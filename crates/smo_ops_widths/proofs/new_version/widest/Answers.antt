@@ -6,9 +6,11 @@ use Rattle.prima_base.specs.Order.{bytes_cmp}
 use Rattle.schema_catalog.specs.Tables.{Tables}
 use Rattle.smo_ops_types.specs.declared.op.Op.{Op}
 use Rattle.smo_ops_types.specs.Operators.{operator_of, operators_of}
+use Rattle.smo_ops_types.specs.Operators.{evolution_of, evolutions_of}
 use Rattle.smo_ops_types.specs.Commands.{versions_of}
 use Rattle.smo_ops_spec.specs.After.{schema_after, HaveFewNodes}
-use Rattle.smo_ops_spec.specs.Inverses.{AllOperatorsAccepted}
+use Rattle.smo_ops_spec.specs.Evolutions.{AllOperatorsAccepted}
+use Rattle.smo_ops_spec.proofs.OneMembers.{accepted_ones, few_nodes_of_ones}
 use Rattle.smo_ops_spec.specs.Past.{no_tables, tables_from}
 use Rattle.smo_ops_widths.specs.Widths.{widths_of, with_version, greatest, greatest_of, widest_with}
 use Rattle.smo_ops_widths.specs.Creating.{NameAll}
@@ -24,55 +26,59 @@ use Rattle.smo_ops_widths.proofs.new_version.widest.Goals as goal
 pub go_back-requires-clause-after : goal.go_back-requires-clause-after
 go_back-requires-clause-after c =
     let vs = c.args.versions.now.list.items in
-    let op = operator_of c.args.op.now in
-    let inverse = operators_of c.args.inverse.now in
+    let op = evolution_of c.args.op.now in
+    let inverse = evolutions_of c.args.inverse.now in
     let newest = c.tables_at-newest.result.now in
     let count : c.len-k.result ≡ length c.args.versions.now.list.items =
     (let n = c.len-k.ensures in omega (arith, n)) in
     let there = c.tables_at-newest.ensures
     ∙ ap (tables_from no_tables (versions_of c.args.versions.now)) count in
-    c.in_ok-next.ensures.after
+    c.in_ok-next.ensures.evolution
     (accepted_here vs op inverse newest c.in_ok-next.next there c.requires.accepted)
 
 pub go_back-requires-clause-accepted : goal.go_back-requires-clause-accepted
 go_back-requires-clause-accepted c =
     let vs = c.args.versions.now.list.items in
-    let op = operator_of c.args.op.now in
-    let inverse = operators_of c.args.inverse.now in
+    let op = evolution_of c.args.op.now in
+    let inverse = evolutions_of c.args.inverse.now in
     let newest = c.tables_at-newest.result.now in
     let count : c.len-k.result ≡ length c.args.versions.now.list.items =
     (let n = c.len-k.ensures in omega (arith, n)) in
     let there = c.tables_at-newest.ensures
     ∙ ap (tables_from no_tables (versions_of c.args.versions.now)) count in
-    inverse_accepted vs op inverse c.in_ok-next.next
-    (next_here vs op inverse newest c.in_ok-next.next there (c.in_ok-next.ensures.after
+    accepted_ones c.in_ok-next.next (operators_of c.args.inverse.now)
+    (inverse_accepted vs op inverse c.in_ok-next.next
+    (next_here vs op inverse newest c.in_ok-next.next there (c.in_ok-next.ensures.evolution
     (accepted_here vs op inverse newest c.in_ok-next.next there c.requires.accepted)))
-    c.requires.inverse
+    c.requires.inverse)
+
+pub go_back-requires-clause-few : goal.go_back-requires-clause-few
+go_back-requires-clause-few c = few_nodes_of_ones (operators_of c.args.inverse.now) c.requires.few
 
 pub measure_on-requires-clause-next : goal.measure_on-requires-clause-next
 measure_on-requires-clause-next c =
     let vs = c.args.versions.now.list.items in
-    let op = operator_of c.args.op.now in
-    let inverse = operators_of c.args.inverse.now in
+    let op = evolution_of c.args.op.now in
+    let inverse = evolutions_of c.args.inverse.now in
     let newest = c.tables_at-newest.result.now in
     let count : c.len-k.result ≡ length c.args.versions.now.list.items =
     (let n = c.len-k.ensures in omega (arith, n)) in
     let there = c.tables_at-newest.ensures
     ∙ ap (tables_from no_tables (versions_of c.args.versions.now)) count in
-    next_here vs op inverse newest c.in_ok-next.next there (c.in_ok-next.ensures.after
+    next_here vs op inverse newest c.in_ok-next.next there (c.in_ok-next.ensures.evolution
     (accepted_here vs op inverse newest c.in_ok-next.next there c.requires.accepted))
 
 pub loop-k-init : goal.loop-k-init
 loop-k-init c =
     let vs = c.args.versions.now.list.items in
-    let op = operator_of c.args.op.now in
-    let inverse = operators_of c.args.inverse.now in
+    let op = evolution_of c.args.op.now in
+    let inverse = evolutions_of c.args.inverse.now in
     let newest = c.tables_at-newest.result.now in
     let count : c.len-k.result ≡ length c.args.versions.now.list.items =
     (let n = c.len-k.ensures in omega (arith, n)) in
     let there = c.tables_at-newest.ensures
     ∙ ap (tables_from no_tables (versions_of c.args.versions.now)) count in
-    let next = next_here vs op inverse newest c.in_ok-next.next there (c.in_ok-next.ensures.after
+    let next = next_here vs op inverse newest c.in_ok-next.next there (c.in_ok-next.ensures.evolution
     (accepted_here vs op inverse newest c.in_ok-next.next there c.requires.accepted)) in
     let shown : (stamp : ℕ) → Show c.go_back.new.widths.entries (widths_of (with_version
     (versions_of c.args.versions.now) stamp op inverse) (length vs + 1) (length vs)) =
@@ -90,7 +96,7 @@ loop-k-init c =
           (let all = with_version (versions_of c.args.versions.now) stamp op inverse in
           subst (λ (n : ℕ). NameAll (contains bytes_cmp c.insert_named.new.names) all n) (sym count)
           (named_first vs op inverse stamp (contains bytes_cmp c.insert_named.new.names)
-          (λ n f. (c.in_ok-insert_named.ensures n f).1)));
+          (λ n f. ((c.in_ok-insert_named.ensures n f).1, tt))));
       last = λ stamp.
           (let all = with_version (versions_of c.args.versions.now) stamp op inverse in
           let widths = widths_of all (length vs + 1) (length vs) in
@@ -154,8 +160,8 @@ go_back-requires-in-loop-k-clause-few c =
 pub loop-k-preserved : goal.loop-k-preserved
 loop-k-preserved c =
     let vs = c.args.versions.now.list.items in
-    let op = operator_of c.args.op.now in
-    let inverse = operators_of c.args.inverse.now in
+    let op = evolution_of c.args.op.now in
+    let inverse = evolutions_of c.args.inverse.now in
     let test = c.loop-k-test.true in
     let within = c.loop-k.invariant.within in
     let j = c.loop-k.k - 1 in
@@ -168,13 +174,15 @@ loop-k-preserved c =
     c.loop-k.widths.entries c.go_back-in-loop-k.new.widths.entries behind below
     c.index-version.ensures c.tables_at.ensures (c.loop-k.invariant.shown stamp)
     (subst (λ (ops : List Op). GoesBack c.loop-k.widths.entries
-    c.go_back-in-loop-k.new.widths.entries c.tables_at.result.now (operator_of v.op) v.schema
-    (operators_of ops)) c.deref.ensures.value c.in_ok-go_back-2.ensures) in
+    c.go_back-in-loop-k.new.widths.entries c.tables_at.result.now (evolution_of v.op) v.schema
+    (evolutions_of ops)) c.deref.ensures.value c.in_ok-go_back-2.ensures) in
     let named : (stamp : ℕ) → NameAll (contains bytes_cmp c.insert_named-in-loop-k.new.names)
     (with_version (versions_of c.args.versions.now) stamp op inverse) (c.loop-k.k - 1) =
     λ stamp. named_next vs op inverse stamp (contains bytes_cmp c.loop-k.names)
     (contains bytes_cmp c.insert_named-in-loop-k.new.names) c.loop-k.k j v behind below
-    c.index-version.ensures c.in_ok-insert_named-2.ensures (c.loop-k.invariant.named stamp) in
+    c.index-version.ensures
+    (λ n f. (let named = c.in_ok-insert_named-2.ensures n f in (named.0, (named.1, tt))))
+    (c.loop-k.invariant.named stamp) in
     record {
       within = omega (arith, within);
       next = c.loop-k.invariant.next;
@@ -196,8 +204,8 @@ loop-k-preserved c =
 pub returns : goal.returns
 returns c = λ stamp.
     let vs = c.args.versions.now.list.items in
-    let op = operator_of c.args.op.now in
-    let inverse = operators_of c.args.inverse.now in
+    let op = evolution_of c.args.op.now in
+    let inverse = evolutions_of c.args.inverse.now in
     let test = c.loop-k-test.false in
     c.min.ensures
     ∙ most_last vs op inverse stamp c.loop-k.k c.loop-k.most (omega (arith, test))

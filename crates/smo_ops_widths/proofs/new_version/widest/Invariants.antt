@@ -1,9 +1,9 @@
 use Rattle.std.proofs.Common.{◌≡◌, ◌≤◌, ◌+◌, ℕ, length, min, max}
 use Rattle.std.specs.BTreeSet.{contains}
 use Rattle.prima_base.specs.Order.{bytes_cmp}
-use Rattle.smo_ops_types.specs.Operators.{operator_of, operators_of}
+use Rattle.smo_ops_types.specs.Operators.{evolution_of, evolutions_of}
 use Rattle.smo_ops_types.specs.Commands.{versions_of}
-use Rattle.smo_ops_spec.specs.After.{schema_after}
+use Rattle.smo_ops_spec.specs.Evolutions.{schema_after_each}
 use Rattle.smo_ops_spec.specs.Past.{no_tables, newest_from}
 use Rattle.smo_ops_widths.specs.Widths.{widths_of, widest_with, with_version, greatest_of}
 use Rattle.smo_ops_widths.specs.Creating.{NameAll}
@@ -13,21 +13,21 @@ use Rattle.smo_ops_widths.proofs.new_version.widest.Given as goal
 abbrev pub invariant-loop-k : goal.invariant-loop-k
 invariant-loop-k l = record {
   within : l.k ≤ length l.versions.list.items;
-  next : l.next ≡ schema_after (newest_from no_tables (versions_of l.versions))
-      (operator_of l.op);
+  next : l.next ≡ schema_after_each (newest_from no_tables (versions_of l.versions))
+      (evolution_of l.op);
   shown : (stamp : ℕ) → Show l.widths.entries (widths_of (with_version
-      (versions_of l.versions) stamp (operator_of l.op) (operators_of l.inverse))
+      (versions_of l.versions) stamp (evolution_of l.op) (evolutions_of l.inverse))
       (length l.versions.list.items + 1) l.k);
   named : (stamp : ℕ) → NameAll (contains bytes_cmp l.names) (with_version
-      (versions_of l.versions) stamp (operator_of l.op) (operators_of l.inverse)) l.k;
+      (versions_of l.versions) stamp (evolution_of l.op) (evolutions_of l.inverse)) l.k;
   last : (stamp : ℕ) → min (greatest_of (with_version (versions_of l.versions) stamp
-      (operator_of l.op) (operators_of l.inverse)) (length l.versions.list.items)
+      (evolution_of l.op) (evolutions_of l.inverse)) (length l.versions.list.items)
       (length l.versions.list.items + 1)) 18446744073709551615 ≤ l.most;
   most : (stamp : ℕ) → min (widest_with (with_version (versions_of l.versions) stamp
-      (operator_of l.op) (operators_of l.inverse)) (length l.versions.list.items + 1)
+      (evolution_of l.op) (evolutions_of l.inverse)) (length l.versions.list.items + 1)
       (length l.versions.list.items + 1)) 18446744073709551615
       ≡ min (max l.most (widest_with (with_version (versions_of l.versions) stamp
-      (operator_of l.op) (operators_of l.inverse)) (length l.versions.list.items + 1) l.k))
+      (evolution_of l.op) (evolutions_of l.inverse)) (length l.versions.list.items + 1) l.k))
       18446744073709551615;
 }
 

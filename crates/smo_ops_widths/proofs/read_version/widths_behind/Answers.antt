@@ -2,9 +2,10 @@ use Rattle.std.proofs.Common.{◌≡◌, ◌+◌, ◌-◌, ◌<◌, ℕ, List, a
 use Rattle.schema_catalog.specs.Tables.{Tables}
 use Rattle.smo_ops_types.specs.declared.op.Op.{Op}
 use Rattle.smo_ops_types.specs.Operators.{operator_of, operators_of}
+use Rattle.smo_ops_types.specs.Operators.{evolution_of, evolutions_of}
 use Rattle.smo_ops_types.specs.Commands.{versions_of}
 use Rattle.smo_ops_spec.specs.After.{schema_after, HaveFewNodes}
-use Rattle.smo_ops_spec.specs.Inverses.{AllOperatorsAccepted}
+use Rattle.smo_ops_spec.specs.Evolutions.{AllOperatorsAccepted}
 use Rattle.smo_ops_spec.specs.Past.{no_tables, tables_from}
 use Rattle.smo_ops_versions_spec.proofs.WaySteps.{taken_stays}
 use Rattle.smo_ops_widths.specs.Widths.{Widths, own_widths, widths_of, widths_stepped}
@@ -78,8 +79,8 @@ loop-k-preserved c =
     let behind : j < c.args.stored = omega (arith, test, high) in
     let here : c.loop-k.k ≡ j + 1 = omega (arith, test) in
     let back = subst (λ (ops : List Op). GoesBack c.loop-k.widths.entries
-    c.go_back.new.widths.entries c.tables_at-in-loop-k.result.now (operator_of v.op)
-    v.schema (operators_of ops)) c.deref.ensures.value c.in_ok-go_back.ensures in
+    c.go_back.new.widths.entries c.tables_at-in-loop-k.result.now (evolution_of v.op)
+    v.schema (evolutions_of ops)) c.deref.ensures.value c.in_ok-go_back.ensures in
     record {
       low = omega (arith, low, test);
       high = omega (arith, high);
