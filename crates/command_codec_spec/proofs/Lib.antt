@@ -6,3 +6,4 @@ pub mod Numbers
 pub mod OneMember
 pub mod PartFormats
 pub mod TreeFormats
+mod Worked

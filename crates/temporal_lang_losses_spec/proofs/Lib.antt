@@ -14,3 +14,4 @@ pub mod PlainAlike
 pub mod WholeWays
 pub mod NoFilling
 mod WorkedLosses
+mod WorkedMembers

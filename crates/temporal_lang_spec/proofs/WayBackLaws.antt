@@ -1,5 +1,6 @@
 -- A query is refused for want of a way back only where at a moment of its slice an item of it is
--- lost by a version that is gone back over, names no inverse and has none that is derived.
+-- lost by a version that is gone back over and names no inverse, by a member of its operator that
+-- has none that is derived.
 use Rattle.std.specs.Prelude.{◌≡◌, ℕ, zero, suc, ◌+◌, ◌-◌, ◌<◌, ◌≤◌, List, [], ◌∷◌, ◌++◌, Bool}
 use Rattle.std.specs.Prelude.{true, false, map, length, nat_le, nat_lt, Option, Some, None}
 use Rattle.std.specs.Prelude.{slice_get, ⊤}

@@ -43,9 +43,9 @@ pub fn first_loss_is_at_the_least_moment()
 
 /// A query is refused for want of an inverse over a version only where, at the least moment of its
 /// slice at which an item of it is lost by names alone, that version is gone back over on the way
-/// from the version in force to the query's one, names no inverse, has none that is derived, and
-/// loses the item: its table, or the first lost column of it that the branch names. Its operator is
-/// of the kind that is told.
+/// from the version in force to the query's one, names no inverse, and loses the item by a member of
+/// its operator that has none that is derived: its table, or the first lost column of it that the
+/// branch names. The member is of the kind that is told.
 pub fn a_query_is_refused_for_want_of_an_inverse_alone()
     ensures { (past : Past) → (query : PlainQuery) → (k : ℕ) → (kind : OpKind)
         → fault_of_query past query ≡ Some (NoInverse k kind) → HasNoWayBack past query k kind }
