@@ -11,10 +11,11 @@ use Rattle.smo_ops_types.specs.Operators.{join_table, add_column, drop_column, r
 use Rattle.smo_ops_types.specs.Commands.{PlainBody, changing, evolving, PlainVersion}
 use Rattle.piece_ir_spec.specs.Constants.{ValidInTree, ValidInTrees, ValidInTest, ValidInTests}
 use Rattle.piece_ir_spec.specs.Constants.{ValidInOperator, ValidInOperators, ValidInEvolution}
+use Rattle.piece_ir_spec.specs.Constants.{AllValidInOperators}
 use Rattle.piece_ir_spec.specs.Constants.{ValidInVersions}
 use Rattle.store_image_spec.specs.Images.{VersionsNamed}
 use Rattle.command_codec_spec.specs.Valid.{TreeNamed, TreesNamed, TestNamed, TestsNamed}
-use Rattle.command_codec_spec.specs.Valid.{OperatorNamed, BodyNamed}
+use Rattle.command_codec_spec.specs.Valid.{OperatorNamed, EvolutionNamed, BodyNamed}
 
 mutual
   tree_valid : (t : Tree) → TreeNamed t → ValidInTree t
@@ -58,9 +59,14 @@ operators_valid : (ops : List Operator) → AllByRecursion OperatorNamed ops →
 operators_valid [] h = tt
 operators_valid (op ∷ ops) h = (operator_valid op h.0, operators_valid ops h.1)
 
+all_valid : (ops : List (List Operator)) → AllByRecursion EvolutionNamed ops
+    → AllValidInOperators ops
+all_valid [] h = tt
+all_valid (op ∷ ops) h = (operators_valid op h.0, all_valid ops h.1)
+
 pub encoded_valid : (b : PlainBody) → BodyNamed b → ValidInEvolution b
 encoded_valid (changing changes) h = tt
-encoded_valid (evolving op inverse) h = (operator_valid op h.0, operators_valid inverse h.1)
+encoded_valid (evolving op inverse) h = (operators_valid op h.0, all_valid inverse h.1)
 
 pub named_valid : (versions : List PlainVersion) → VersionsNamed versions → ValidInVersions versions
 named_valid [] h = tt

@@ -1,5 +1,5 @@
 -- The constants of operators, bodies and queries that are read are valid.
-use Rattle.std.proofs.Common.{◌≡◌, ◌+◌, ℕ, List, [], ◌∷◌, ◌++◌, refl, sym, subst, inl, inr}
+use Rattle.std.proofs.Common.{◌≡◌, ◌+◌, ℕ, List, [], ◌∷◌, ◌++◌, map, refl, sym, subst, inl, inr}
 use Rattle.std.specs.Prelude.{Bool, codes, false, true}
 use Rattle.relations_spec.specs.Sets.{In}
 use Rattle.prima_base.specs.declared.refusal.What.{What}
@@ -8,7 +8,7 @@ use Rattle.cond_expr.specs.Trees.{Test}
 use Rattle.smo_ops_types.specs.Operators.{Operator}
 use Rattle.smo_ops_types.specs.Commands.{PlainBody}
 use Rattle.piece_ir_spec.specs.Constants.{ValidInTree, ValidInTest, ValidInOperator}
-use Rattle.piece_ir_spec.specs.Constants.{ValidInOperators, ValidInEvolution}
+use Rattle.piece_ir_spec.specs.Constants.{AllValidInOperators, ValidInEvolution}
 use Rattle.lexer_spec.specs.Lexemes.{Lexeme, word, sign}
 use Rattle.lexer_combinators.specs.Grammar.{Grammar, Size, AreMore, so_wide}
 use Rattle.lexer_combinators.specs.Grammar as grammar
@@ -151,14 +151,18 @@ op_valid r =
     let op = anew r in
     operator_valid (value_read op) op.derived.size op.derived.lexemes op.valid op.derived.derives
 
+-- of operators of one member each
+abbrev OnesAreValid : List Operator → Type 0
+OnesAreValid ops = AllValidInOperators (map (λ o. o ∷ []) ops)
+
 all_operators : (ops : List Operator) → ((op : Operator) → In op ops → ValidInOperator op)
-    → ValidInOperators ops
+    → OnesAreValid ops
 all_operators [] h = tt
-all_operators (op ∷ ops) h = (h op (inl refl), all_operators ops (λ x m. h x (inr m)))
+all_operators (op ∷ ops) h = ((h op (inl refl), tt), all_operators ops (λ x m. h x (inr m)))
 
 inverse_valid : (ops : List Operator) (s : Size) (ts : List Lexeme) → AllValid ts
-    → IsInverse ops s ts → ValidInOperators ops
-inverse_valid ops s ts l (inl h) = subst ValidInOperators (sym h.0) tt
+    → IsInverse ops s ts → OnesAreValid ops
+inverse_valid ops s ts l (inl h) = subst OnesAreValid (sym h.0) tt
 inverse_valid ops s ts l (inr h) =
     let whole : Read (grammar.lead (word (codes "INVERSE")) AreOps) = read ops s ts l h in
     all_operators ops (counted_each ValidInOperator (word (codes "THEN")) IsOp op_valid Inverse
@@ -171,7 +175,7 @@ body_valid b s ts l (inl h) =
     let after_op = rest (led whole) in
     let inverse = source after_op in
     subst ValidInEvolution (sym (made_value after_op.derived)) (
-      op_valid (first (led whole)),
+      (op_valid (first (led whole)), tt),
       inverse_valid (value_read inverse) inverse.derived.size inverse.derived.lexemes inverse.valid
           inverse.derived.derives,
     )
