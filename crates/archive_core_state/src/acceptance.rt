@@ -1,7 +1,7 @@
 //! Whether a command is accepted: the first refusal in the one order, and else what was found on
 //! the way.
 
-ghost use Rattle.std.specs.Prelude.{◌≡◌, ◌≤◌, length, nat_lt, IfOk, OnOk, None};
+ghost use Rattle.std.specs.Prelude.{◌≡◌, ◌≤◌, length, nat_lt, IfOk, OnOk, None, List};
 ghost use Rattle.std.specs.Option.{option_map};
 ghost use Rattle.prima_base.specs.Faults.{IsTested, IsTestedAs};
 ghost use Rattle.prima_base.specs.declared.refusal.What.TheVariants.{Versions};
@@ -106,7 +106,7 @@ fn check_its_inverse(
 }
 
 // An operator and its inverse; the schema after it.
-#[tactic(auto, using(crate::proofs::Checking::few_operators))]
+#[tactic(auto, using(crate::proofs::Checking::few_operators, crate::proofs::Checking::checked_after))]
 fn check_evolve(
     alloc: Global,
     groups: &Groups,
@@ -126,8 +126,10 @@ fn check_evolve(
     check_versions(groups.newest())?;
     let before = groups.newest_schema();
     let next = check_operator(alloc, before, op)?;
-    check_its_inverse(alloc, before, &next, inverse)?;
-    Ok(next)
+    match check_its_inverse(alloc, before, &next, inverse) {
+        Ok(()) => Ok(next),
+        Err(fault) => Err(fault),
+    }
 }
 
 // What the command does from the stamp on, with what checking it finds.

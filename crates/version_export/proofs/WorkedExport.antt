@@ -67,14 +67,14 @@ from_5 = insert from_3 home (Rows (place (codes "Bergen")))
 abbrev versions : List PlainVersion
 versions = record {
   stamp = 1;
-  op = create_table emp ((id, INT) ∷ (name, TEXT) ∷ (city, TEXT) ∷ []);
+  op = create_table emp ((id, INT) ∷ (name, TEXT) ∷ (city, TEXT) ∷ []) ∷ [];
   inverse = [];
   tables = with_emp;
 }
     ∷ record {
       stamp = 3;
-      op = decompose_table emp who (id ∷ name ∷ []) home (id ∷ city ∷ []);
-      inverse = join_table who home emp always ∷ [];
+      op = decompose_table emp who (id ∷ name ∷ []) home (id ∷ city ∷ []) ∷ [];
+      inverse = (join_table who home emp always ∷ []) ∷ [];
       tables = in_two;
     } ∷ []
 
