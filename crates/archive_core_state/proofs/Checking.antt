@@ -55,12 +55,6 @@ pub no_excess : (excess : Option (What × ℕ)) → count_fault excess ≡ None 
 no_excess None e = refl
 no_excess (Some x) e = absurd (cc)
 
--- a fault is tested alike, whatever might have been answered
-pub failed_alike : {A B : Type 0} (test : Fault) (fault : CallFault Refusal)
-    → IsTested {A = A} test (Err fault) → IsTested {A = B} test (Err fault)
-failed_alike test (Refused r) h = h
-failed_alike test NoMemory h = tt
-
 -- after two tests that are met the others decide
 pub checked_after : {A : Type 0} (first second : Fault) (tests : List Fault)
     (result : Result A (CallFault Refusal)) → first ≡ None → second ≡ None

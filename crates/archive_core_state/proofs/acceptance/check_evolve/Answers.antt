@@ -14,7 +14,7 @@ use Rattle.smo_ops_spec.specs.Evolutions.{evolution_fault}
 use Rattle.smo_ops_spec.specs.First.{unless, first_refusal}
 use Rattle.smo_ops_spec.specs.Inverses.{inverse_tests}
 use Rattle.smo_ops_spec.specs.Past.{newest_tables}
-use Rattle.archive_core_state.proofs.Checking.{few_operators, checked_after, failed_alike}
+use Rattle.archive_core_state.proofs.Checking.{few_operators, checked_after}
 use Rattle.archive_core_state.proofs.acceptance.check_evolve.Goals as goal
 
 -- src/acceptance.rt:132:5
@@ -45,6 +45,4 @@ returns-in-Err-clause-tested c past represents =
     (ap (λ (t : Tables). option_map operator_refusal (evolution_fault t op)) (sym schema)
     ∙ c.in_ok-next.ensures.tested)
     (subst (λ (t : Tables). IsTested {A = Tables} (first_refusal (inverse_tests t op inverse))
-    (Err c.in-Err.fault)) schema
-    (failed_alike (first_refusal (inverse_tests c.newest_schema-before.result.now op inverse))
-    c.in-Err.fault (c.in-Err.ensures op c.in_ok-next.ensures.next)))
+    (Err c.in-Err.fault)) schema (c.in-Err.ensures op c.in_ok-next.ensures.next))
