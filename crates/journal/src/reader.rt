@@ -13,16 +13,16 @@ ghost use Rattle.journal.specs.Records.{header, IsKnown};
 ghost use Rattle.journal.specs.declared.fault.JournalFault.TheVariants as mounting;
 
 use crate::fault::JournalFault;
-use crate::rec::{Rec, is_known};
+use crate::rec::{RECORD_HEAD, Rec, is_known};
 use disk_model::{Disk, Failed};
 use std::alloc::Global;
 
 const HEADER: [u8; 8] = *b"PRIMA001";
 
-// How many bytes of a record stand before its payload.
-const HEAD: u64 = 9;
+// How many bytes of a record stand before its payload, as a number of places.
+const HEAD: u64 = RECORD_HEAD as u64;
 
-// What stands there: the kind, and the length of the payload.
+// What stands before a record's payload: its kind, and the payload's length.
 #[derive(Clone, Copy)]
 struct Head {
     kind: u8,
