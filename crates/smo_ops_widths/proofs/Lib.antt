@@ -11,7 +11,9 @@ pub mod NamesInserted
 pub mod NamesLeftOut
 pub mod CreatedBeside
 pub mod FoundLaws
-pub mod CarryLaws
+pub mod AtHandLaws
+pub mod PutSizes
+pub mod KeptTables
 pub mod OperatorLists
 pub mod SkippedVersions
 mod WidestSteps

@@ -1,10 +1,20 @@
 -- One name, or two, inserted into a set of names.
 use Rattle.std.proofs.Common.{◌≡◌, ℕ, Bool, true, false, List, [], ◌∷◌, refl, sym, ap, ◌∙◌}
 use Rattle.std.specs.Prelude.{cond, ◌||◌, Option, Some, None}
+use Rattle.prima_base.specs.OrderLaws.{same_is}
 use Rattle.smo_ops_spec.specs.OneRow.{same}
 use Rattle.smo_ops_spec.specs.Preconditions.{among}
 use Rattle.smo_ops_spec.specs.Touching.{these_names}
 use Rattle.smo_ops_spec.proofs.NameLaws.{same_turned}
+
+-- one that is there already
+pub there_already : (these : List ℕ → Bool) (name : List ℕ) → these name ≡ true → (n : List ℕ)
+    → these n ≡ cond (same name n) true (these n)
+there_already these name t n = step (same name n) refl
+  where
+    step : (b : Bool) → same name n ≡ b → these n ≡ cond b true (these n)
+    step true e = sym (ap these (same_is name n e)) ∙ t
+    step false e = refl
 
 another : (n a : List ℕ) (old new : Bool) → new ≡ cond (same a n) true old → new ≡ false
     → (old ≡ false) × (same n a ≡ false)

@@ -2,4 +2,5 @@ pub mod Widths
 pub mod Creating
 pub mod Counted
 pub mod Shown
+pub mod AtHand
 pub mod MeasureFaults

@@ -5,6 +5,7 @@
 mod measure;
 mod names;
 mod new_version;
+mod operator;
 mod read_version;
 mod size;
 mod way;

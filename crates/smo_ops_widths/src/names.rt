@@ -18,7 +18,9 @@ fn insert_copy(names: &mut BTreeSet<Name>, name: &Name) -> Result<(), NoMemory>
     ensures { OnOk result ((n : List ℕ) → contains bytes_cmp names.new n
         ≡ cond (same name.now n) true (contains bytes_cmp names.old n)) }
 {
-    let _is_new = names.insert(name.copy()?)?;
+    if !names.contains(name) {
+        let _is_new = names.insert(name.copy()?)?;
+    }
     Ok(())
 }
 

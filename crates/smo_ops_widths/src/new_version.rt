@@ -14,19 +14,19 @@ ghost use Rattle.smo_ops_widths.specs.Widths.{widest_with, with_version};
 ghost use Rattle.smo_ops_widths.specs.Creating.{creates_one, NameAll};
 ghost use Rattle.smo_ops_widths.specs.Counted.{stopped};
 ghost use Rattle.smo_ops_widths.specs.Shown.{Show};
+ghost use Rattle.smo_ops_widths.specs.AtHand.{all_widths};
 
 use crate::measure::greatest;
 use crate::names::{creates_one, insert_named};
 use crate::read_version::widths_ahead;
 use crate::way::{carry, go_back};
-use crate::width::TableWidth;
-use crate::widths::own_widths;
+use crate::widths::{TableWidths, stored_widths};
 use prima_base::{Name, NoMemory};
 use schema_catalog::Schema;
 use smo_ops_operators::{schema_after, tables_at};
 use smo_ops_types::{Op, Versions};
 use std::alloc::Global;
-use std::collections::{BTreeMap, BTreeSet};
+use std::collections::BTreeSet;
 
 // At this number the measure of what makes a version stops.
 const MOST: u64 = 1 << 63;
@@ -81,7 +81,7 @@ fn measure_at(
     op: &Op,
     next: &Schema,
     k: usize,
-    widths: &BTreeMap<Name, TableWidth>,
+    widths: &TableWidths,
     names: &BTreeSet<Name>,
 ) -> Result<u64, NoMemory>
     requires there { k < length versions.now.list.items }
@@ -89,7 +89,7 @@ fn measure_at(
     requires next { next.now ≡ schema_after (newest_from no_tables (versions_of versions.now))
         (operator_of op.now) }
     ensures { IfOk result (λ more. (stamp : ℕ) → (inverse : List Operator)
-        → Show widths.now.entries (widths_of (with_version (versions_of versions.now) stamp
+        → Show (all_widths widths.now) (widths_of (with_version (versions_of versions.now) stamp
         (operator_of op.now) inverse) (length versions.now.list.items + 1) k)
         → NameAll (contains bytes_cmp names.now) (with_version (versions_of versions.now) stamp
         (operator_of op.now) inverse) k
@@ -131,8 +131,8 @@ pub fn widest(alloc: Global, versions: &Versions, op: &Op, inverse: &[Op]) -> Re
     let mut k = versions.list.len();
     let newest = tables_at(&nothing, versions, k);
     let next = schema_after(alloc, newest, op)?;
-    let mut widths = own_widths(alloc, &next)?;
-    go_back(alloc, newest, op, &next, inverse, &mut widths)?;
+    let mut widths = stored_widths(alloc, &next)?;
+    go_back(alloc, op, &next, inverse, &mut widths)?;
     let mut names = BTreeSet::new(alloc);
     insert_named(&mut names, op)?;
     let on = measure_on(alloc, versions, op, &next, k)?;
@@ -143,7 +143,6 @@ pub fn widest(alloc: Global, versions: &Versions, op: &Op, inverse: &[Op]) -> Re
         let version = &versions.list[k];
         go_back(
             alloc,
-            tables_at(&nothing, versions, k),
             &version.op,
             &version.schema,
             &version.inverse,

@@ -8,6 +8,7 @@ use Rattle.smo_ops_spec.specs.Past.{no_tables, newest_from}
 use Rattle.smo_ops_widths.specs.Widths.{widths_of, widest_with, with_version, greatest_of}
 use Rattle.smo_ops_widths.specs.Creating.{NameAll}
 use Rattle.smo_ops_widths.specs.Shown.{Show}
+use Rattle.smo_ops_widths.specs.AtHand.{all_widths}
 use Rattle.smo_ops_widths.proofs.new_version.widest.Given as goal
 
 abbrev pub invariant-loop-k : goal.invariant-loop-k
@@ -15,7 +16,7 @@ invariant-loop-k l = record {
   within : l.k ≤ length l.versions.list.items;
   next : l.next ≡ schema_after (newest_from no_tables (versions_of l.versions))
       (operator_of l.op);
-  shown : (stamp : ℕ) → Show l.widths.entries (widths_of (with_version
+  shown : (stamp : ℕ) → Show (all_widths l.widths) (widths_of (with_version
       (versions_of l.versions) stamp (operator_of l.op) (operators_of l.inverse))
       (length l.versions.list.items + 1) l.k);
   named : (stamp : ℕ) → NameAll (contains bytes_cmp l.names) (with_version

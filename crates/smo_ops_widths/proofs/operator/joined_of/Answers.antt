@@ -8,7 +8,8 @@ use Rattle.smo_ops_widths.specs.Counted.{AreAlike, SameStopped}
 use Rattle.smo_ops_widths.specs.Shown.{width_of}
 use Rattle.smo_ops_widths.proofs.AlikeLaws.{same_stopped, joined_so}
 use Rattle.smo_ops_widths.proofs.FoundLaws.{one_there, made_of_two}
-use Rattle.smo_ops_widths.proofs.way.joined_of.Goals as goal
+use Rattle.smo_ops_widths.specs.AtHand.{all_widths}
+use Rattle.smo_ops_widths.proofs.operator.joined_of.Goals as goal
 
 pub returns-in_ok-joined-in-Some-Some : goal.returns-in_ok-joined-in-Some-Some
 returns-in_ok-joined-in-Some-Some c = λ shown s.
@@ -27,7 +28,7 @@ returns-in_ok-joined-in-Some-Some c = λ shown s.
     (λ a b u v p q. joined_so SameStopped same_stopped a b u v p q first second
     (test c.args.cond.now)) (width_of w) (width_of x) (width_of y) (get shown c.args.left.now)
     (get shown c.args.right.now) alike
-    (one_there c.args.widths.now.entries shown s c.args.left.now x
-    (sym c.in-Some-Some.ensures.value))
-    (one_there c.args.widths.now.entries shown s c.args.right.now y
-    (sym c.in-Some-Some.ensures'.value))
+    (one_there (all_widths c.args.widths.now) shown s c.args.left.now x
+    (sym c.in-Some-Some.ensures))
+    (one_there (all_widths c.args.widths.now) shown s c.args.right.now y
+    (sym c.in-Some-Some.ensures'))
