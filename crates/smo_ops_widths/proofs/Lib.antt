@@ -10,6 +10,9 @@ pub mod ReadFrom
 pub mod NamesInserted
 pub mod NamesLeftOut
 pub mod CreatedBeside
+pub mod DeadLaws
+pub mod DeadNames
+pub mod DeadRead
 pub mod FoundLaws
 pub mod AtHandLaws
 pub mod PutSizes

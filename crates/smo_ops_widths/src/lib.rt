@@ -2,6 +2,7 @@
 //! makes a version.
 #![tactic(auto)]
 
+mod dead;
 mod measure;
 mod names;
 mod new_version;

@@ -1,6 +1,6 @@
 //! The tables that operators name: one that none of them names stays as it is.
 
-ghost use Rattle.std.specs.Prelude.{◌≡◌, ℕ, List, true, false, cond, OnOk};
+ghost use Rattle.std.specs.Prelude.{◌≡◌, ℕ, List, true, false, not, cond, OnOk};
 ghost use Rattle.std.specs.Option.{option_copied};
 ghost use Rattle.std.specs.BTreeSet.{contains};
 ghost use Rattle.prima_base.specs.Order.{bytes_cmp, same};
@@ -14,7 +14,8 @@ use smo_ops_operators::{Made, consumed, made, made_of};
 use smo_ops_types::Op;
 use std::collections::BTreeSet;
 
-fn insert_copy(names: &mut BTreeSet<Name>, name: &Name) -> Result<(), NoMemory>
+/// Inserts the name, copied where it is not there already.
+pub(crate) fn insert_copy(names: &mut BTreeSet<Name>, name: &Name) -> Result<(), NoMemory>
     ensures { OnOk result ((n : List ℕ) → contains bytes_cmp names.new n
         ≡ cond (same name.now n) true (contains bytes_cmp names.old n)) }
 {
@@ -55,6 +56,16 @@ pub(crate) fn creates_one(names: &BTreeSet<Name>, op: &Op) -> bool
 {
     match op {
         Op::CreateTable { table, .. } => names.contains(table),
+        _ => false,
+    }
+}
+
+/// Whether the operator creates a table that has none of these names.
+pub(crate) fn creates_other(names: &BTreeSet<Name>, op: &Op) -> bool
+    ensures { result ≡ creates_one (λ n. not (contains bytes_cmp names.now n)) (operator_of op.now) }
+{
+    match op {
+        Op::CreateTable { table, .. } => !names.contains(table),
         _ => false,
     }
 }

@@ -1,5 +1,5 @@
 ghost use Rattle.std.specs.Prelude.{◌≡◌, ◌+◌, ◌≤◌, ◌<◌, ℕ, suc, List, None, IfOk, length};
-ghost use Rattle.std.specs.Prelude.{◌-◌, max, true, false, get_or};
+ghost use Rattle.std.specs.Prelude.{◌-◌, ◌⊎◌, max, not, true, false, get_or};
 ghost use Rattle.std.specs.BTreeSet.{contains};
 ghost use Rattle.prima_base.specs.Order.{bytes_cmp};
 ghost use Rattle.smo_ops_types.specs.declared.version.Version.{Version};
@@ -12,12 +12,14 @@ ghost use Rattle.smo_ops_spec.specs.ValidPast.{AreVersions};
 ghost use Rattle.smo_ops_widths.specs.Widths.{greatest_of, widths_of, widest};
 ghost use Rattle.smo_ops_widths.specs.Widths.{widest_with, with_version};
 ghost use Rattle.smo_ops_widths.specs.Creating.{creates_one, NameAll};
+ghost use Rattle.smo_ops_widths.specs.Dead.{AreDead};
 ghost use Rattle.smo_ops_widths.specs.Counted.{stopped};
 ghost use Rattle.smo_ops_widths.specs.Shown.{Show};
 ghost use Rattle.smo_ops_widths.specs.AtHand.{all_widths};
 
+use crate::dead::go_before;
 use crate::measure::greatest;
-use crate::names::{creates_one, insert_named};
+use crate::names::{creates_one, creates_other, insert_named};
 use crate::read_version::widths_ahead;
 use crate::way::{carry, go_back};
 use crate::widths::{TableWidths, stored_widths};
@@ -58,23 +60,29 @@ fn measure_on(
     Ok(greatest(next, &widths))
 }
 
-// Whether version `k` creates no table, or one that is not among the names of later operators.
-fn is_covered(versions: &Versions, names: &BTreeSet<Name>, k: usize) -> bool
+// Whether version `k` creates no table, or one that is not among the names of later operators, or
+// one that is dead.
+fn is_covered(versions: &Versions, names: &BTreeSet<Name>, dead: &BTreeSet<Name>, k: usize) -> bool
     requires there { k ≤ length versions.now.list.items }
     ensures { result ≡ true → (v : Version) × (k - 1 < length versions.now.list.items)
         × (v ≡ get_or versions.now.list.items (k - 1) v) × (k - 1 + 1 ≡ k)
-        × (creates_one (contains bytes_cmp names.now) (operator_of v.op) ≡ false) }
+        × ((creates_one (contains bytes_cmp names.now) (operator_of v.op) ≡ false)
+        ⊎ (creates_one (λ n. not (contains bytes_cmp dead.now n)) (operator_of v.op) ≡ false)) }
 {
     if k == 0 {
         return false;
     }
-    !creates_one(names, &versions.list[k - 1].op)
+    let op = &versions.list[k - 1].op;
+    if creates_one(names, op) {
+        return !creates_other(dead, op);
+    }
+    true
 }
 
 // The greatest measure of the tables of version `k`, which have these widths, and of the tables of
 // the version that the operator makes, read from version `k`. Where it is covered these are left
 // out: they are at least as wide where they are read from the version before, and a table that it
-// creates is as wide where it is read from the newest version.
+// creates is as wide where it is read from the newest version, or nothing is made of it.
 fn measure_at(
     alloc: Global,
     versions: &Versions,
@@ -83,6 +91,7 @@ fn measure_at(
     k: usize,
     widths: &TableWidths,
     names: &BTreeSet<Name>,
+    dead: &BTreeSet<Name>,
 ) -> Result<u64, NoMemory>
     requires there { k < length versions.now.list.items }
     requires versions { AreVersions None no_tables (versions_of versions.now) }
@@ -93,6 +102,8 @@ fn measure_at(
         (operator_of op.now) inverse) (length versions.now.list.items + 1) k)
         → NameAll (contains bytes_cmp names.now) (with_version (versions_of versions.now) stamp
         (operator_of op.now) inverse) k
+        → AreDead (contains bytes_cmp dead.now) (with_version (versions_of versions.now) stamp
+        (operator_of op.now) inverse) k (length versions.now.list.items + 1)
         → (most : ℕ) → stopped (greatest_of (with_version (versions_of versions.now) stamp
         (operator_of op.now) inverse) (length versions.now.list.items)
         (length versions.now.list.items + 1)) ≤ most
@@ -103,7 +114,7 @@ fn measure_at(
 {
     let nothing = Schema::empty(alloc);
     let back = greatest(tables_at(&nothing, versions, k), widths);
-    if is_covered(versions, names, k) {
+    if is_covered(versions, names, dead, k) {
         return Ok(back);
     }
     let on = measure_on(alloc, versions, op, next, k)?;
@@ -135,6 +146,8 @@ pub fn widest(alloc: Global, versions: &Versions, op: &Op, inverse: &[Op]) -> Re
     go_back(alloc, op, &next, inverse, &mut widths)?;
     let mut names = BTreeSet::new(alloc);
     insert_named(&mut names, op)?;
+    let mut dead = BTreeSet::new(alloc);
+    go_before(&mut dead, op)?;
     let on = measure_on(alloc, versions, op, &next, k)?;
     let begun = on.max(greatest(newest, &widths));
     let mut most = begun;
@@ -149,7 +162,8 @@ pub fn widest(alloc: Global, versions: &Versions, op: &Op, inverse: &[Op]) -> Re
             &mut widths,
         )?;
         insert_named(&mut names, &version.op)?;
-        let more = measure_at(alloc, versions, op, &next, k, &widths, &names)?;
+        go_before(&mut dead, &version.op)?;
+        let more = measure_at(alloc, versions, op, &next, k, &widths, &names, &dead)?;
         most = most.max(more);
     }
     Ok(most.min(MOST))

@@ -1,5 +1,5 @@
 use Rattle.std.proofs.Common.{◌+◌, ◌-◌, ◌≤◌, ℕ, max, sym, ap, ◌∙◌, length}
-use Rattle.std.proofs.Common.{arith}
+use Rattle.std.proofs.Common.{arith, inl, inr}
 use Rattle.std.specs.FinMap.{entries}
 use Rattle.std.specs.BTreeSet.{contains}
 use Rattle.prima_base.specs.Order.{bytes_cmp}
@@ -11,11 +11,11 @@ use Rattle.smo_ops_widths.specs.Widths.{widest_with}
 use Rattle.smo_ops_widths.specs.Counted.{stopped}
 use Rattle.smo_ops_widths.proofs.StoppedLaws.{both_read, back_read}
 use Rattle.smo_ops_widths.proofs.VersionLaws.{tables_before}
-use Rattle.smo_ops_widths.proofs.SkippedVersions.{read_less}
+use Rattle.smo_ops_widths.proofs.SkippedVersions.{read_less, read_no_more}
 use Rattle.smo_ops_widths.proofs.new_version.measure_at.Goals as goal
 
 pub returns : goal.returns
-returns c = λ stamp inverse s named most low.
+returns c = λ stamp inverse s named dead most low.
     let vs = c.args.versions.now.list.items in
     let op = operator_of c.args.op.now in
     let k = c.args.k in
@@ -31,7 +31,7 @@ returns c = λ stamp inverse s named most low.
     (c.in_ok-on.ensures stamp inverse) back
 
 pub returns-then-is_covered : goal.returns-then-is_covered
-returns-then-is_covered c = λ stamp inverse s named most low.
+returns-then-is_covered c = λ stamp inverse s named dead most low.
     let vs = c.args.versions.now.list.items in
     let op = operator_of c.args.op.now in
     let k = c.args.k in
@@ -45,5 +45,9 @@ returns-then-is_covered c = λ stamp inverse s named most low.
     back_read most c.greatest-back.result (greatest_of all k (length vs + 1))
     (greatest_of all (length vs + 1) k) (widest_with all (length vs + 1) k)
     (greatest_of all (length vs) (length vs + 1)) back
-    (read_less vs stamp op inverse c.requires.versions (k - 1) k skips.0 skips.1 skips.2 skips.3
-    (contains bytes_cmp c.args.names.now) named skips.4) low
+    (elim skips.4 [
+      | inl free ↦ read_less vs stamp op inverse c.requires.versions (k - 1) k skips.0 skips.1
+          skips.2 skips.3 (contains bytes_cmp c.args.names.now) named free
+      | inr over ↦ read_no_more vs stamp op inverse c.requires.versions (k - 1) k skips.0 skips.1
+          skips.2 skips.3 (contains bytes_cmp c.args.dead.now) dead over
+    ]) low

@@ -12,13 +12,14 @@ use Rattle.smo_ops_spec.specs.Inverses.{AllOperatorsAccepted}
 use Rattle.smo_ops_spec.specs.Past.{no_tables, tables_from}
 use Rattle.smo_ops_widths.specs.Widths.{widths_of, with_version, greatest, greatest_of, widest_with}
 use Rattle.smo_ops_widths.specs.Creating.{NameAll}
+use Rattle.smo_ops_widths.specs.Dead.{AreDead}
 use Rattle.smo_ops_widths.specs.Counted.{stopped}
 use Rattle.smo_ops_widths.specs.Shown.{Show}
 use Rattle.smo_ops_widths.proofs.VersionLaws.{version_few, version_accepted}
 use Rattle.smo_ops_widths.proofs.VersionLaws.{tables_before, newest_at}
 use Rattle.smo_ops_widths.proofs.WidestSteps.{GoesBack, accepted_here, next_here, inverse_accepted}
 use Rattle.smo_ops_widths.proofs.WidestSteps.{shown_first, shown_next, most_first, most_next}
-use Rattle.smo_ops_widths.proofs.WidestSteps.{most_last, named_first, named_next}
+use Rattle.smo_ops_widths.proofs.WidestSteps.{most_last, named_first, named_next, dead_first, dead_next, none_in}
 use Rattle.smo_ops_widths.specs.AtHand.{all_widths}
 use Rattle.smo_ops_widths.proofs.new_version.widest.Goals as goal
 
@@ -79,6 +80,12 @@ loop-k-init c =
           subst (λ (n : ℕ). NameAll (contains bytes_cmp c.insert_named.new.names) all n) (sym count)
           (named_first vs op inverse stamp (contains bytes_cmp c.insert_named.new.names)
           (λ n f. (c.in_ok-insert_named.ensures n f).1)));
+      dead = λ stamp.
+          (let all = with_version (versions_of c.args.versions.now) stamp op inverse in
+          subst (λ (n : ℕ). AreDead (contains bytes_cmp c.go_before.new.dead) all n (length vs + 1))
+          (sym count) (dead_first vs op inverse stamp (contains bytes_cmp c.new-dead.result)
+          (contains bytes_cmp c.go_before.new.dead) (λ n. none_in c.new-dead.result n c.new-dead.ensures.empty)
+          c.in_ok-go_before.ensures));
       last = λ stamp.
           (let all = with_version (versions_of c.args.versions.now) stamp op inverse in
           let widths = widths_of all (length vs + 1) (length vs) in
@@ -151,11 +158,18 @@ loop-k-preserved c =
     λ stamp. named_next vs op inverse stamp (contains bytes_cmp c.loop-k.names)
     (contains bytes_cmp c.insert_named-in-loop-k.new.names) c.loop-k.k j v behind below
     c.index-version.ensures c.in_ok-insert_named-2.ensures (c.loop-k.invariant.named stamp) in
+    let dead : (stamp : ℕ) → AreDead (contains bytes_cmp c.go_before-in-loop-k.new.dead)
+    (with_version (versions_of c.args.versions.now) stamp op inverse) (c.loop-k.k - 1)
+    (length vs + 1) =
+    λ stamp. dead_next vs op inverse stamp (contains bytes_cmp c.loop-k.dead)
+    (contains bytes_cmp c.go_before-in-loop-k.new.dead) c.loop-k.k j v behind below
+    c.index-version.ensures c.in_ok-go_before-2.ensures (c.loop-k.invariant.dead stamp) in
     record {
       within = omega (arith, within);
       next = c.loop-k.invariant.next;
       shown = shown;
       named = named;
+      dead = dead;
       last = λ stamp.
           (let last = c.loop-k.invariant.last stamp in
           let more = c.max-most.ensures in omega (arith, last, more));
@@ -163,7 +177,7 @@ loop-k-preserved c =
           (let all = with_version (versions_of c.args.versions.now) stamp op inverse in
           most_next vs op inverse stamp c.loop-k.k j c.loop-k.most c.in_ok-more.more
           (omega (arith, test)) (c.loop-k.invariant.most stamp)
-          (c.in_ok-more.ensures stamp inverse (shown stamp) (named stamp) c.loop-k.most
+          (c.in_ok-more.ensures stamp inverse (shown stamp) (named stamp) (dead stamp) c.loop-k.most
           (c.loop-k.invariant.last stamp))
           ∙ sym (ap (λ (n : ℕ). stopped (max n (widest_with all (length vs + 1) (c.loop-k.k - 1))))
           c.max-most.ensures));

@@ -7,6 +7,7 @@ use Rattle.smo_ops_spec.specs.After.{schema_after}
 use Rattle.smo_ops_spec.specs.Past.{no_tables, newest_from}
 use Rattle.smo_ops_widths.specs.Widths.{widths_of, widest_with, with_version, greatest_of}
 use Rattle.smo_ops_widths.specs.Creating.{NameAll}
+use Rattle.smo_ops_widths.specs.Dead.{AreDead}
 use Rattle.smo_ops_widths.specs.Shown.{Show}
 use Rattle.smo_ops_widths.specs.AtHand.{all_widths}
 use Rattle.smo_ops_widths.proofs.new_version.widest.Given as goal
@@ -21,6 +22,9 @@ invariant-loop-k l = record {
       (length l.versions.list.items + 1) l.k);
   named : (stamp : ℕ) → NameAll (contains bytes_cmp l.names) (with_version
       (versions_of l.versions) stamp (operator_of l.op) (operators_of l.inverse)) l.k;
+  dead : (stamp : ℕ) → AreDead (contains bytes_cmp l.dead) (with_version
+      (versions_of l.versions) stamp (operator_of l.op) (operators_of l.inverse)) l.k
+      (length l.versions.list.items + 1);
   last : (stamp : ℕ) → min (greatest_of (with_version (versions_of l.versions) stamp
       (operator_of l.op) (operators_of l.inverse)) (length l.versions.list.items)
       (length l.versions.list.items + 1)) 18446744073709551615 ≤ l.most;
