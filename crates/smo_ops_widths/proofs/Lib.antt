@@ -13,6 +13,7 @@ pub mod CreatedBeside
 pub mod DeadLaws
 pub mod DeadNames
 pub mod DeadRead
+pub mod ReadNone
 pub mod FoundLaws
 pub mod AtHandLaws
 pub mod PutSizes

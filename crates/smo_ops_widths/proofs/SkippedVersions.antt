@@ -1,6 +1,6 @@
 -- Versions that need not be read from, by their places in the code.
 use Rattle.std.proofs.Common.{◌≡◌, ◌+◌, ◌<◌, ◌≤◌, ℕ, suc, Bool, false, List, map, length, get_or}
-use Rattle.std.proofs.Common.{max, refl, sym, ap, subst, ◌∙◌, arith}
+use Rattle.std.proofs.Common.{◌⊎◌, inl, inr, max, refl, sym, ap, subst, ◌∙◌, arith}
 use Rattle.std.specs.Prelude.{not, None}
 use Rattle.prima_base.specs.Columns.{Column}
 use Rattle.schema_catalog.specs.Tables.{Tables}
@@ -110,7 +110,7 @@ module _ (vs : List Version) (stamp : ℕ) (op : Operator) (inverse : List Opera
     dead_by (rename_column b r x) is c = other_read (ap creates is)
 
 -- what is read from version j is no greater than what is read from one before, or from the newest
-pub read_less : (vs : List Version) (stamp : ℕ) (op : Operator) (inverse : List Operator)
+read_less : (vs : List Version) (stamp : ℕ) (op : Operator) (inverse : List Operator)
     → AreVersions None no_tables (map version_of vs) → (k j : ℕ) (v : Version) → k < length vs
     → v ≡ get_or vs k v → k + 1 ≡ j → (these : List ℕ → Bool)
     → NameAll these (with_version (map version_of vs) stamp op inverse) j
@@ -130,7 +130,7 @@ read_less vs stamp op inverse are k j v l e q these named c =
     ≤ max (widest_with all last n) (greatest_of all (length vs) last)) further less)
 
 -- nor is it where the table that it creates is dead
-pub read_no_more : (vs : List Version) (stamp : ℕ) (op : Operator) (inverse : List Operator)
+read_no_more : (vs : List Version) (stamp : ℕ) (op : Operator) (inverse : List Operator)
     → AreVersions None no_tables (map version_of vs) → (k j : ℕ) (v : Version) → k < length vs
     → v ≡ get_or vs k v → k + 1 ≡ j → (these : List ℕ → Bool)
     → AreDead these (with_version (map version_of vs) stamp op inverse) j (length vs + 1)
@@ -148,3 +148,18 @@ read_no_more vs stamp op inverse are k j v l e q these dead c =
     ≤ max (widest_with all last j) (greatest_of all (length vs) last)) q
     (subst (λ (n : ℕ). greatest_of all (k + 1) last
     ≤ max (widest_with all last n) (greatest_of all (length vs) last)) further less)
+
+pub read_covered : (vs : List Version) (stamp : ℕ) (op : Operator) (inverse : List Operator)
+    → AreVersions None no_tables (map version_of vs) → (k j : ℕ) (v : Version) → k < length vs
+    → v ≡ get_or vs k v → k + 1 ≡ j → (named dead : List ℕ → Bool)
+    → NameAll named (with_version (map version_of vs) stamp op inverse) j
+    → AreDead dead (with_version (map version_of vs) stamp op inverse) j (length vs + 1)
+    → (creates_one named (operator_of v.op) ≡ false)
+    ⊎ (creates_one (λ n. not (dead n)) (operator_of v.op) ≡ false)
+    → greatest_of (with_version (map version_of vs) stamp op inverse) j (length vs + 1)
+    ≤ max (widest_with (with_version (map version_of vs) stamp op inverse) (length vs + 1) j)
+    (greatest_of (with_version (map version_of vs) stamp op inverse) (length vs) (length vs + 1))
+read_covered vs stamp op inverse are k j v l e q named dead m d (inl c) =
+    read_less vs stamp op inverse are k j v l e q named m c
+read_covered vs stamp op inverse are k j v l e q named dead m d (inr c) =
+    read_no_more vs stamp op inverse are k j v l e q dead d c

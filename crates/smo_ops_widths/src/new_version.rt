@@ -60,17 +60,17 @@ fn measure_on(
     Ok(greatest(next, &widths))
 }
 
-// Whether version `k` creates no table, or one that is not among the names of later operators, or
-// one that is dead.
+// Whether version `k` has no tables, creates none, or creates one that is not among the names of
+// later operators, or one that is dead.
 fn is_covered(versions: &Versions, names: &BTreeSet<Name>, dead: &BTreeSet<Name>, k: usize) -> bool
     requires there { k ≤ length versions.now.list.items }
-    ensures { result ≡ true → (v : Version) × (k - 1 < length versions.now.list.items)
+    ensures { result ≡ true → (k ≡ 0) ⊎ ((v : Version) × (k - 1 < length versions.now.list.items)
         × (v ≡ get_or versions.now.list.items (k - 1) v) × (k - 1 + 1 ≡ k)
         × ((creates_one (contains bytes_cmp names.now) (operator_of v.op) ≡ false)
-        ⊎ (creates_one (λ n. not (contains bytes_cmp dead.now n)) (operator_of v.op) ≡ false)) }
+        ⊎ (creates_one (λ n. not (contains bytes_cmp dead.now n)) (operator_of v.op) ≡ false))) }
 {
     if k == 0 {
-        return false;
+        return true;
     }
     let op = &versions.list[k - 1].op;
     if creates_one(names, op) {
@@ -82,7 +82,8 @@ fn is_covered(versions: &Versions, names: &BTreeSet<Name>, dead: &BTreeSet<Name>
 // The greatest measure of the tables of version `k`, which have these widths, and of the tables of
 // the version that the operator makes, read from version `k`. Where it is covered these are left
 // out: they are at least as wide where they are read from the version before, and a table that it
-// creates is as wide where it is read from the newest version, or nothing is made of it.
+// creates is as wide where it is read from the newest version, or nothing is made of it; and where
+// there was no table nothing is read.
 fn measure_at(
     alloc: Global,
     versions: &Versions,
