@@ -3,8 +3,7 @@ use Rattle.std.proofs.Common.{◌≡◌, ℕ, Bool, true, false, List, [], ◌�
 use Rattle.std.specs.Prelude.{cond, ◌||◌}
 use Rattle.prima_base.specs.OrderLaws.{same_is}
 use Rattle.schema_catalog.specs.Tables.{Tables}
-use Rattle.smo_ops_types.specs.Operators.{Operator, nop, create_table, drop_table}
-use Rattle.prima_base.specs.Columns.{Column}
+use Rattle.smo_ops_types.specs.Operators.{Operator, drop_table}
 use Rattle.smo_ops_spec.specs.OneRow.{same}
 use Rattle.smo_ops_spec.specs.Preconditions.{among}
 use Rattle.smo_ops_spec.specs.Touching.{makes, made_of}

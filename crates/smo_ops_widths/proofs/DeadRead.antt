@@ -1,6 +1,6 @@
 -- What is read from a version that creates a dead table is what is read from the version before.
 use Rattle.std.proofs.Common.{◌≡◌, ◌+◌, ◌≤◌, ℕ, Bool, true, false, List, refl, ap, sym, ◌∙◌}
-use Rattle.std.proofs.Common.{subst, arith}
+use Rattle.std.proofs.Common.{subst}
 use Rattle.std.specs.Prelude.{cond, not, Option, Some, slice_get}
 use Rattle.std.specs.Option.{option_map}
 use Rattle.std.specs.FinMap.{get, insert, entries, get-insert}
@@ -14,10 +14,8 @@ use Rattle.smo_ops_spec.specs.OneRow.{same}
 use Rattle.smo_ops_spec.specs.Making.{in_order}
 use Rattle.smo_ops_spec.specs.After.{schema_after}
 use Rattle.smo_ops_spec.specs.Past.{no_tables, tables_from}
-use Rattle.smo_ops_versions_spec.specs.Steps.{taken}
-use Rattle.smo_ops_versions_spec.specs.Ways.{way}
 use Rattle.smo_ops_widths.specs.Widths.{Width, Widths, a_width, own_width, own_widths, widths_over}
-use Rattle.smo_ops_widths.specs.Widths.{widths_stepped, greatest, greatest_of}
+use Rattle.smo_ops_widths.specs.Widths.{greatest, greatest_of}
 use Rattle.smo_ops_widths.specs.Dead.{AgreeBeside, AreDead}
 use Rattle.smo_ops_widths.proofs.ShownLaws.{put_at}
 use Rattle.smo_ops_widths.proofs.OwnWithin.{own_by}

@@ -1,4 +1,4 @@
-use Rattle.std.proofs.Common.{sym, subst, refl, List, ℕ, Bool}
+use Rattle.std.proofs.Common.{sym, subst, refl}
 use Rattle.std.proofs.lemmas.Result.{IfOk-weaker}
 use Rattle.std.specs.BTreeSet.{contains}
 use Rattle.prima_base.specs.Order.{bytes_cmp}
