@@ -1,7 +1,7 @@
 -- Places that are exchanged, dropped and put in order, and their rows.
 use Rattle.std.proofs.Common.{◌≡◌, ◌≤◌, ◌<◌, ◌+◌, ℕ, List, [], length, take, get_or, map}
 use Rattle.std.proofs.Common.{sym, ap, ◌∙◌, subst, arith, false}
-use Rattle.std.proofs.Common.{Bool, slice_range, ◌-◌, ◌++◌, drop}
+use Rattle.std.proofs.Common.{Bool, slice_range, ◌-◌, ◌++◌, ◌∷◌, drop, inl, inr}
 use denote.Param.Members.{Mut}
 use denote.Ref.{Bor}
 use borrow.Rule.Slice.PartMut.{put_mid, post_of}
@@ -21,6 +21,7 @@ use Rattle.std.proofs.lemmas.List.{map-set, get_or-map, length-map}
 use Rattle.std.proofs.lemmas.List.Edits.{swap_is}
 use Rattle.std.specs.declared.vec.Vec.{Vec}
 use Rattle.std.specs.declared.alloc.Global.{Global}
+use Rattle.relations_spec.specs.Sets.{In}
 use Rattle.relations_spec.specs.Spans.{Span, span}
 use Rattle.prima_base.specs.declared.value.Val.{Val}
 use Rattle.prima_base.specs.declared.timed_row.TimedRow.{TimedRow}
@@ -31,7 +32,7 @@ use Rattle.prima_base_rows.specs.declared.place.RowPlace.{RowPlace}
 use Rattle.prima_base_rows.specs.Places.{values_at, place_cmp, row_at}
 
 pub nowhere : RowPlace
-nowhere = record { start = 0; len = 0; period = span 0 0 }
+nowhere = record { start = 0; len = 0; period = span 0 1; moment = omega arith }
 
 -- a row of no values
 pub no_row : TimedRow
@@ -94,12 +95,26 @@ sorted_rows v places h k d low high =
     is_lt (timed_cmp (row_at v (get_or places (k + 1) nowhere)) b) ≡ false)
     (sym (get_or-map (row_at v) places k nowhere d here)) (h k nowhere low next))
 
+-- the same values in another period
+abbrev pub placed_in : RowPlace → (p : Span) → p.start < p.end → RowPlace
+placed_in place p moment =
+    record { start = place.start; len = place.len; period = p; moment = moment }
+
 -- a row in another period
 pub set_row : (v : Vec Val Global) (places : List RowPlace) (i : ℕ) (place : RowPlace)
-    (p : Span) (d : TimedRow) → i < length places → place ≡ get_or places i place
-    → map (row_at v) (set places i (record place { period = p }))
+    (p : Span) (moment : p.start < p.end) (d : TimedRow) → i < length places
+    → place ≡ get_or places i place
+    → map (row_at v) (set places i (placed_in place p moment))
     ≡ set (map (row_at v) places) i (in_period (get_or (map (row_at v) places) i d) p)
-set_row v places i place p d il is =
-    map-set (row_at v) places i (record place { period = p })
+set_row v places i place p moment d il is =
+    map-set (row_at v) places i (placed_in place p moment)
     ∙ ap (λ (r : TimedRow). set (map (row_at v) places) i (in_period r p))
     (sym (get_or-map (row_at v) places i place d il ∙ ap (row_at v) (sym is)))
+
+-- each row has the moment of its place
+pub row_moments : (v : Vec Val Global) (places : List RowPlace) (row : TimedRow)
+    → In row (map (row_at v) places) → row.period.start < row.period.end
+row_moments v [] row m = absurd m
+row_moments v (place ∷ places) row (inl e) =
+    subst (λ (r : TimedRow). r.period.start < r.period.end) e place.moment
+row_moments v (place ∷ places) row (inr m) = row_moments v places row m

@@ -12,6 +12,7 @@
 
 mod order;
 mod place;
+mod places;
 mod row;
 mod rows;
 

@@ -3,7 +3,8 @@ ghost use Rattle.std.specs.Ordering.{is_lt};
 ghost use Rattle.std.specs.List.Sorted.{IsPermutation, IsSorted};
 ghost use Rattle.prima_base_rows.specs.Places.{place_cmp};
 
-use crate::place::{RowPlace, values_at};
+use crate::place::RowPlace;
+use crate::places::values_at;
 use prima_base::{Val, compare_vals};
 use std::cmp::Ordering;
 

@@ -1,5 +1,6 @@
 use crate::order::sort_places;
-use crate::place::{RowPlace, push_moved, values_at, values_of};
+use crate::place::RowPlace;
+use crate::places::{has_moment, push_moved, values_at, values_of};
 use prima_base::{NoMemory, Period, Val, copy_vals};
 use std::alloc::Global;
 use std::marker::Model;
@@ -32,6 +33,7 @@ impl<'a> TimedRows<'a> {
     ghost use Rattle.std.specs.Prelude.{slice_range};
     ghost use Rattle.std.specs.List.{swap};
     ghost use Rattle.std.specs.List.Sorted.{IsPermutation, IsSorted};
+    ghost use Rattle.relations_spec.specs.Sets.{In};
     ghost use Rattle.prima_base.specs.declared.timed_row.TimedRow.{TimedRow};
     ghost use Rattle.prima_base.specs.Timed.{timed_cmp, entries_of};
     ghost use Rattle.prima_base_rows.specs.Rows.{row_of, in_period, borrowed_of};
@@ -96,6 +98,12 @@ impl<'a> TimedRows<'a> {
         values_at(&self.values, &self.places[index])
     }
 
+    /// The period of each row has a moment. Nothing is looked at: a list is made of such rows alone.
+    pub fn have_moments(&self)
+        ensures { (row : TimedRow) → In row self.now.items → row.period.start < row.period.end }
+    {
+    }
+
     /// Puts a row of these values after the others, which leaves no values there. Where memory runs
     /// out, the rows and the values are as they were, and the one error is `NoMemory`.
     pub fn push_from(&mut self, values: &mut Vec<Val<'a>>, period: Period) -> Result<(), NoMemory>
@@ -109,6 +117,7 @@ impl<'a> TimedRows<'a> {
         let start = self.values.len();
         let len = values.len();
         self.values.append(values)?;
+        has_moment(period);
         self.places.push_reserved(RowPlace { start, len, period });
         Ok(())
     }
@@ -133,7 +142,13 @@ impl<'a> TimedRows<'a> {
             (in_period (slice_index_or self.old.items index d) period) }
         ensures len { length self.new.items ≡ length self.old.items }
     {
-        self.places[index].period = period;
+        has_moment(period);
+        let place = self.places[index];
+        self.places[index] = RowPlace {
+            start: place.start,
+            len: place.len,
+            period,
+        };
     }
 
     /// Exchanges two rows.

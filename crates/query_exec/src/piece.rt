@@ -4,9 +4,7 @@
 ghost use Rattle.std.specs.Prelude.{◌≡◌, ℕ, ◌+◌, ◌<◌, ◌≤◌, ◌++◌, List, [], ◌∷◌, true, false, IfOk};
 ghost use Rattle.std.specs.Prelude.{OnOk};
 ghost use Rattle.std.specs.Prelude.{length};
-ghost use Rattle.relations_spec.specs.Sets.{In};
 ghost use Rattle.relations_spec.specs.Spans.{Span, covers};
-ghost use Rattle.prima_base.specs.declared.timed_row.TimedRow.{TimedRow as OneRow};
 ghost use Rattle.prima_base.specs.Timed.{rows_at, entries_of};
 ghost use Rattle.smo_ops_spec.specs.OneRow.{Relation};
 ghost use Rattle.smo_ops_spec.specs.Past.{Past, tables_of};
@@ -44,22 +42,6 @@ pub(crate) fn put_rows<'a>(
     rows.append(news)
 }
 
-// A period has a moment: its start.
-fn has_moments(period: Period)
-    ensures { period.start < period.end }
-{
-    let _start = period.start();
-}
-
-// Each row has a moment, the first of its period. So nothing is done here.
-fn have_moments(rows: &TimedRows<'_>)
-    ensures { (row : OneRow) → In row rows.now.items → row.period.start < row.period.end }
-{
-    for i in 0..rows.len() {
-        has_moments(rows.period(i));
-    }
-}
-
 // What pieces over a version mean in the period, all together.
 fn run_pieces<'a, L: Ledger>(
     alloc: Global,
@@ -88,7 +70,7 @@ fn run_pieces<'a, L: Ledger>(
     let mut rows = TimedRows::new(alloc);
     for piece in pieces {
         let news = run_piece(alloc, groups, version, piece, period, steps)?;
-        have_moments(&news);
+        news.have_moments();
         put_rows(&mut rows, news)?;
     }
     Ok(rows)

@@ -113,14 +113,6 @@ fn rewrite_by<R: Rule>(
     }
 }
 
-// With a rule of each kind they are a valid book.
-fn known<R: Rule>(rules: &[R])
-    requires { missing (map R.handles rules.now) ≡ None }
-    ensures { IsValidBook (book_of R.handles R.answers rules.now) }
-{
-    all_known(rules);
-}
-
 /// Rules, mostly boxed: one for each kind of operator, in a book that `new` makes.
 #[derive(Drop)]
 pub struct RuleBook<R: Rule> {
@@ -128,6 +120,8 @@ pub struct RuleBook<R: Rule> {
     pub rules: Vec<R>,
     // no kind of operator is without a rule
     pub ghost each: { missing (map R.handles rules.items) ≡ None },
+    // each rule is valid
+    pub ghost valid: { AreValidRules R.handles R.answers rules.items },
 }
 
 impl<R: Rule> RuleBook<R> {
@@ -143,6 +137,7 @@ impl<R: Rule> RuleBook<R> {
         ensures fault { IfErr result (λ fault. IsFault (map R.handles rules.items) fault) }
     {
         check_rules(alloc, &rules)?;
+        all_known(&rules);
         Ok(RuleBook { rules })
     }
 
@@ -150,7 +145,6 @@ impl<R: Rule> RuleBook<R> {
     pub fn known(&self)
         ensures { IsValidBook (book_of R.handles R.answers self.now.rules.items) }
     {
-        known(&self.rules);
     }
 
     /// What the rule of the operator's kind answers, none of which is dead. The operator is accepted

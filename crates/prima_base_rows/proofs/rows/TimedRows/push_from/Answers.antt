@@ -20,6 +20,7 @@ returns-clause-rows c =
       start = c.len-start.result;
       len = c.len-len.result;
       period = c.args.period;
+      moment = c.has_moment.ensures;
     } in
     ap (map (row_at c.append.new.self)) (c.push_reserved.ensures.items
     ∙ ap (λ (l : List RowPlace). l ++ place ∷ []) c.reserve.ensures.items)

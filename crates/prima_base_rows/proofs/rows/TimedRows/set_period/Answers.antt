@@ -14,6 +14,6 @@ returns-clause-rows c = λ d.
     let inside : c.args.index < length c.self.inside.places.items =
     omega (arith, long, c.requires) in
     set_row c.self.inside.values c.self.inside.places.items c.args.index c.index_mut.result.now
-    c.args.period d inside c.index_mut.ensures.value
+    c.args.period c.has_moment.ensures d inside c.index_mut.ensures.value
     ∙ ap (λ (r : Rows). set r.items c.args.index (in_period (get_or r.items c.args.index d)
     c.args.period)) c.self.view_is

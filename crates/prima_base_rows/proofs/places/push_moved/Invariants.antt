@@ -1,6 +1,6 @@
 use Rattle.std.proofs.Common.{◌≡◌, ◌+◌, ◌++◌, take, map, vec_len, vec_capacity}
 use Rattle.prima_base_rows.specs.Places.{moved}
-use Rattle.prima_base_rows.proofs.place.push_moved.Given as goal
+use Rattle.prima_base_rows.proofs.places.push_moved.Given as goal
 
 abbrev pub invariant-loop-place : goal.invariant-loop-place
 invariant-loop-place l = record {
