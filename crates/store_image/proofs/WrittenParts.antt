@@ -18,7 +18,7 @@ use Rattle.smo_ops_spec.proofs.NextSchemas.{next_is_valid}
 use Rattle.command_codec_spec.specs.Encoding.{number, list_bytes}
 use Rattle.store_image_spec.specs.Encoding.{span_bytes, cell_bytes, stored_bytes}
 use Rattle.store_image_spec.proofs.ValidVersions.{version_writable}
-use Rattle.version_groups_tables.specs.declared.made_table.MadeTable.{MadeTable}
+use Rattle.version_groups.specs.StoredTables.{MadeTable}
 use Rattle.store_image.specs.ImageIn.{kept_line, CanBeWritten, AreValid}
 
 -- one part more
