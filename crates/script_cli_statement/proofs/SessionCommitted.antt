@@ -11,8 +11,8 @@ use Rattle.smo_ops_types.specs.Changes.{PlainChange}
 use Rattle.smo_ops_types.specs.Commands.{PlainCommand}
 use Rattle.smo_ops_spec.specs.Checks.{Fault}
 use Rattle.archive_core_file_spec.specs.LogRecords.{logged}
-use Rattle.script_cli_vault.specs.ArchiveOnDisk.{Done, Archive, CommitFault, commit, below}
-use Rattle.script_cli_vault.specs.ArchiveOnDisk.{place_of}
+use Rattle.script_cli_vault.specs.ArchiveOnDisk.{Done, Archive, CommitFault, below, place_of}
+use Rattle.script_cli_vault.specs.ArchiveOnDisk.commit
 use Rattle.answer_text.specs.RefusalTexts.{refusal_text}
 use Rattle.answer_text.specs.Texts.{changed_text}
 use Rattle.sessions.specs.declared.vault.VaultDone.{VaultDone}
