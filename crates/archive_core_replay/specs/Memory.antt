@@ -7,9 +7,9 @@ pub use Rattle.archive_core_state.specs.Asking.{IsKeptOfList, IsListed, IsNotRef
 pub use Rattle.archive_core_state.specs.Asking.{TellsWayBack, pieces_told, query_asked}
 pub use Rattle.archive_core_state.specs.Asking.{tells_periods}
 pub use Rattle.archive_core_state.specs.Committing.{IsAsBefore, IsDone, version_made}
-pub use Rattle.archive_core_state.specs.Groups.{IsCommandAccepted, Kept, Prepares, Represents}
-pub use Rattle.archive_core_state.specs.Groups.{a_command, checked_command, rows_gained}
-pub use Rattle.archive_core_state.specs.Groups.{rows_lost}
+pub use Rattle.archive_core_state.specs.VersionGroups.{IsCommandAccepted, Kept, Prepares}
+pub use Rattle.archive_core_state.specs.VersionGroups.{Represents, a_command, checked_command}
+pub use Rattle.archive_core_state.specs.VersionGroups.{rows_gained, rows_lost}
 pub use Rattle.archive_core_state.specs.NewCommands.{new_command_fault}
 pub use Rattle.archive_core_state.specs.Queries.{AreBorrowedBy, ArePieces, AreSpared}
 pub use Rattle.archive_core_state.specs.Queries.{BorrowedByBranch, ValidInBranch, ValidInQuery}

@@ -11,7 +11,7 @@ ghost use Rattle.store_image_spec.specs.ShownPast.{image_past};
 ghost use Rattle.journal.specs.Records.{Record, IsKnown};
 ghost use Rattle.journal.specs.Reading.{records_in, record_of, AreInPlace};
 ghost use Rattle.journal.specs.declared.rec.Rec.{Rec as ARecord};
-ghost use Rattle.archive_core_state.specs.Groups.{Represents};
+ghost use Rattle.archive_core_state.specs.VersionGroups.{Represents};
 ghost use Rattle.archive_core_file_spec.specs.Opening.{HasNoEncodingAt};
 ghost use Rattle.archive_core_replay.specs.Reading.{IsRefusedIn, IsRead, AreKept};
 ghost use Rattle.archive_core_replay.specs.declared.fault.RestoreFault.TheVariants as restoring;
