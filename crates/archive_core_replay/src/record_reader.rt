@@ -11,13 +11,13 @@ ghost use Rattle.store_image_spec.specs.ShownPast.{image_past};
 ghost use Rattle.journal.specs.Records.{Record, IsKnown};
 ghost use Rattle.journal.specs.Reading.{records_in, record_of, AreInPlace};
 ghost use Rattle.journal.specs.declared.rec.Rec.{Rec as ARecord};
-ghost use Rattle.version_groups.specs.Representation.{Represents};
+ghost use Rattle.archive_core_state.specs.VersionGroups.{Represents};
 ghost use Rattle.archive_core_file_spec.specs.Opening.{HasNoEncodingAt};
 ghost use Rattle.archive_core_replay.specs.Reading.{IsRefusedIn, IsRead, AreKept};
 ghost use Rattle.archive_core_replay.specs.declared.fault.RestoreFault.TheVariants as restoring;
 
 use crate::RestoreFault;
-use archive_core_state::ArchiveState;
+use archive_core_state::{ArchiveState, Groups};
 use command_codec::{CodecFault, decode};
 use command_codec_checker::{CheckFault, check};
 use journal::{CHECKPOINT, Rec};
@@ -25,7 +25,6 @@ use smo_ops_types::Command;
 use std::alloc::Global;
 use store_image::{ImageFault, read_image};
 use store_image_spec::an_image_is_what_is_read;
-use version_groups::Groups;
 
 /// What is kept of records that were read.
 #[derive(Drop)]
