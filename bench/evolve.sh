@@ -5,9 +5,11 @@
 # KiB of the inserts alone and with the NOPs. An operator costs what it is given and makes: NOPs
 # take as long whatever the rows are, and the others grow as the rows do. Then ten operators behind
 # ten versions, and ten behind 502, over tables of no rows, in milliseconds for one: the measure of
-# what an operator makes is taken over all versions before it, in one pass back and one forward.
-# Then the same where every third version creates a table that the next one alters: this is the
-# shape that needs most passes, one for each of these.
+# what an operator makes is taken over all versions before it, in one pass back and one forward. So
+# it costs at most a few times as much behind 502 versions. Then the same where every third version
+# creates a table that the next one alters and the one behind drops, which need no passes of their
+# own; and where sixty tables are created and altered and stay, as many as may stand but for four:
+# this is the shape that needs most passes, one for each of these.
 set -eu
 top=$(cd "$(dirname "$0")/.." && pwd)
 "$top/prima" </dev/null >/dev/null || [ $? -eq 2 ] # builds what is missing; no words, no archive
@@ -63,6 +65,13 @@ def anew(count):
     return [f"AT {1 + i} EVOLVE {ops[i % 3]};" for i in range(count)]
 
 
+def kept(count):
+    ops = ["ADD COLUMN c AS a INTO t0", "DROP COLUMN c FROM t0"]
+    made = [op for i in range(60) for op in (f"CREATE TABLE t{i} (a INT)",
+        f"ADD COLUMN b AS a INTO t{i}")]
+    return [f"AT {1 + i} EVOLVE {(made + ops * count)[i]};" for i in range(count)]
+
+
 def one_more(made, count):
     """The processor milliseconds of an operator behind so many versions."""
     before, after = ([play(made(n))[2] for _ in range(5)] for n in (count, count + 10))
@@ -72,5 +81,7 @@ def one_more(made, count):
 few, many = one_more(versions, 10), one_more(versions, 502)
 print(f"an operator behind 10 versions {few:.2f} ms, behind 502 versions {many:.2f} ms")
 few, many = one_more(anew, 10), one_more(anew, 502)
-print(f"where every third creates a table that the next one alters {few:.2f} ms, {many:.2f} ms")
+print(f"where every third creates a table that goes again {few:.2f} ms, {many:.2f} ms")
+few, many = one_more(kept, 10), one_more(kept, 502)
+print(f"where sixty tables are created and altered and stay {few:.2f} ms, {many:.2f} ms")
 PYTHON

@@ -1,7 +1,7 @@
 -- An archive in memory that is as it was, but for room.
 use Rattle.std.proofs.Common.{◌≡◌, refl, sym, subst}
 use Rattle.smo_ops_spec.specs.Past.{Past}
-use Rattle.version_groups.proofs.PreparedCommands.{is_same}
+use Rattle.archive_core_replay.proofs.Memory.{is_same}
 use Rattle.archive_core_replay.specs.Memory.{ArchiveContent, RepresentsPast}
 use Rattle.archive_core.specs.Committing.{IsUnchanged}
 

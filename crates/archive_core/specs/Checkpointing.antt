@@ -4,7 +4,7 @@ use Rattle.smo_ops_spec.specs.Checks.{Fault}
 use Rattle.smo_ops_spec.specs.Past.{Past}
 use Rattle.store_image_spec.specs.Images.{Image}
 use Rattle.store_image_spec.specs.Lengths.{image_length}
-use Rattle.store_image.specs.ImageIn.{image_in}
+use Rattle.archive_core_replay.specs.Images.{image_in}
 use Rattle.archive_core_file_spec.specs.LogRecords.{LogRecord, checkpointed}
 use Rattle.archive_core_replay.specs.Memory.{ArchiveContent}
 use Rattle.archive_core.specs.Committing.{need_fault}

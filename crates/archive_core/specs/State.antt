@@ -4,5 +4,6 @@ pub use Rattle.archive_core_replay.specs.Memory.{ArchiveContent, RepresentsPast,
 pub use Rattle.archive_core_replay.specs.Memory.{IsAsked, IsAskedSchema, IsKeptOfList, IsListed}
 pub use Rattle.archive_core_replay.specs.Memory.{IsWrong, pieces_told, tells_periods, IsDone}
 pub use Rattle.archive_core_replay.specs.Memory.{version_made, ArePieces, ValidInBranch}
-pub use Rattle.archive_core_replay.specs.Memory.{ValidInQuery, Done}
-pub use Rattle.store_image.specs.ImageIn.{IsImageOf}
+pub use Rattle.archive_core_replay.specs.Memory.{ValidInQuery, Done, Kept, book_meaning}
+pub use Rattle.archive_core_replay.specs.Memory.{rows_gained, rows_lost}
+pub use Rattle.archive_core_replay.specs.Images.{IsImageOf}

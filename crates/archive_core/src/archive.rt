@@ -8,7 +8,7 @@ ghost use Rattle.smo_ops_types.specs.Commands.{command_of};
 ghost use Rattle.smo_ops_spec.specs.Past.{Past};
 ghost use Rattle.command_codec_spec.specs.Valid.{IsCommand};
 ghost use Rattle.temporal_lang_types.specs.Queries.{query_of};
-ghost use Rattle.rewrite.specs.Books.{book_meaning};
+ghost use Rattle.archive_core_replay.specs.Memory.{book_meaning};
 ghost use Rattle.journal.specs.Mounting.{IsNotSynced, KeepsFile};
 ghost use Rattle.journal.specs.Records.{Record, StandsFor, opened_file};
 ghost use Rattle.journal.specs.JournalFiles.{Stands, sealed_record};
@@ -21,7 +21,7 @@ ghost use Rattle.archive_core_replay.specs.Memory.{TellsWayBack, ArePiecesOf, qu
 ghost use Rattle.archive_core_replay.specs.Memory.{pieces_told, IsKeptOfList, IsNotRefused};
 ghost use Rattle.archive_core_replay.specs.Memory.{BorrowedByBranch, AreSpared, AreBorrowedBy};
 ghost use Rattle.archive_core_replay.specs.Memory.{explained_read, reads_of};
-ghost use Rattle.version_groups.specs.CheckedCommands.{checked_command, IsCommandAccepted};
+ghost use Rattle.archive_core_replay.specs.Memory.{checked_command, IsCommandAccepted};
 ghost use Rattle.piece_ir.specs.ExplainedPieces.{PlainExplained};
 ghost use Rattle.archive_core.specs.NextRecord.{HasGateUnless, gate_once};
 ghost use Rattle.archive_core.specs.declared.fault.CommitFault.TheVariants as fault;
@@ -30,19 +30,18 @@ ghost use Rattle.archive_core.specs.declared.fault.MountFault.TheVariants as mou
 use crate::fault::{fault_of_journal, fault_of_restoring};
 use crate::preparation::{check_and_seal, seal_checkpoint};
 use crate::{AskFault, CommitFault, MountFault};
-use answer_text::Listing;
-use archive_core_replay::{AcceptedCommand, ArchiveState, Done, Opened, restore};
+use archive_core_replay::{
+    AcceptedCommand, ArchiveState, CheckedCommand, Done, Groups, Listing, Opened, Rule, RuleBook,
+    an_image_shows_its_archive, restore,
+};
 use disk_model::Disk;
 use journal::{Journal, PutFault, Sealed};
 use piece_ir::Explained;
 use prima_base::{Refusal, Steps};
-use rewrite_rules_book::{Rule, RuleBook};
 use smo_ops_types::Command;
 use std::alloc::Global;
 use std::sync::ledger::Ledger;
-use store_image::an_image_shows_its_archive;
-use temporal_lang::Query;
-use version_groups::{CheckedCommand, Groups};
+use temporal_lang_types::Query;
 
 /// An archive whose accepted commands stand as records in a journal on a disk, and in memory as the
 /// past that they make.
@@ -68,7 +67,7 @@ impl<D: Disk> Archive<D> {
     ghost use Rattle.archive_core.specs.Checkpointing.{Checkpoints, image_of_archive};
     ghost use Rattle.archive_core.specs.Checkpointing.{checkpoint_of};
     ghost use Rattle.archive_core.specs.Mounting.{IsMounted, IsKeptOrBegun};
-    ghost use Rattle.store_image.specs.ImageIn.{IsImageOf};
+    ghost use Rattle.archive_core_replay.specs.Images.{IsImageOf};
 
     /// Opens the archive whose records the file on a disk holds: its past is exactly the one that
     /// the last image shows, or the empty one, with the commands after it, in order, and counts all

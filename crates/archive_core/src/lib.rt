@@ -11,8 +11,7 @@ mod archive;
 mod fault;
 mod preparation;
 
-pub use answer_text::Listing;
 pub use archive::Archive;
-pub use archive_core_replay::{AskFault, Done, Opened};
+pub use archive_core_replay::{ArchiveState, AskFault, Done, Listing, Opened, Rule, RuleBook};
 pub use fault::{CommitFault, MountFault};
 pub use piece_ir::Explained;

@@ -12,17 +12,16 @@ ghost use Rattle.archive_core_replay.specs.Memory.{RepresentsSome};
 ghost use Rattle.archive_core_file_spec.specs.LogRecords.{logged, record_of};
 ghost use Rattle.archive_core.specs.Committing.{IsCommandChecked};
 ghost use Rattle.archive_core.specs.Checkpointing.{checkpoint_of};
-ghost use Rattle.store_image.specs.ImageIn.{GroupsHold};
+ghost use Rattle.archive_core_replay.specs.Images.{GroupsHold};
 
 use crate::CommitFault;
-use archive_core_replay::{AcceptedCommand, ArchiveState, CommandFault};
+use archive_core_replay::{AcceptedCommand, ArchiveState, CommandFault, image_of};
 use command_codec::{encode_changes, encode_operator};
 use command_codec_spec::accepted_commands_can_be_written;
-use journal::{CHECKPOINT, COMMAND, Sealed};
+use journal::{CHECKPOINT, COMMAND, RECORD_HEAD, Sealed};
 use prima_base::NoMemory;
 use smo_ops_types::Command;
 use std::alloc::Global;
-use store_image::image_of;
 
 // The spelling of an accepted command.
 fn encoded(alloc: Global, accepted: &AcceptedCommand) -> Result<Vec<u8>, NoMemory>
@@ -82,6 +81,6 @@ pub(crate) fn seal_checkpoint(alloc: Global, state: &ArchiveState) -> Result<Sea
     ensures holds { OnOk result (GroupsHold state.now.groups) }
 {
     let last = state.last();
-    let bytes = image_of(alloc, state.groups(), last)?;
-    Sealed::new(alloc, CHECKPOINT, &bytes)
+    let bytes = image_of(alloc, state.groups(), last, RECORD_HEAD)?;
+    Sealed::over(CHECKPOINT, bytes)
 }

@@ -1,15 +1,12 @@
 -- Records read as what they stand for, one after the other.
-use Rattle.std.proofs.Common.{◌≡◌, ◌⊎◌, inl, inr, ℕ, zero, suc, ◌+◌, ◌-◌, ◌<◌, ◌≤◌, ◌^◌, List, []}
+use Rattle.std.proofs.Common.{◌≡◌, ◌⊎◌, inl, inr, ℕ, zero, suc, ◌+◌, ◌<◌, ◌≤◌, ◌^◌, List, []}
 use Rattle.std.proofs.Common.{◌∷◌, ◌++◌, length, get_or, take, drop, map, refl, sym, subst, ◌∙◌, ap}
-use Rattle.std.proofs.Common.{add-one, arith, append_assoc, length-append, IsTrue, Bool, true}
+use Rattle.std.proofs.Common.{add-one, arith, append_assoc, length-append, Bool, true}
 use Rattle.std.proofs.lemmas.Bool.{cases_lt}
-use Rattle.std.specs.List.{AllByRecursion}
-use Rattle.std.specs.Prelude.{Some}
-use Rattle.std.proofs.lemmas.List.{map-append, append-nil, take_all, length-map, get_or-drop}
+use Rattle.std.proofs.lemmas.List.{map-append, append-nil, take_all, length-map}
 use Rattle.smo_ops_types.specs.Commands.{PlainCommand, command_of}
 use Rattle.smo_ops_types.specs.declared.command.Body.{Body}
-use Rattle.smo_ops_spec.specs.Accepts.{command_fault}
-use Rattle.smo_ops_spec.specs.Past.{Past, beginning}
+use Rattle.smo_ops_spec.specs.Past.{beginning}
 use Rattle.smo_ops_spec.specs.History.{AllAccepted, past_after}
 use Rattle.command_codec_spec.specs.Valid.{IsCommand}
 use Rattle.store_image_spec.specs.Images.{Image, IsImage}
@@ -19,13 +16,13 @@ use Rattle.journal.specs.Reading.{records_in, record_of as plain_record, AreInPl
 use Rattle.journal.specs.declared.rec.Rec.{Rec}
 use Rattle.archive_core_file_spec.specs.LogRecords.{LogRecord, logged, checkpointed, record_of}
 use Rattle.archive_core_file_spec.specs.LogRecords.{records_of}
-use Rattle.archive_core_file_spec.specs.LogRecords.{gate_after, IsEncoded, AreEncoded, commands_in}
-use Rattle.archive_core_file_spec.specs.LogRecords.{replayed_in, after_records, past_recorded}
+use Rattle.archive_core_file_spec.specs.LogRecords.{gate_after, AreEncoded, commands_in}
+use Rattle.archive_core_file_spec.specs.LogRecords.{replayed_in, past_recorded}
 use Rattle.archive_core_file_spec.specs.LogRecords.{AreAccepted}
 use Rattle.archive_core_file_spec.specs.Opening.{HasNoEncodingAt}
 use Rattle.archive_core_file_spec.proofs.Records.{after_append, after_commands, after_image}
 use Rattle.archive_core_file_spec.proofs.Records.{accepted_append}
-use Rattle.archive_core_file_spec.proofs.Records.{accepted_commands, accepted_image, no_images}
+use Rattle.archive_core_file_spec.proofs.Records.{accepted_commands, accepted_image}
 use Rattle.archive_core_file_spec.proofs.Records.{all_replayed}
 use Rattle.archive_core_file_spec.proofs.Records.{replayed_after}
 use Rattle.archive_core_state.specs.ArchiveContents.{ArchiveContent, RepresentsPast}
@@ -111,6 +108,18 @@ module _ (records : List Record) (count : ℕ) (checked : AreChecked records cou
     counted = ap (λ n. n + 1) checked.counted ∙ sym
         (ap (λ (l : List PlainCommand). length l) (commands_append checked.log (logged c ∷ []))
         ∙ length-append (commands_in checked.log) (c ∷ []));
+  }
+
+  -- an image is checked
+  pub image_checked : (r : Record) (i : Image) → r ≡ record_of (checkpointed i) → IsImage i
+      → AreChecked (records ++ r ∷ []) count
+  image_checked r i e is = record {
+    log = checked.log ++ checkpointed i ∷ [];
+    encoded = encoded_append checked.log (checkpointed i ∷ []) checked.encoded (is, tt);
+    records_are = log_with records checked.log checked.records_are r (checkpointed i) e;
+    counted = checked.counted ∙ sym
+        (ap (λ (l : List PlainCommand). length l) (commands_append checked.log (checkpointed i ∷ [])
+        ∙ append-nil (commands_in checked.log)));
   }
 
   -- an image takes the place of what was kept
@@ -233,7 +242,8 @@ module _ (recs : List Rec) (before k : ℕ) (d : Rec) (old new : ReadRecords) (i
         (here.after (inl (omega (arith, none))))
     | inl some ↦ elim (cases_lt before k) [
       | inl lt ↦ reads.kept (after (omega (arith, lt))) known so_far (here.after (inr lt))
-      | inr le ↦ reads.image (kind_is some le h) so_far here.checked
+      | inr le ↦ reads.image (after (omega (arith, some, h, le))) (kind_is some le h) so_far
+          here.checked
     ]
   ]
 

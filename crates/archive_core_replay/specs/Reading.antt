@@ -45,12 +45,12 @@ pub record AreKept (records : List Record) (kept : ReadRecords) : Type 0 where
   pub represents : RepresentsPast kept.state (past_recorded prefix)
   pub counted : kept.count ≡ length (commands_in (prefix ++ map logged (commands_kept kept)))
 
--- one record was read: it was checked after those before it; an image takes the place of what was
--- kept; and after the last image a command is kept
+-- one record was read: it was checked after those before it; the last image takes the place of what
+-- was kept; and after it a command is kept
 pub record IsRead (rec : Rec) (is_after : Bool) (old new : ReadRecords) : Type 0 where
   pub checked : IsKnown rec.kind → (records : List Record) → AreChecked records old.count
       → AreChecked (records ++ plain_record rec ∷ []) new.count
-  pub image : rec.kind ≡ 2 → (records : List Record) → AreChecked records old.count
+  pub image : is_after ≡ true → rec.kind ≡ 2 → (records : List Record) → AreChecked records old.count
       → AreKept (records ++ plain_record rec ∷ []) new
   pub kept : is_after ≡ true → IsKnown rec.kind → (records : List Record) → AreKept records old
       → AreKept (records ++ plain_record rec ∷ []) new

@@ -7,7 +7,11 @@ mod opened;
 mod record_reader;
 mod replay;
 
-pub use archive_core_state::{AcceptedCommand, ArchiveState, AskFault, CommandFault, Done};
+pub use archive_core_state::{
+    AcceptedCommand, ArchiveState, AskFault, CheckedCommand, CommandFault, Done, Groups, Listing,
+    Rule, RuleBook,
+};
 pub use fault::RestoreFault;
 pub use opened::Opened;
 pub use replay::restore;
+pub use store_image::{an_image_shows_its_archive, image_of};

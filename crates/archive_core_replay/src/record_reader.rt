@@ -11,21 +11,21 @@ ghost use Rattle.store_image_spec.specs.ShownPast.{image_past};
 ghost use Rattle.journal.specs.Records.{Record, IsKnown};
 ghost use Rattle.journal.specs.Reading.{records_in, record_of, AreInPlace};
 ghost use Rattle.journal.specs.declared.rec.Rec.{Rec as ARecord};
-ghost use Rattle.version_groups.specs.Representation.{Represents};
+ghost use Rattle.archive_core_state.specs.VersionGroups.{Represents};
 ghost use Rattle.archive_core_file_spec.specs.Opening.{HasNoEncodingAt};
 ghost use Rattle.archive_core_replay.specs.Reading.{IsRefusedIn, IsRead, AreKept};
 ghost use Rattle.archive_core_replay.specs.declared.fault.RestoreFault.TheVariants as restoring;
 
 use crate::RestoreFault;
-use archive_core_state::ArchiveState;
+use archive_core_state::{ArchiveState, Groups};
 use command_codec::{CodecFault, decode};
 use command_codec_checker::{CheckFault, check};
 use journal::{CHECKPOINT, Rec};
 use smo_ops_types::Command;
 use std::alloc::Global;
 use store_image::{ImageFault, read_image};
+use store_image_reader::read;
 use store_image_spec::an_image_is_what_is_read;
-use version_groups::Groups;
 
 /// What is kept of records that were read.
 #[derive(Drop)]
@@ -89,9 +89,25 @@ fn read_checkpoint(alloc: Global, rec: &Rec) -> Result<(Groups, Option<u64>), Re
     }
 }
 
+// That the payload of a checkpoint's record is an image. No groups are made of it.
+fn check_checkpoint(alloc: Global, rec: &Rec) -> Result<(), RestoreFault>
+    requires { rec.now.kind ≡ 2 }
+    ensures image { OnOk result ((i : Image) × IsImage i
+        × (rec.now.payload.items ≡ image_bytes i)) }
+    ensures damaged { (place : _) → result ≡ Err (restoring.Damaged place)
+        → IsRefusedIn rec.now.at (record_of rec.now) place }
+{
+    an_image_is_what_is_read();
+    match read(alloc, &rec.payload) {
+        Ok(_image) => Ok(()),
+        Err(ImageFault::BadAt(within)) => Err(RestoreFault::Damaged(place_in(rec.at, within))),
+        Err(ImageFault::NoMemory) => Err(RestoreFault::NoMemory),
+    }
+}
+
 impl ReadRecords {
-    // One record more. A command that stands before the last image is checked and counted, and not
-    // made.
+    // One record more. What stands before the last image is checked, and nothing is made of it; a
+    // command is counted.
     fn read(&mut self, alloc: Global, rec: &Rec, is_after: bool) -> Result<(), RestoreFault>
         requires { self.old.count < 2 ^ 64 - 1 }
         ensures read { OnOk result (IsRead rec.now is_after self.old self.new) }
@@ -102,6 +118,10 @@ impl ReadRecords {
             → IsKnown rec.now.kind → IsRefusedIn rec.now.at (record_of rec.now) place }
     {
         if rec.kind == CHECKPOINT {
+            if !is_after {
+                check_checkpoint(alloc, rec)?;
+                return Ok(());
+            }
             let (groups, last) = read_checkpoint(alloc, rec)?;
             self.state = ArchiveState::restored(alloc, groups, last);
             self.commands = Vec::new(alloc);
@@ -133,8 +153,8 @@ fn before_last_image(recs: &[Rec]) -> usize
     before
 }
 
-/// What the records stand for, all of them before any command is carried out. Only the commands
-/// after the last image are made; those before it are checked by their bytes alone.
+/// What the records stand for, all of them before any command is carried out. Only the last image
+/// and the commands after it are made; what stands before it is checked by its bytes alone.
 pub(crate) fn read_all(alloc: Global, recs: &[Rec]) -> Result<ReadRecords, RestoreFault>
     requires { AreInPlace recs.now }
     ensures kept { IfOk result (λ kept. AreKept (records_in recs.now) kept) }

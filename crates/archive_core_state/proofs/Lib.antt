@@ -3,3 +3,4 @@ pub mod Checking
 pub mod Applied
 pub mod AcceptedWidths
 pub mod Queries
+pub mod VersionGroups

@@ -4,3 +4,4 @@ pub mod NewCommands
 pub mod Committing
 pub mod Asking
 pub mod Queries
+pub mod VersionGroups

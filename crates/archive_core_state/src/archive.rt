@@ -5,12 +5,12 @@ use crate::{AcceptedCommand, AskFault, CommandFault};
 use answer_text::Listing;
 use piece_ir::Explained;
 use prima_base::{NoMemory, Steps};
-use rewrite_rules_book::{Rule, RuleBook};
+use query_exec::{Rule, RuleBook};
 use smo_ops::Command;
 use std::alloc::Global;
 use std::marker::Model;
 use std::sync::ledger::Ledger;
-use temporal_lang::Query;
+use temporal_lang_types::Query;
 use version_groups::{CheckedCommand, Groups, PreparedCommand};
 
 /// What was accepted: the versions with their stored tables, and the last stamp. Every archive
@@ -73,7 +73,7 @@ impl ArchiveState {
     ghost use Rattle.archive_core_state.specs.AcceptedCommands.{accepted_command, IsAcceptedAfter};
     ghost use Rattle.archive_core_state.specs.NewCommands.{new_command_fault};
     ghost use Rattle.archive_core_state.specs.Committing.{IsAsBefore, IsDone, Accepts};
-    ghost use Rattle.rewrite.specs.Books.{book_meaning};
+    ghost use Rattle.query_exec.specs.Books.{book_meaning};
     ghost use Rattle.piece_ir.specs.ExplainedPieces.{PlainExplained};
     ghost use Rattle.query_exec.specs.Borrowed.{BorrowedByBranch, AreSpared, AreBorrowedBy};
     ghost use Rattle.query_exec.specs.Reads.{explained_read, reads_of};

@@ -11,7 +11,7 @@ ghost use Rattle.query_exec.specs.Borrowed.{BorrowedByBranch, AreSpared, AreBorr
 ghost use Rattle.relations_spec.specs.Sets.{In};
 ghost use Rattle.query_exec.specs.Reads.{explained_read, reads_of};
 ghost use Rattle.version_groups.specs.Representation.{Represents};
-ghost use Rattle.rewrite.specs.Books.{book_meaning};
+ghost use Rattle.query_exec.specs.Books.{book_meaning};
 ghost use Rattle.archive_core_state.specs.Asking.{tells_periods, ArePiecesOf, IsAsked, IsExplained};
 ghost use Rattle.archive_core_state.specs.Asking.{query_asked, pieces_told, IsKeptOfList};
 ghost use Rattle.archive_core_state.specs.Asking.{IsNotRefused};
@@ -23,14 +23,15 @@ use answer_text::Listing;
 use coalesce::keep;
 use piece_ir::Explained;
 use prima_base::{OpKind, Refusal, Steps};
-use query_exec::{answer, explain, first_loss_in_slice};
-use rewrite_rules_book::{Rule, RuleBook, kind_of};
+use query_exec::{
+    Rule, RuleBook, answer, check_query, check_query_counts, explain, first_loss_in_slice, kind_of,
+};
 use schema_catalog::Schema;
 use smo_ops::{Op, Versions};
 use std::alloc::Global;
 use std::slice;
 use std::sync::ledger::Ledger;
-use temporal_lang::{Query, When, check_query, check_query_counts};
+use temporal_lang_types::{Query, When};
 use version_groups::Groups;
 
 // The schema of the version that the query names. What there is too much of is refused before it.

@@ -13,5 +13,8 @@ mod fault;
 mod width;
 
 pub use accepted_command::AcceptedCommand;
+pub use answer_text::Listing;
 pub use archive::{ArchiveState, Done};
 pub use fault::{AskFault, CommandFault};
+pub use query_exec::{Rule, RuleBook};
+pub use version_groups::{CheckedCommand, Groups};

@@ -1,8 +1,8 @@
 //! What a run is answered, as one line.
 
-use archive_core::{MountFault, Opened};
 use cases_text::{write_hex, write_number};
 use prima_base::NoMemory;
+use script_cli::{MountFault, Opened};
 
 /// Writes the lines of replies after each other, apart by ` | `. A line that was not ended is
 /// followed by `~`.

@@ -4,11 +4,11 @@ ghost use Rattle.std.specs.Prelude.{◌≤◌};
 ghost use Rattle.disk_model.specs.Disks.{memory_meaning};
 
 use crate::run::open;
-use archive_core::{MountFault, Opened};
 use cases_text::write_number;
 use disk_model::MemDisk;
 use journal::{Journal, Rec};
 use prima_base::NoMemory;
+use script_cli::{MountFault, Opened};
 use std::alloc::Global;
 
 // How many crash images of a moment are opened.

@@ -5,14 +5,13 @@ ghost use Rattle.disk_model.specs.Disks.{memory_meaning};
 
 use crate::answer::{write_end, write_left};
 use crate::crash::{acknowledged, write_images};
-use archive_core::{Archive, MountFault, Opened};
 use cases_text::{Groups, write_number};
 use disk_model::{Disk, FuseDisk, MemDisk};
 use prima_base::{NoMemory, Steps};
 use prima_base_counter::fresh_steps;
 use prima_io::{MemSink, MemSource};
 use rewrite_rules::{Rule, RuleBook, push_every_rule};
-use script_cli::{Status, Word, run};
+use script_cli::{Archive, MountFault, Opened, Status, Word, run};
 use std::alloc::Global;
 use std::marker::Brand;
 use std::sync::ledger::{Blank, Ledger};

@@ -19,3 +19,4 @@ mod run;
 
 pub use player::play;
 pub use run::run_with_rules;
+pub use script_cli::{FileDisk, ReaderSource, Status, Word, WriterSink};

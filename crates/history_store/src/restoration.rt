@@ -11,7 +11,7 @@ ghost use Rattle.history_store_change_spec.specs.Restoring.{ids_known};
 ghost use Rattle.history_store_change_spec.specs.Restoring.{AreCellsOf, AreValidCells};
 ghost use Rattle.history_store_change_spec.specs.Restoring.{AreEntriesOf};
 
-use history_store_columns::Column;
+use history_store_columns::{Column, text_bytes};
 use prima_base::{ColType, Name, NoMemory, Period, Val};
 use std::alloc::Global;
 
@@ -41,6 +41,23 @@ pub(crate) fn check_cells(cells: &[Vec<Cell<'_>>]) -> Result<(), NoMemory>
     Ok(())
 }
 
+// Room for these cells, in proportion to what they have: the last of them has the greatest id.
+fn reserve_cells(column: &mut Column, cells: &[Cell<'_>]) -> Result<(), NoMemory>
+    ensures kind { column.new.kind ≡ column.old.kind }
+    ensures ids { column.new.ids ≡ column.old.ids }
+    ensures cells { column.new.cells ≡ column.old.cells }
+{
+    let mut bytes = 0usize;
+    for cell in cells {
+        bytes = bytes.saturating_add(text_bytes(&cell.value));
+    }
+    let ids = match cells.last() {
+        Some(cell) => (cell.id as usize).saturating_add(1),
+        None => 0,
+    };
+    column.reserve_writes(cells.len(), ids.min(cells.len()), bytes)
+}
+
 // The column of this type with these cells, which come by id and start.
 fn column_of(alloc: Global, kind: ColType, cells: Vec<Cell<'_>>) -> Result<Column, NoMemory>
     requires valid { AreValidCells (map cell_of cells.items) }
@@ -51,7 +68,7 @@ fn column_of(alloc: Global, kind: ColType, cells: Vec<Cell<'_>>) -> Result<Colum
     ensures cells { IfOk result (λ c. c.cells ≡ map write_of (map cell_of cells.entry.items)) }
 {
     let mut column = Column::new(alloc, kind);
-    column.reserve(cells.len())?;
+    reserve_cells(&mut column, &cells)?;
     for cell in cells {
         column.add(cell.id as usize, &cell.value, cell.period.start())?;
     }

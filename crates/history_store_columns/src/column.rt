@@ -64,6 +64,7 @@ impl Model for Column {
 
 impl Column {
     ghost use Rattle.std.specs.Prelude.{◌≡◌, ◌+◌, ◌<◌, ◌≤◌, true, [], ◌∷◌, ◌++◌, OnOk, length};
+    ghost use Rattle.std.specs.Prelude.{min};
     ghost use Rattle.prima_base.specs.Order.{bytes_of, shown, IsBorrowed};
     ghost use Rattle.prima_base.specs.Columns.{has_type, IsValid};
     ghost use Rattle.history_store_columns.specs.Log.{newest};
@@ -100,6 +101,30 @@ impl Column {
         self.first.reserve(more)?;
         self.last.reserve(more)?;
         self.values.reserve(more as u32)
+    }
+
+    /// Room for so many writes more, of so many ids that are new, and for this many bytes of their
+    /// texts.
+    pub fn reserve_writes(
+        &mut self,
+        writes: usize,
+        ids: usize,
+        bytes: usize,
+    ) -> Result<(), NoMemory>
+        ensures kind { self.new.kind ≡ self.old.kind }
+        ensures ids { self.new.ids ≡ self.old.ids }
+        ensures cells { self.new.cells ≡ self.old.cells }
+        ensures spare { self.old.spare ≤ self.new.spare }
+        ensures room { OnOk result (min writes ids ≤ self.new.places) }
+    {
+        // A column has fewer than 2^32 cells: more are refused as out of memory.
+        if writes > MOST_WRITES.saturating_sub(self.writes.len()) {
+            return Err(NoMemory);
+        }
+        self.writes.reserve(writes)?;
+        self.first.reserve(ids)?;
+        self.last.reserve(ids)?;
+        self.values.reserve_texts(writes, bytes)
     }
 
     // Room for one write of this value: one place, and the bytes of its text.

@@ -16,4 +16,4 @@ mod text_buffer;
 
 pub use column::Column;
 pub use scan::{CellEntry, CellScan};
-pub use stored_value::text_room;
+pub use stored_value::{text_bytes, text_room};

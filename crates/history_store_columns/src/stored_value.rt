@@ -18,6 +18,13 @@ pub fn text_room(value: &Val<'_>) -> usize
     bytes_of(value).len() / ROOM_UNIT
 }
 
+/// How many bytes the value's text has, none where it is a number.
+pub fn text_bytes(value: &Val<'_>) -> usize
+    ensures { result ≡ length (bytes_of (shown value.now)) }
+{
+    bytes_of(value).len()
+}
+
 // The bytes of a text, none of a number.
 fn bytes_of<'v>(value: &'v Val<'_>) -> &'v [u8]
     ensures { result.now ≡ bytes_of (shown value.now) }
@@ -70,6 +77,22 @@ impl StoredValues {
                 Ok(())
             }
             StoredValues::Texts(texts) => texts.reserve(more as usize, more as usize * ROOM_UNIT),
+        }
+    }
+
+    /// Room for so many values more, and for this many bytes of their texts.
+    pub(crate) fn reserve_texts(&mut self, more: usize, bytes: usize) -> Result<(), NoMemory>
+        ensures kind { kind_of self.new ≡ kind_of self.old }
+        ensures values { values_in self.new ≡ values_in self.old }
+        ensures spare { spare_in self.old ≤ spare_in self.new }
+        ensures places { OnOk result (more ≤ places_in self.new) }
+    {
+        match self {
+            StoredValues::Numbers(numbers) => {
+                numbers.reserve(more)?;
+                Ok(())
+            }
+            StoredValues::Texts(texts) => texts.reserve(more, bytes),
         }
     }
 

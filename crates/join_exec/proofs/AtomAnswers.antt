@@ -18,7 +18,7 @@ use Rattle.cond_expr.specs.Trees.{Tree, Test, always}
 use Rattle.smo_ops_spec.specs.OneRow.{Row, Relation, meets}
 use Rattle.smo_ops_spec.specs.Making.{named}
 use Rattle.history_store.specs.Store.{Store, relation_at}
-use Rattle.version_groups_tables.specs.NewestTables.{rows_stored}
+use Rattle.version_groups.specs.StoredTables.{rows_stored}
 use Rattle.version_groups.specs.Groups.{Kept, table_in}
 use Rattle.cond_expr.specs.AtomColumns.{columns_at}
 use Rattle.plain_answers_spec.specs.Choosing.{answers_over}

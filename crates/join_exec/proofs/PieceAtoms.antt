@@ -22,7 +22,7 @@ use Rattle.smo_ops_spec.specs.Effects.{columns_of, rows_under}
 use Rattle.smo_ops_spec.specs.Past.{Past, no_tables, tables_from, tables_of, database_at}
 use Rattle.smo_ops_types.specs.Commands.{PlainVersion}
 use Rattle.history_store.specs.Store.{Store}
-use Rattle.version_groups_tables.specs.NewestTables.{rows_stored}
+use Rattle.version_groups.specs.StoredTables.{rows_stored}
 use Rattle.version_groups.specs.Groups.{Kept, table_in}
 use Rattle.version_groups.specs.Representation.{IsInForce, RepresentsEntry, Represents}
 use Rattle.plain_answers_spec.specs.Naming.{IsNamed, names_at, all_references}

@@ -5,7 +5,7 @@ use Rattle.relations_spec.specs.Sets.{set_of}
 use Rattle.prima_base.specs.Order.{row_cmp}
 use Rattle.prima_base.specs.Columns.{Column}
 use Rattle.history_store.specs.Store.{Store}
-use Rattle.version_groups_tables.specs.NewestTables.{rows_stored}
+use Rattle.version_groups.specs.StoredTables.{rows_stored}
 use Rattle.version_groups.specs.Groups.{Kept, table_in}
 use Rattle.cond_expr.specs.declared.expr.ColRef.{ColRef}
 use Rattle.smo_ops_spec.specs.OneRow.{Relation}

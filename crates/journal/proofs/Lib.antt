@@ -1,6 +1,9 @@
 pub mod Bytes
 pub mod Putting
 pub mod RecordBytes
+pub mod Known
+pub mod ReadCalls
+pub mod Heads
 pub mod Walked
 pub mod Moments
 pub mod Emptied

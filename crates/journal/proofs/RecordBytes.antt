@@ -1,12 +1,11 @@
 -- A record's bytes, read.
-use Rattle.std.proofs.Common.{◌≡◌, inl, inr, ℕ, ◌+◌, ◌-◌, ◌^◌, ◌<◌, ◌≤◌, List, [], ◌∷◌, ◌++◌}
+use Rattle.std.proofs.Common.{◌≡◌, inl, inr, ℕ, ◌+◌, ◌<◌, ◌≤◌, List, [], ◌∷◌, ◌++◌}
 use Rattle.std.proofs.Common.{length, get_or, take, drop, refl, sym, ◌∙◌, ap, subst, arith}
 use Rattle.std.proofs.Common.{append_assoc}
 use Rattle.std.proofs.lemmas.Bool.{cases_lt}
 use Rattle.std.proofs.lemmas.Nat.{be_bytes_8}
 use Rattle.std.proofs.lemmas.List.{take-append-drop, drop-drop, get_or-take, get_or-drop}
 use Rattle.std.proofs.lemmas.List.{length-take, length-drop, get_or_past}
-use Rattle.journal.specs.Reading.{IsPayload}
 use Rattle.std.specs.Int.{w64, to_be_bytes, from_be_bytes}
 
 pub length_is : (rest : List ℕ) (n : ℕ) → 9 ≤ length rest → ((i : ℕ) → get_or rest i 0 < 256)
@@ -27,15 +26,16 @@ first_of : (rest : List ℕ) → 0 < length rest → rest ≡ get_or rest 0 0 �
 first_of [] long = absurd (omega arith)
 first_of (x ∷ rest) long = refl
 
-pub split : (rest payload : List ℕ) (n : ℕ) → 9 ≤ length rest → ((i : ℕ) → get_or rest i 0 < 256)
-    → n ≡ from_be_bytes w64 (take 8 (drop 1 rest)) → n + 9 < length rest
+-- a record's first bytes, its payload, and what stands after them
+pub split_encoded : (rest payload : List ℕ) (n : ℕ) → 9 ≤ length rest
+    → to_be_bytes w64 n ≡ take 8 (drop 1 rest) → n + 9 < length rest
     → payload ≡ take n (drop 9 rest)
     → rest ≡ (get_or rest 0 0 ∷ to_be_bytes w64 (length payload) ++ payload) ++ drop (9 + n) rest
-split rest payload n long small is inside pay =
+split_encoded rest payload n long is inside pay =
     let size : length payload ≡ n = omega
     (arith, ap length pay, length-take n (drop 9 rest), length-drop 9 rest) in
     let encoded : to_be_bytes w64 (length payload) ≡ take 8 (drop 1 rest) =
-    ap (λ k. to_be_bytes w64 k) size ∙ length_is rest n long small is in
+    ap (λ k. to_be_bytes w64 k) size ∙ is in
     let after : drop 9 rest ≡ payload ++ drop (9 + n) rest =
     sym (take-append-drop n (drop 9 rest))
     ∙ ap (λ (l : List ℕ). l ++ drop n (drop 9 rest)) (sym pay)
@@ -48,19 +48,12 @@ split rest payload n long small is inside pay =
     (whole ∙ ap (λ (l : List ℕ). l ++ (payload ++ drop (9 + n) rest)) (sym encoded)
     ∙ sym (append_assoc (to_be_bytes w64 (length payload)) payload (drop (9 + n) rest)))
 
-pub whole_payload : (rest payload : List ℕ) (n : ℕ) → 9 ≤ length rest
-    → ((i : ℕ) → get_or rest i 0 < 256) → n ≡ from_be_bytes w64 (take 8 (drop 1 rest))
-    → n < length rest - 9 → n < 2 ^ 64 → payload ≡ take n (drop 9 rest) → IsPayload rest payload
-whole_payload rest payload n long small is inside short pay =
-    let size : length payload ≡ n = omega
-    (arith, ap length pay, length-take n (drop 9 rest), length-drop 9 rest) in
-    record {
-      is = split rest payload n long small is (omega arith) pay
-          ∙ ap (λ k. (get_or rest 0 0 ∷ to_be_bytes w64 (length payload) ++ payload)
-          ++ drop (9 + k) rest) (sym size);
-      inside = omega arith;
-      short = omega arith;
-    }
+pub split : (rest payload : List ℕ) (n : ℕ) → 9 ≤ length rest → ((i : ℕ) → get_or rest i 0 < 256)
+    → n ≡ from_be_bytes w64 (take 8 (drop 1 rest)) → n + 9 < length rest
+    → payload ≡ take n (drop 9 rest)
+    → rest ≡ (get_or rest 0 0 ∷ to_be_bytes w64 (length payload) ++ payload) ++ drop (9 + n) rest
+split rest payload n long small is =
+    split_encoded rest payload n long (length_is rest n long small is)
 
 pub eight : (rest : List ℕ) → 9 ≤ length rest
     → take 8 (drop 1 rest) ≡ get_or rest 1 0 ∷ get_or rest 2 0 ∷ get_or rest 3 0 ∷ get_or rest 4 0 ∷

@@ -1,6 +1,7 @@
 -- The records that are read from a file.
 use Rattle.std.specs.Prelude.{◌≡◌, ◌⊎◌, ◌≤◌, ℕ, ◌+◌, ◌<◌, ◌^◌, List, [], ◌∷◌, ◌++◌, length}
-use Rattle.std.specs.Prelude.{map, drop, get_or}
+use Rattle.std.specs.Prelude.{map, take, drop, get_or}
+use Rattle.std.specs.Int.{w64, to_be_bytes, from_be_bytes}
 use Rattle.journal.specs.Records.{Record, IsKnown, AreKnown, Holds, before_gate, body}
 use Rattle.journal.specs.declared.rec.Rec.{Rec}
 
@@ -32,11 +33,12 @@ abbrev pub IsOpened : List ℕ → List Rec → ℕ → Type 0
 IsOpened file recs at =
     ((length file ≤ 9) × (recs ≡ []) × (at ≡ 8)) ⊎ ((9 < length file) × AreRead file recs at)
 
--- the payload of a record that begins here, after which a gate stands
-pub record IsPayload (rest payload : List ℕ) : Type 0 where
-  pub is : rest ≡ body (get_or rest 0 0, payload) ++ drop (9 + length payload) rest
-  pub inside : 9 + length payload < length rest
-  pub short : length payload < 2 ^ 64
+-- what stands before a record's payload, which begins here: its kind, and the payload's length
+pub record IsHead (rest : List ℕ) (kind len : ℕ) : Type 0 where
+  pub whole : 9 ≤ length rest
+  pub kind_is : kind ≡ get_or rest 0 0
+  pub encoded : to_be_bytes w64 len ≡ take 8 (drop 1 rest)
+  pub len_is : len ≡ from_be_bytes w64 (take 8 (drop 1 rest))
 
 -- one record stands after the gate at that place, and the next gate after it
 pub record IsRead (at : ℕ) (rest : List ℕ) (rec : Rec) (used : ℕ) : Type 0 where

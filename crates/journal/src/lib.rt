@@ -20,5 +20,5 @@ pub use fault::{JournalFault, PutFault, PutsFault};
 pub use journal::Journal;
 pub use laws::a_file_stands_or_is_damaged;
 pub use put_list::{mount_and_put, put_each};
-pub use rec::{CHECKPOINT, COMMAND, Rec};
+pub use rec::{CHECKPOINT, COMMAND, RECORD_HEAD, Rec};
 pub use sealed::Sealed;

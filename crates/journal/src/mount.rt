@@ -6,7 +6,6 @@ ghost use Rattle.std.specs.Prelude.{◌⊎◌, Some, Err, IfOk, IfErr, OnOk, OnE
 ghost use Rattle.prima_io.specs.Causes.{Rose};
 ghost use Rattle.disk_model.specs.Meaning.{IfKnown, BothKnown, Only};
 ghost use Rattle.disk_model.specs.Moments.{GoesOn, Leaves};
-ghost use Rattle.disk_model.specs.DeviceCalls.{Reads};
 ghost use Rattle.journal.specs.Damage.{IsDamagedAt};
 ghost use Rattle.journal.specs.Mounting.{SameOrNine, IsNotSynced, KeepsFile};
 ghost use Rattle.journal.specs.Reading.{IsOpened, AreInPlace, records_in};
@@ -51,25 +50,6 @@ fn begin<D: Disk>(disk: &mut D, len: u64) -> Result<(), Failed>
     Ok(())
 }
 
-// The whole file.
-fn read_whole<D: Disk>(alloc: Global, disk: &mut D, len: u64) -> Result<Vec<u8>, JournalFault>
-    requires short { len < 2 ^ 64 - 1 }
-    requires len { IfKnown (D.meaning disk.old).seen (λ file. len ≡ length file) }
-    ensures len { IfOk result (λ bytes. length bytes.items ≡ len) }
-    ensures bytes { IfOk result
-        (λ bytes. IfKnown (D.meaning disk.old).seen (λ file. bytes.items ≡ file)) }
-    ensures reads { Reads (D.meaning disk.old) (D.meaning disk.new) }
-    ensures damaged { (place : _) → result ≡ Err (mounting.Damaged place) → ⊥ }
-    ensures cause { result ≡ Err mounting.Disk
-        → Rose (D.meaning disk.old).faults (D.meaning disk.new).faults }
-    ensures unfailed { (result ≡ Err mounting.Disk → ⊥)
-        → (D.meaning disk.new).faults ≡ (D.meaning disk.old).faults }
-{
-    let mut bytes = vec![in alloc; 0u8; len as usize]?;
-    disk.read_at(0, &mut bytes)?;
-    Ok(bytes)
-}
-
 // Reads the records of a file that is synced.
 fn open_synced<D: Disk>(alloc: Global, disk: &mut D) -> Result<(Vec<Rec>, u64), JournalFault>
     ensures goes { GoesOn (D.meaning disk.old) (D.meaning disk.new) }
@@ -99,9 +79,7 @@ fn open_synced<D: Disk>(alloc: Global, disk: &mut D) -> Result<(Vec<Rec>, u64), 
         begin(disk, len)?;
         return Ok((Vec::new(alloc), 8));
     }
-    let bytes = read_whole(alloc, disk, len)?;
-    let (recs, at) = read_records(alloc, &bytes)?;
-    Ok((recs, at as u64))
+    read_records(alloc, disk, len)
 }
 
 impl<D: Disk> Journal<D> {

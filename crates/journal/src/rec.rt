@@ -7,6 +7,9 @@ pub const COMMAND: u8 = 1;
 /// The kind of a record whose payload is an image of the store.
 pub const CHECKPOINT: u8 = 2;
 
+/// How many bytes of a record stand before its payload: its kind, and the payload's length.
+pub const RECORD_HEAD: usize = 9;
+
 /// A record of a journal: the place of its gate in the file, its kind, and its payload.
 #[derive(Drop)]
 pub struct Rec {

@@ -1,1 +1,2 @@
 pub mod DeadPieces
+pub mod Shown

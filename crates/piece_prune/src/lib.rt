@@ -11,4 +11,5 @@ pub use laws::{
     a_dead_piece_means_nothing, living_pieces_mean_the_same, pushed_conditions_have_types,
 };
 pub use liveness::{is_dead, living};
+pub use piece_ir::Piece;
 pub use pushed_part::pushed_cond;

@@ -22,7 +22,7 @@ use Rattle.cond_expr.specs.declared.expr.ColRef.{ColRef}
 use Rattle.cond_expr.specs.declared.expr.Column.{Column as AtomColumn}
 use Rattle.join_exec_spec.specs.BorrowedOutputs.{BorrowedValues}
 use Rattle.history_store.specs.Store.{Store, Cell, named, column_of, relation_at}
-use Rattle.version_groups_tables.specs.NewestTables.{rows_stored}
+use Rattle.version_groups.specs.StoredTables.{rows_stored}
 use Rattle.version_groups.specs.Groups.{Kept, versions_in, table_in}
 use Rattle.version_groups.specs.Representation.{Represents, IsInForce}
 use Rattle.plain_answers_spec.specs.Choosing.{answers_over}

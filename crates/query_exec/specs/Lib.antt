@@ -11,3 +11,4 @@ pub mod Reads
 pub mod Accepted
 pub mod Borrowed
 pub mod Constants
+pub mod Books

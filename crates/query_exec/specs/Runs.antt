@@ -6,7 +6,7 @@ use Rattle.relations_spec.specs.Spans.{Span, covers, forever}
 use Rattle.history_store.specs.Store.{Store}
 use Rattle.smo_ops_spec.specs.OneRow.{Relation}
 use Rattle.smo_ops_spec.specs.Past.{Past, tables_of, database_at}
-use Rattle.version_groups_tables.specs.NewestTables.{rows_stored}
+use Rattle.version_groups.specs.StoredTables.{rows_stored}
 use Rattle.version_groups.specs.Groups.{Kept, table_in}
 use Rattle.version_groups.specs.Representation.{IsInForce}
 use Rattle.piece_ir_spec.specs.Pieces.{PlainPiece, all_mean}

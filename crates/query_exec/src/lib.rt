@@ -24,3 +24,5 @@ pub use laws::{
 };
 pub use loss::first_loss_in_slice;
 pub use query_answer::answer;
+pub use rewrite_rules_book::{Rule, RuleBook, kind_of};
+pub use temporal_lang::{check_query, check_query_counts};

@@ -5,13 +5,13 @@ ghost use Rattle.piece_ir_spec.specs.Typed.{IsTyped};
 ghost use Rattle.piece_ir_spec.specs.Rules.{IsValidBook};
 ghost use Rattle.piece_ir_spec.specs.Books.{book_of, AreValidRules, HasEachKind};
 ghost use Rattle.piece_ir_spec.specs.Books.{first_twice as twice, first_missing as missing};
-ghost use Rattle.piece_ir.specs.Shown.{piece_of, shown_pieces};
+ghost use Rattle.piece_prune.specs.Shown.{piece_of, shown_pieces};
 ghost use Rattle.rewrite_rules_book.specs.Faults.{IsBookChecked, IsFault};
 ghost use Rattle.rewrite_rules_book.specs.LivingPieces.{AllLiving};
 
 use crate::Rule;
 use crate::kind::{first_missing, first_twice, kind_of, same_kind};
-use piece_ir::Piece;
+use piece_prune::Piece;
 use prima_base::{NoMemory, OpKind};
 use schema_catalog::Schema;
 use smo_ops_types::Op;

@@ -5,10 +5,10 @@ ghost use Rattle.smo_ops_spec.specs.OperatorKinds.{operator_kind};
 ghost use Rattle.smo_ops_spec.specs.After.{op_fault, schema_after, IsValid};
 ghost use Rattle.piece_ir_spec.specs.Typed.{IsTyped};
 ghost use Rattle.piece_ir_spec.specs.Rules.{Book, IsValidRule, KeepsMeaning};
-ghost use Rattle.piece_ir.specs.Shown.{piece_of, shown_pieces};
+ghost use Rattle.piece_prune.specs.Shown.{piece_of, shown_pieces};
 ghost use Rattle.rewrite_rules_book.specs.LivingPieces.{AllLiving};
 
-use piece_ir::Piece;
+use piece_prune::Piece;
 use prima_base::{NoMemory, OpKind};
 use schema_catalog::Schema;
 use smo_ops_types::Op;

@@ -13,7 +13,7 @@ use Rattle.script_parse.specs.Statements.{session}
 use Rattle.script_parse.specs.Reading.{Reading, Whole, reading}
 use Rattle.script_cli_statement.specs.ArchiveOnDisk.{tells_periods}
 use Rattle.answer_text.specs.Texts.{listing_text}
-use Rattle.script_cli_vault.specs.Shown.{need_of}
+use Rattle.script_cli_statement.specs.ArchiveOnDisk.{need_of}
 use Rattle.script_cli_statement.specs.Given.{Given}
 use Rattle.script_cli_statement.specs.SessionLines.{said_text}
 use Rattle.script_cli_statement.specs.Replies.{Recorded, Reply, refused_or, shared_by, world_of}

@@ -18,8 +18,8 @@ use Rattle.sessions.specs.Steps.{changes_fault, fault_of_command, schema_fault}
 use Rattle.sessions.specs.Steps.{shared_after}
 use Rattle.sessions.specs.Runs.{after, after_all}
 use Rattle.script_parse.specs.Script.{StatementPart, Whole as Text, Skipped}
-use Rattle.script_cli_vault.specs.Shown.{need_of}
-use Rattle.script_cli_vault.proofs.Committed.{refused_alike}
+use Rattle.script_cli_statement.specs.ArchiveOnDisk.{need_of}
+use Rattle.script_cli_statement.proofs.ArchiveOnDisk.{refused_alike}
 use Rattle.script_cli_statement.specs.Due.{command_due, due_length}
 use Rattle.script_cli_statement.specs.Given.{Given}
 use Rattle.script_cli_statement.specs.SessionLines.{said_text}

@@ -36,7 +36,7 @@ use Rattle.script_parse.specs.Reading.{LimitsAreKept, ReadingsAreOne, ReadingsAr
 use Rattle.script_parse.specs.Reading.{StatementsAreRead, Whole, reading}
 use Rattle.script_parse.specs.Statements.{explain}
 use Rattle.script_parse_laws.specs.Parts.{IsOpenFault, IsScript}
-use Rattle.script_cli_vault.specs.Shown.{need_of}
+use Rattle.script_cli_statement.specs.ArchiveOnDisk.{need_of}
 use Rattle.script_cli_statement.specs.Due.{AreRecordsOf}
 use Rattle.script_cli_statement.specs.Explaining.{TellsPieces}
 use Rattle.script_cli_statement.specs.Given.{Given}

@@ -2,7 +2,7 @@
 
 ghost use Rattle.std.specs.Prelude.{◌≡◌, ◌<◌, IfOk, IfErr};
 ghost use Rattle.disk_model.specs.Moments.{GoesOn};
-ghost use Rattle.rewrite.specs.Books.{book_meaning};
+ghost use Rattle.script_cli_statement.specs.ArchiveOnDisk.{book_meaning};
 ghost use Rattle.script_cli.specs.Driving.{HasOpened, HasNotOpened, CountsOpening, PutsUnopened};
 ghost use Rattle.script_cli.specs.Driving.{status_of_fault};
 ghost use Rattle.script_cli.specs.Runs.{RunsOver, given_by, SourceCounted, SinkCounted};
@@ -16,8 +16,7 @@ use disk_model::Disk;
 use prima_base::Steps;
 use prima_base_counter::fresh_steps;
 use prima_io::{Sink, Source};
-use rewrite_rules_book::{Rule, RuleBook};
-use script_cli_statement::{Archive, MountFault, Opened};
+use script_cli_statement::{Archive, MountFault, Opened, Rule, RuleBook};
 use std::alloc::Global;
 use std::marker::Brand;
 use std::sync::ledger::{Blank, Ledger};

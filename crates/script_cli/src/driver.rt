@@ -3,8 +3,7 @@
 ghost use Rattle.std.specs.Prelude.{◌≡◌, ◌+◌, ◌<◌, ◌≤◌, ℕ, length, take, false, IfOk, MatchResult};
 ghost use Rattle.std.specs.Io.KnownBytes.{Consumes, IsAtEnd, Keeps};
 ghost use Rattle.prima_io.specs.Causes.{HasCause};
-ghost use Rattle.rewrite.specs.Books.{book_meaning};
-ghost use Rattle.script_cli_statement.specs.ArchiveOnDisk.{below, place_of};
+ghost use Rattle.script_cli_statement.specs.ArchiveOnDisk.{book_meaning, below, place_of};
 ghost use Rattle.script_cli_statement.specs.Given.{Given};
 ghost use Rattle.script_cli_statement.specs.Replies.{Recorded, IsFresh};
 ghost use Rattle.script_cli.specs.Runs.{SourceCounted, SinkCounted, DiskCounted};
@@ -16,8 +15,7 @@ use crate::script_run::ScriptRun;
 use crate::status::Status;
 use disk_model::Disk;
 use prima_io::{Failed, Sink, Source};
-use rewrite_rules_book::{Rule, RuleBook};
-use script_cli_statement::{Archive, ReplyKind, StopReason};
+use script_cli_statement::{Archive, ReplyKind, Rule, RuleBook, StopReason};
 use std::alloc::Global;
 
 const CHUNK: usize = 4096;

@@ -22,6 +22,7 @@ pub use adapter::{ReaderSource, WriterSink};
 pub use file_disk::FileDisk;
 pub use laws::a_run_follows_a_run;
 pub use program_run::run;
+pub use script_cli_statement::{Archive, MountFault, Opened};
 pub use status::Status;
 pub use word::Word;
 

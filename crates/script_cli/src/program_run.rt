@@ -5,7 +5,7 @@ ghost use Rattle.std.specs.Prelude.{◌≡◌, ◌⊎◌, List, ℕ, IsTrue, Opt
 ghost use Rattle.std.specs.Prelude.{string_bytes};
 ghost use Rattle.disk_model.specs.Meaning.{IfKnown};
 ghost use Rattle.disk_model.specs.Moments.{GoesOn};
-ghost use Rattle.rewrite.specs.Books.{book_meaning};
+ghost use Rattle.script_cli_statement.specs.ArchiveOnDisk.{book_meaning};
 ghost use Rattle.archive_core_file_spec.specs.LogRecords.{LogRecord};
 ghost use Rattle.archive_core_file_spec.specs.Opening.{Opens, Damages};
 ghost use Rattle.script_cli_arguments.specs.Arguments.{asked, asked_for, limit_of_run};
@@ -29,8 +29,8 @@ use period_join::related_entries_are_all;
 use prima_base::NoMemory;
 use prima_io::{Sink, Source};
 use query_pieces_spec::an_accepted_query_asks_questions;
-use rewrite_rules_book::{Rule, RuleBook};
 use script_cli_arguments::{Mode, Request, asked};
+use script_cli_statement::{Rule, RuleBook};
 use script_parse::{
     limits_are_kept, readings_are_of_the_grammar, readings_are_one, statements_are_read,
     texts_are_lexed,
@@ -42,9 +42,9 @@ use sessions::{
 use smo_ops::a_command_is_seen_from_its_stamp_on;
 use std::alloc::Global;
 use store_image_spec::an_image_shows_a_past;
-use temporal_lang::{
-    a_query_is_refused_for_want_of_an_inverse_alone, databases_agree_up_to_losses,
-    listing_is_the_one_list, no_answer_shows_a_filling,
+use temporal_lang_losses_spec::{databases_agree_up_to_losses, no_answer_shows_a_filling};
+use temporal_lang_spec::{
+    a_query_is_refused_for_want_of_an_inverse_alone, listing_is_the_one_list,
 };
 
 // The run over a disk that is borrowed.

@@ -3,8 +3,7 @@
 
 ghost use Rattle.std.specs.Prelude.{◌≡◌, ◌+◌, ℕ, List, Option};
 ghost use Rattle.disk_model.specs.Moments.{GoesOn};
-ghost use Rattle.rewrite.specs.Books.{book_meaning};
-ghost use Rattle.script_cli_statement.specs.ArchiveOnDisk.{below, place_of};
+ghost use Rattle.script_cli_statement.specs.ArchiveOnDisk.{book_meaning, below, place_of};
 ghost use Rattle.script_cli_sample.specs.Statements.{sample_script};
 ghost use Rattle.script_cli_sample.specs.Summary as spec;
 ghost use Rattle.script_cli_statement.specs.Given.{Given};
@@ -22,9 +21,8 @@ use archive_core_file_spec::a_file_opens_or_is_damaged;
 use disk_model::Disk;
 use prima_base::NoMemory;
 use prima_io::{Failed, Sink, put_all};
-use rewrite_rules_book::{Rule, RuleBook};
 use script_cli_sample::{SampleSource, summary};
-use script_cli_statement::{Archive, StopReason};
+use script_cli_statement::{Archive, Rule, RuleBook, StopReason};
 use std::alloc::Global;
 use std::marker::Brand;
 use std::sync::ledger::Blank;

@@ -11,8 +11,7 @@ use Rattle.smo_ops_types.specs.Commands.{PlainBody, changing, evolving, PlainCom
 use Rattle.smo_ops_spec.specs.Checks.{Fault}
 use Rattle.smo_ops_spec.specs.Past.{Past, past_with, tables_of}
 use Rattle.smo_ops_spec.specs.Sizes.{Size}
-use Rattle.archive_core.specs.Committing.{commit_fault}
-use Rattle.archive_core.specs.Checkpointing.{checkpoint_fault}
+use Rattle.script_cli_vault.specs.ArchiveOnDisk.{commit_fault, checkpoint_fault}
 use Rattle.piece_ir.specs.ExplainedPieces.{PlainExplained}
 use Rattle.temporal_lang_spec.specs.Accepted.{version_fault, fault_of_query}
 use Rattle.temporal_lang_spec.specs.Answers.{answer}
@@ -26,7 +25,7 @@ use Rattle.period_join.specs.RelatedEntries.{related_entries}
 use Rattle.time_aggregate.specs.Aggregated.{aggregated}
 use Rattle.answer_text.specs.Texts.{pair_text, pairs_text, aggregate_text, aggregates_text}
 use Rattle.script_parse.specs.Reading.{Reading, Blank, Refused, Whole, reading}
-use Rattle.archive_core.specs.State.{tells_periods, pieces_told}
+use Rattle.script_cli_vault.specs.ArchiveOnDisk.{tells_periods, pieces_told}
 use Rattle.answer_text.specs.Texts.{changed_text, evolved_text, checkpoint_text, listing_text}
 use Rattle.answer_text.specs.Texts.{piece_head, explain_text, tables_text, count_text, version_head}
 use Rattle.answer_text.specs.Texts.{versions_text, schema_text, size_text, sizes_text}

@@ -7,9 +7,9 @@ use Rattle.temporal_lang_spec.specs.Accepted.{fault_of_query}
 use Rattle.temporal_lang_types.specs.Queries.{PlainQuery}
 use Rattle.script_parse.specs.Statements.{explain}
 use Rattle.script_parse.specs.Reading.{Whole, reading}
-use Rattle.archive_core.specs.State.{ValidInQuery}
-use Rattle.archive_core.proofs.State.{are_pieces}
-use Rattle.archive_core.specs.State.{pieces_told}
+use Rattle.script_cli_vault.specs.ArchiveOnDisk.{ValidInQuery}
+use Rattle.script_cli_vault.proofs.ArchiveOnDisk.{are_pieces}
+use Rattle.script_cli_vault.specs.ArchiveOnDisk.{pieces_told}
 use Rattle.answer_text.specs.Texts.{explain_text}
 use Rattle.script_cli_statement.specs.Explaining.{TellsPieces}
 use Rattle.script_cli_statement.specs.Given.{Given}

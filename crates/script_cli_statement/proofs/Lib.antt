@@ -19,3 +19,4 @@ pub mod Lines
 pub mod PairLines
 pub mod GroupLines
 pub mod PairedQueries
+pub mod ArchiveOnDisk

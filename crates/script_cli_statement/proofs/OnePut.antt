@@ -8,9 +8,7 @@ use Rattle.journal.specs.Records.{Record}
 use Rattle.journal.specs.Puts.{Puts, Acknowledges}
 use Rattle.journal.specs.PutLaws.{have_none, have_more}
 use Rattle.archive_core_file_spec.specs.LogRecords.{LogRecord, record_of, records_of, IsEncoded}
-use Rattle.archive_core.specs.DiskReads.{HoldsAt}
-use Rattle.archive_core.specs.declared.archive.Archive.{Archive}
-use Rattle.archive_core.specs.Fields.{below, place_of}
+use Rattle.script_cli_vault.specs.ArchiveOnDisk.{HoldsAt, Archive, below, place_of}
 use Rattle.script_cli_statement.specs.Putting.{HasPut}
 use Rattle.script_cli_statement.specs.Responses.{PutBetween}
 

@@ -42,8 +42,8 @@ use Rattle.time_aggregate.specs.Aggregated.{aggregated}
 use Rattle.time_aggregate.proofs.AggregatedLaws.{aggregated_lists}
 use Rattle.time_aggregate.proofs.GroupLaws.{told_of_slice}
 use Rattle.time_aggregate.proofs.KeptLaws.{kept_lists}
-use Rattle.archive_core.specs.State.{IsAsked, IsListed, IsWrong, IsKeptOfList}
-use Rattle.archive_core.specs.State.{IsAskedSchema}
+use Rattle.script_cli_vault.specs.ArchiveOnDisk.{IsAsked, IsListed, IsWrong, IsKeptOfList}
+use Rattle.script_cli_vault.specs.ArchiveOnDisk.{IsAskedSchema}
 use Rattle.script_cli_statement.specs.Paired.{AreListed, IsWrongPair}
 use Rattle.script_cli_statement.specs.Grouped.{IsListedWhole, IsWrongAggregate, IsUnnamed}
 

@@ -26,7 +26,7 @@ use Rattle.temporal_lang_grammar_spec.specs.QueryGrammar.{IsAsk, IsFullAsk}
 use Rattle.temporal_lang_types.specs.Queries.{PlainQuery}
 use Rattle.script_parse.specs.Productions.{IsInBrackets}
 use Rattle.script_parse.specs.Productions.{IsOp, AreOps, IsInverse, IsEvolve, AreChanges, IsBody}
-use Rattle.archive_core.specs.State.{ValidInBranch, ValidInQuery}
+use Rattle.script_cli_vault.specs.ArchiveOnDisk.{ValidInBranch, ValidInQuery}
 use Rattle.script_cli_statement.proofs.ReadConstants.{AllValid, expr_valid, cond_valid, after}
 use Rattle.script_cli_statement.proofs.ReadConstants.{prefix}
 use Rattle.script_cli_statement.proofs.ReadConstants.{back}

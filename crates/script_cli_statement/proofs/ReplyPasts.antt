@@ -31,10 +31,9 @@ use Rattle.period_join.specs.RelatedEntries.{related_entries}
 use Rattle.time_aggregate.specs.Aggregated.{aggregated}
 use Rattle.answer_text.specs.Texts.{pairs_text, aggregates_text}
 use Rattle.script_parse.specs.Reading.{Reading, Blank, Refused, Whole, reading}
-use Rattle.archive_core.specs.State.{tells_periods, pieces_told}
-use Rattle.archive_core.specs.Committing.{commit_fault}
-use Rattle.archive_core.proofs.Committed.{committed_by_past}
-use Rattle.archive_core.specs.Checkpointing.{checkpoint_fault}
+use Rattle.script_cli_vault.specs.ArchiveOnDisk.{tells_periods, pieces_told, commit_fault}
+use Rattle.script_cli_vault.proofs.ArchiveOnDisk.{committed_by_past}
+use Rattle.script_cli_vault.specs.ArchiveOnDisk.{checkpoint_fault}
 use Rattle.script_cli_statement.specs.Given.{Given}
 use Rattle.script_cli_statement.specs.Replies.{Recorded, answered, refused_or, put_command}
 use Rattle.script_cli_statement.specs.Replies.{put_image, shared_by, world_of, request_reply}

@@ -19,9 +19,9 @@ use Rattle.archive_core_file_spec.specs.LogRecords.{records_of}
 use Rattle.archive_core_file_spec.specs.LogRecords.{gate_after, after_record, after_records}
 use Rattle.archive_core_file_spec.specs.LogRecords.{AreSound}
 use Rattle.archive_core_file_spec.proofs.Records.{after_append}
-use Rattle.archive_core.specs.Committing.{commit_fault}
-use Rattle.archive_core.proofs.Committed.{committed_by_past}
-use Rattle.archive_core.specs.Checkpointing.{checkpoint_fault}
+use Rattle.script_cli_vault.specs.ArchiveOnDisk.{commit_fault}
+use Rattle.script_cli_vault.proofs.ArchiveOnDisk.{committed_by_past}
+use Rattle.script_cli_vault.specs.ArchiveOnDisk.{checkpoint_fault}
 use Rattle.smo_ops_types.specs.Changes.{PlainChange}
 use Rattle.sessions.specs.Shared.{newest}
 use Rattle.sessions.specs.SessionStates.{PlainTransaction}

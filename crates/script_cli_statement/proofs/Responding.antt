@@ -14,16 +14,13 @@ use Rattle.smo_ops_spec.specs.Checks.{Fault}
 use Rattle.smo_ops_spec.specs.Past.{Past, past_with}
 use Rattle.smo_ops_types.specs.Commands.{PlainBody, changing, evolving, PlainCommand}
 use Rattle.version_groups.specs.Steps.{rows_gained, rows_lost}
-use Rattle.archive_core.specs.State.{Done}
-use Rattle.archive_core.specs.State.{version_made, IsDone}
-use Rattle.archive_core.specs.declared.archive.Archive.{Archive}
+use Rattle.script_cli_vault.specs.ArchiveOnDisk.{Done, version_made, IsDone, Archive}
 use Rattle.journal.specs.JournalFiles.{needs}
 use Rattle.archive_core_file_spec.specs.LogRecords.{logged, record_of}
 use Rattle.store_image_spec.specs.Lengths.{image_length}
-use Rattle.archive_core.specs.Checkpointing.{checkpoint_fault}
-use Rattle.archive_core.specs.State.{RepresentsPast}
-use Rattle.archive_core.specs.Fields.{standing_of, disk_of, below, place_of, limit_of, is_broken}
-use Rattle.archive_core.specs.Committing.{commit_fault}
+use Rattle.script_cli_vault.specs.ArchiveOnDisk.{checkpoint_fault, RepresentsPast, standing_of}
+use Rattle.script_cli_vault.specs.ArchiveOnDisk.{disk_of, below, place_of, limit_of, is_broken}
+use Rattle.script_cli_vault.specs.ArchiveOnDisk.{commit_fault}
 use Rattle.answer_text.specs.RefusalTexts.{refusal_text}
 use Rattle.answer_text.specs.Texts.{made_text, checkpoint_text}
 use Rattle.script_parse.specs.Statements.{PlainStatement}

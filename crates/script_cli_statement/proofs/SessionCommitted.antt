@@ -11,11 +11,8 @@ use Rattle.smo_ops_types.specs.Changes.{PlainChange}
 use Rattle.smo_ops_types.specs.Commands.{PlainCommand}
 use Rattle.smo_ops_spec.specs.Checks.{Fault}
 use Rattle.archive_core_file_spec.specs.LogRecords.{logged}
-use Rattle.archive_core.specs.State.{Done}
-use Rattle.archive_core.specs.declared.archive.Archive.{Archive}
-use Rattle.archive_core.specs.declared.fault.CommitFault.{CommitFault}
-use Rattle.archive_core.specs.declared.fault.CommitFault.TheVariants as commit
-use Rattle.archive_core.specs.Fields.{below, place_of}
+use Rattle.script_cli_vault.specs.ArchiveOnDisk.{Done, Archive, CommitFault, below, place_of}
+use Rattle.script_cli_vault.specs.ArchiveOnDisk.commit
 use Rattle.answer_text.specs.RefusalTexts.{refusal_text}
 use Rattle.answer_text.specs.Texts.{changed_text}
 use Rattle.sessions.specs.declared.vault.VaultDone.{VaultDone}

@@ -9,9 +9,7 @@ use Rattle.prima_base.specs.declared.failure.Failed.{Failed}
 use Rattle.disk_model.specs.Meaning.{IsValid}
 use Rattle.disk_model.specs.declared.disk.Disk.{Ghosts}
 use Rattle.smo_ops_spec.specs.Checks.{Fault}
-use Rattle.archive_core.specs.State.{RepresentsPast}
-use Rattle.archive_core.specs.declared.archive.Archive.{Archive}
-use Rattle.archive_core.specs.Fields.{standing_of, below}
+use Rattle.script_cli_vault.specs.ArchiveOnDisk.{RepresentsPast, Archive, standing_of, below}
 use Rattle.sessions.specs.declared.vault.VaultFault.{VaultFault}
 use Rattle.sessions.specs.declared.vault.VaultFault.TheVariants as vault
 use Rattle.sessions.specs.SessionStates.{PlainSessions}

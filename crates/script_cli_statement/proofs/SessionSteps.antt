@@ -6,8 +6,7 @@ use Rattle.smo_ops_spec.specs.Checks.{Fault}
 use Rattle.temporal_lang_spec.specs.Accepted.{version_fault, fault_of_query}
 use Rattle.temporal_lang_spec.specs.PairFaults.{fault_of_pairs}
 use Rattle.temporal_lang_spec.specs.AggregateFaults.{fault_of_aggregate}
-use Rattle.archive_core.specs.Committing.{commit_fault}
-use Rattle.archive_core.specs.Checkpointing.{checkpoint_fault}
+use Rattle.script_cli_vault.specs.ArchiveOnDisk.{commit_fault, checkpoint_fault}
 use Rattle.sessions.specs.Shared.{Shared}
 use Rattle.sessions.specs.Requests.{Request, beginning, buffering, committing, aborting, opening}
 use Rattle.sessions.specs.Requests.{fetching, closing}

@@ -5,7 +5,7 @@ use Rattle.smo_ops_types.specs.Commands.{PlainCommand}
 use Rattle.smo_ops_spec.specs.Past.{Past, past_with}
 use Rattle.command_codec_spec.specs.Encoding.{command_bytes}
 use Rattle.store_image_spec.specs.Lengths.{image_length}
-use Rattle.archive_core.specs.State.{IsImageOf}
+use Rattle.script_cli_vault.specs.ArchiveOnDisk.{IsImageOf}
 use Rattle.archive_core_file_spec.specs.LogRecords.{LogRecord, logged, checkpointed}
 
 pub data Due : Type 0 where

@@ -4,7 +4,7 @@ use Rattle.smo_ops_spec.specs.Past.{tables_of}
 use Rattle.piece_ir.specs.ExplainedPieces.{PlainExplained}
 use Rattle.temporal_lang_spec.specs.Atoms.{with_atoms}
 use Rattle.temporal_lang_types.specs.Queries.{PlainQuery}
-use Rattle.archive_core.specs.State.{ArePieces}
+use Rattle.script_cli_vault.specs.ArchiveOnDisk.{ArePieces}
 use Rattle.answer_text.specs.Texts.{explain_text}
 use Rattle.script_cli_statement.specs.Given.{Given}
 use Rattle.script_cli_statement.specs.Replies.{Recorded, reply}

@@ -13,7 +13,7 @@ use Rattle.temporal_lang_spec.specs.Accepted.{version_fault}
 use Rattle.temporal_lang_spec.specs.Checking.{excess_of, excess_fault}
 use Rattle.temporal_lang_spec.specs.AggregateFaults.{fault_of_aggregate}
 use Rattle.temporal_lang_spec.specs.Answers.{answer}
-use Rattle.archive_core.specs.State.{tells_periods}
+use Rattle.script_cli_vault.specs.ArchiveOnDisk.{tells_periods}
 
 -- its listing, where the aggregate is not refused
 pub record IsListedWhole (past : Past) (query : PlainQuery) (items : List AggItem) (group : ℕ)

@@ -6,7 +6,7 @@ use Rattle.journal.specs.JournalFiles.{Stands}
 use Rattle.journal.specs.Puts.{HavePut, Puts}
 use Rattle.archive_core_file_spec.specs.LogRecords.{LogRecord, record_of, records_of, IsEncoded}
 use Rattle.archive_core_file_spec.specs.LogRecords.{AreEncoded}
-use Rattle.archive_core.specs.DiskReads.{HoldsAt}
+use Rattle.script_cli_vault.specs.ArchiveOnDisk.{HoldsAt}
 use Rattle.script_cli_statement.specs.Due.{Due, IsRecordOf}
 
 -- These were put after the gate at `at`, each answered Ok, and the gate after them is at `next`:

@@ -9,8 +9,7 @@ use Rattle.smo_ops_spec.specs.Effects.{gained, lost}
 use Rattle.smo_ops_spec.specs.Past.{Past, newest_database, next_database, past_with, tables_of}
 use Rattle.piece_ir_spec.specs.Rules.{Book}
 use Rattle.archive_core_file_spec.specs.LogRecords.{LogRecord, gate_after, past_recorded}
-use Rattle.archive_core.specs.Committing.{commit_fault}
-use Rattle.archive_core.specs.Checkpointing.{checkpoint_fault}
+use Rattle.script_cli_vault.specs.ArchiveOnDisk.{commit_fault, checkpoint_fault}
 use Rattle.temporal_lang_types.specs.Queries.{PlainQuery}
 use Rattle.temporal_lang_types.specs.declared.relation.Relation.{Relation}
 use Rattle.temporal_lang_types.specs.declared.agg_item.AggItem.{AggItem}
@@ -31,8 +30,7 @@ use Rattle.script_parse.specs.Statements.{aggregate, session}
 use Rattle.period_join.specs.RelatedEntries.{related_entries}
 use Rattle.time_aggregate.specs.Aggregated.{aggregated}
 use Rattle.script_parse.specs.Reading.{Reading, Blank, Refused, Whole, reading}
-use Rattle.archive_core.specs.State.{Done}
-use Rattle.archive_core.specs.State.{tells_periods, pieces_told}
+use Rattle.script_cli_vault.specs.ArchiveOnDisk.{Done, tells_periods, pieces_told}
 use Rattle.answer_text.specs.RefusalTexts.{refusal_text}
 use Rattle.answer_text.specs.Texts.{made_text, changed_text, evolved_text, checkpoint_text}
 use Rattle.answer_text.specs.Texts.{listing_text, explain_text, versions_text, schema_text}

@@ -6,9 +6,8 @@ use Rattle.std.specs.Io.KnownBytes.{Appends}
 use Rattle.prima_io.specs.Moves.{AppendsPrefix}
 use Rattle.disk_model.specs.declared.disk.Disk.{Ghosts}
 use Rattle.archive_core_file_spec.specs.LogRecords.{LogRecord}
-use Rattle.archive_core.specs.State.{RepresentsPast}
-use Rattle.archive_core.specs.declared.archive.Archive.{Archive}
-use Rattle.archive_core.specs.Fields.{standing_of, below, place_of, limit_of, is_broken}
+use Rattle.script_cli_vault.specs.ArchiveOnDisk.{RepresentsPast, Archive, standing_of, below}
+use Rattle.script_cli_vault.specs.ArchiveOnDisk.{place_of, limit_of, is_broken}
 use Rattle.script_cli_statement.specs.declared.reply_kind.ReplyKind.{ReplyKind}
 use Rattle.script_cli_statement.specs.declared.stop_reason.StopReason.{StopReason}
 use Rattle.script_cli_statement.specs.declared.stop_reason.StopReason.TheVariants.{WriteFault}

@@ -2,7 +2,7 @@
 use Rattle.std.specs.Prelude.{◌<◌, ⊤}
 use Rattle.relations_spec.specs.Spans.{forever}
 use Rattle.piece_ir_spec.specs.Constants.{ValidInEvolution}
-use Rattle.archive_core.specs.State.{ValidInQuery}
+use Rattle.script_cli_vault.specs.ArchiveOnDisk.{ValidInQuery}
 use Rattle.sessions.specs.Requests.{Request, beginning, buffering, committing, aborting, opening}
 use Rattle.sessions.specs.Requests.{fetching, closing, IsTimely}
 use Rattle.script_parse.specs.Reading.{Reading, Blank, Refused, Whole}

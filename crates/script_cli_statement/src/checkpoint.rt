@@ -5,7 +5,7 @@ ghost use Rattle.std.specs.Prelude.{◌≡◌, OnOk, OnErr, IfOk};
 ghost use Rattle.std.specs.Io.KnownBytes.{Appends};
 ghost use Rattle.prima_io.specs.Causes.{HasCause};
 ghost use Rattle.prima_io.specs.Moves.{AppendsPrefix};
-ghost use Rattle.archive_core.specs.Fields.{below};
+ghost use Rattle.script_cli_vault.specs.ArchiveOnDisk.{below};
 ghost use Rattle.answer_text.specs.Texts.{checkpoint_text};
 ghost use Rattle.script_cli_statement.specs.Given.{Given};
 ghost use Rattle.script_cli_statement.specs.Replies.{Recorded, checkpoint_reply};
@@ -17,9 +17,9 @@ use crate::reply_kind::ReplyKind;
 use crate::response::refuse;
 use crate::stop_reason::{StopReason, or_write_fault};
 use answer_text::put_checkpoint;
-use archive_core::{Archive, CommitFault};
 use disk_model::Disk;
 use prima_io::{Failed, Sink};
+use script_cli_vault::{Archive, CommitFault};
 
 /// Puts the `ok` line of a checkpoint.
 pub(crate) fn put_stored<K: Sink>(sink: &mut K) -> Result<ReplyKind, Failed>

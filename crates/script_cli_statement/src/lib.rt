@@ -13,7 +13,7 @@ mod response;
 mod session_response;
 mod stop_reason;
 
-pub use archive_core::{Archive, MountFault, Opened};
 pub use reply_kind::ReplyKind;
 pub use response::{refuse, respond};
+pub use script_cli_vault::{Archive, MountFault, Opened, Rule, RuleBook};
 pub use stop_reason::StopReason;

@@ -12,9 +12,7 @@ ghost use Rattle.smo_ops_spec.specs.Past.{Past};
 ghost use Rattle.temporal_lang_types.specs.Queries.{query_of};
 ghost use Rattle.temporal_lang_spec.specs.PairFaults.{behind};
 ghost use Rattle.period_join.specs.RelatedEntries.{related_entries};
-ghost use Rattle.archive_core.specs.State.{RepresentsPast};
-ghost use Rattle.archive_core.specs.State.{IsListed};
-ghost use Rattle.archive_core.specs.Fields.{standing_of};
+ghost use Rattle.script_cli_vault.specs.ArchiveOnDisk.{RepresentsPast, IsListed, standing_of};
 ghost use Rattle.answer_text.specs.Texts.{pairs_text};
 ghost use Rattle.answer_text.specs.declared.listing.Listing.{Listing as OneListing};
 ghost use Rattle.script_cli_statement.specs.Replies.{Recorded, pairs_reply};
@@ -27,16 +25,15 @@ use crate::reply_kind::ReplyKind;
 use crate::response::refuse;
 use crate::stop_reason::{StopReason, or_write_fault};
 use answer_text::{put_pair, put_pair_count};
-use archive_core::{Archive, AskFault, Listing};
 use disk_model::Disk;
 use period_join::{Pairs, pairs_are_all};
 use prima_base_rows::TimedRows;
 use prima_io::{Failed, Sink};
-use rewrite_rules_book::{Rule, RuleBook};
-use script_cli_vault::ask_counted;
+use script_cli_vault::{Archive, AskFault, Listing, Rule, RuleBook, ask_counted};
+use script_parse::{count_nodes, refusal_behind};
 use std::marker::Brand;
 use std::sync::ledger::Blank;
-use temporal_lang::{Query, Relation, count_nodes, refusal_behind};
+use temporal_lang_types::{Query, Relation};
 
 // Puts the lines of all pairs whose periods are related, and then how many they are.
 fn put_pairs<'b, 'a, K: Sink>(

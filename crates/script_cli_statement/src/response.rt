@@ -15,11 +15,11 @@ ghost use Rattle.smo_ops_spec.specs.Past.{Past};
 ghost use Rattle.temporal_lang_types.specs.Queries.{query_of};
 ghost use Rattle.sessions.specs.Meaning.{sessions_of};
 ghost use Rattle.script_parse.specs.Statements.{statement_of};
-ghost use Rattle.rewrite.specs.Books.{book_meaning};
+ghost use Rattle.script_cli_vault.specs.ArchiveOnDisk.{book_meaning};
 ghost use Rattle.piece_ir.specs.ExplainedPieces.{all_explained};
 ghost use Rattle.version_groups.specs.Representation.{Represents};
-ghost use Rattle.archive_core.specs.State.{RepresentsPast};
-ghost use Rattle.archive_core.specs.Fields.{standing_of, below, limit_of};
+ghost use Rattle.script_cli_vault.specs.ArchiveOnDisk.{RepresentsPast, standing_of, below};
+ghost use Rattle.script_cli_vault.specs.ArchiveOnDisk.{limit_of};
 ghost use Rattle.answer_text.specs.RefusalTexts.{refusal_text};
 ghost use Rattle.answer_text.specs.Texts.{listing_text, explain_text, sizes_text};
 ghost use Rattle.script_cli_statement.specs.Given.{Given};
@@ -42,21 +42,19 @@ use answer_text::{
     Listing, PutStop, put_changed, put_count, put_evolved, put_explained, put_listing, put_refusal,
     put_schema, put_size, put_versions,
 };
-use archive_core::{Archive, AskFault, CommitFault, Done};
 use disk_model::Disk;
 use piece_ir::Explained;
 use prima_base::Refusal;
 use prima_base::limits::MAX_VERSIONS;
 use prima_io::{Failed, Sink};
-use rewrite_rules_book::{Rule, RuleBook};
-use script_cli_vault::ask_counted;
+use script_cli_vault::{Archive, AskFault, CommitFault, Done, Rule, RuleBook, ask_counted};
 use script_parse::{ReadFault, Statement, next_statement};
 use sessions::Sessions;
 use smo_ops::Command;
 use std::alloc::Global;
 use std::marker::Brand;
 use std::sync::ledger::Blank;
-use temporal_lang::Query;
+use temporal_lang_types::Query;
 use version_groups::{Groups, lifelines_are_few};
 
 // A version begins at most two.

@@ -14,7 +14,7 @@ ghost use Rattle.sessions.specs.Meaning.{sessions_of};
 ghost use Rattle.sessions.specs.Serving.{IsNoDisks};
 ghost use Rattle.sessions.specs.Requests.{beginning, buffering, committing, aborting, opening};
 ghost use Rattle.sessions.specs.Requests.{fetching, closing, request_of, IsTimely};
-ghost use Rattle.archive_core.specs.Fields.{below};
+ghost use Rattle.script_cli_vault.specs.ArchiveOnDisk.{below};
 ghost use Rattle.answer_text.specs.Texts.{listing_text, changed_text};
 ghost use Rattle.answer_text.specs.SessionTexts.{cursors_text};
 ghost use Rattle.script_cli_statement.specs.Given.{Given};
@@ -32,16 +32,14 @@ use answer_text::{
     put_aborted, put_begun, put_buffered, put_changed, put_closed, put_count, put_cursor,
     put_empty, put_kept, put_opened,
 };
-use archive_core::Archive;
 use disk_model::Disk;
 use prima_base::{Name, Refusal};
 use prima_io::{Failed, Sink};
-use rewrite_rules_book::{Rule, RuleBook};
-use script_cli_vault::ArchiveVault;
+use script_cli_vault::{Archive, ArchiveVault, Rule, RuleBook};
 use sessions::{KeptRow, SessionRequest, Sessions, VaultDone, VaultFault};
 use smo_ops::Change;
 use std::alloc::Global;
-use temporal_lang::Query;
+use temporal_lang_types::Query;
 
 // A line that is no error was put, or the run stops.
 fn without_error(put: Result<(), Failed>) -> Result<ReplyKind, StopReason>

@@ -11,7 +11,7 @@ use Rattle.smo_ops_spec.specs.Checks.{Fault}
 use Rattle.smo_ops_spec.specs.Accepts.{command_fault}
 use Rattle.smo_ops_spec.specs.Effects.{gained, lost}
 use Rattle.smo_ops_spec.specs.Past.{Past, newest_database, next_database}
-use Rattle.version_groups.specs.Steps.{rows_gained, rows_lost}
+use Rattle.archive_core.specs.State.{rows_gained, rows_lost}
 use Rattle.archive_core.specs.State.{Done}
 use Rattle.archive_core.specs.State.{ArchiveContent, RepresentsPast, RepresentsSome}
 use Rattle.archive_core.specs.declared.archive.Archive.{Archive}

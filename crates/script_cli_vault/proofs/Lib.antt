@@ -1,3 +1,4 @@
 pub mod Answers
 pub mod Committed
 pub mod KeptRows
+pub mod ArchiveOnDisk

@@ -5,4 +5,7 @@ mod answer;
 mod kept_row;
 mod vault;
 
+pub use archive_core::{
+    Archive, AskFault, CommitFault, Done, Listing, MountFault, Opened, Rule, RuleBook,
+};
 pub use vault::{ArchiveVault, ask_counted};

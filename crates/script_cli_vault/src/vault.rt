@@ -10,11 +10,10 @@ ghost use Rattle.script_cli_vault.specs.Shown.{Shows, IsGiven, need_of};
 
 use crate::answer::answer_of;
 use crate::kept_row::kept_rows;
-use archive_core::{Archive, AskFault, Listing};
+use archive_core::{Archive, AskFault, Listing, Rule, RuleBook};
 use disk_model::Disk;
 use prima_base::Steps;
 use prima_base_counter::fresh_steps;
-use rewrite_rules_book::{Rule, RuleBook};
 use sessions::{KeptRow, Vault, VaultDone, VaultFault};
 use smo_ops_types::Command;
 use std::alloc::Global;

@@ -32,3 +32,4 @@ pub use statement_laws::{
     statements_are_read, texts_are_lexed,
 };
 pub use statement_reader::next_statement;
+pub use temporal_lang::{check_aggregate, check_query_counts, count_nodes, refusal_behind};

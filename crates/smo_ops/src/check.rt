@@ -29,7 +29,7 @@ use crate::type_check::{
 use cond_expr::{Cond, Expr, value_kind};
 use prima_base::{ColType, Name, NoMemory, Refusal, Value};
 use schema_catalog::Schema;
-use smo_ops_columns::{OwnColumns, has_name, type_in};
+use smo_ops_operators::{OwnColumns, has_name, type_in};
 use smo_ops_types::{Change, ChangeFault};
 use std::alloc::Global;
 

@@ -18,7 +18,7 @@ ghost use Rattle.schema_catalog.specs.Databases.{cell};
 
 use cond_expr::{Column, Cond, Expr, eval, holds};
 use prima_base::{ColType, Name, NoMemory, Row, Val, Value};
-use smo_ops_columns::OwnColumns;
+use smo_ops_operators::OwnColumns;
 use std::alloc::Global;
 
 /// The relation that the rows stand for: each row once, ascending. It takes no memory.

@@ -17,10 +17,9 @@ pub use check::{CheckedChange, check_change, check_changes};
 pub use count::{check_counts, check_evolve, check_size};
 pub use effect::{inserted_row, make_set, row_meets, row_value, row_with_sets};
 pub use prima_base::OpRefusal;
-pub use smo_ops_columns::OwnColumns;
 pub use smo_ops_operators::{
-    Made, after, check_inverse, check_way_back, consumed, derived, made, made_of, operator_refusal,
-    schema_after,
+    Made, OwnColumns, after, check_inverse, check_way_back, consumed, derived, made, made_of,
+    operator_refusal, schema_after,
 };
 pub use smo_ops_spec::{
     a_command_is_checked_by_the_newest_schema, a_command_is_seen_from_its_stamp_on,

@@ -11,7 +11,7 @@ ghost use Rattle.smo_ops.specs.Walks.{IsWalked};
 
 use cond_expr::{Cond, Expr, typed_cond, typed_expr, unknown_of_cond, unknown_of_expr};
 use prima_base::{Name, Refusal};
-use smo_ops_columns::{OwnColumns, type_in};
+use smo_ops_operators::{OwnColumns, type_in};
 use smo_ops_types::ChangeFault;
 
 // The first reference of an expression to no column of the table.

@@ -15,5 +15,6 @@ pub use derived_inverse::derived;
 pub use inverse::{check_inverse, check_way_back};
 pub use name::Made;
 pub use operator::{after, operator_refusal, schema_after};
+pub use smo_ops_columns::{OwnColumns, has_name, type_in};
 pub use touched::{consumed, made, made_of};
 pub use version_tables::tables_at;

@@ -1,5 +1,5 @@
 -- What is found of a table among the widths of the code, and what is made of it.
-use Rattle.std.proofs.Common.{◌≡◌, ℕ, List, refl, subst}
+use Rattle.std.proofs.Common.{◌≡◌, ℕ, List, subst}
 use Rattle.std.specs.Prelude.{Option, Some, None}
 use Rattle.std.specs.Option.{option_map}
 use Rattle.std.specs.Map.{lookup}
@@ -20,12 +20,6 @@ pub made_of_one : (F : Width → Width)
 made_of_one F each w x None a m = m
 made_of_one F each w x (Some b) a m = alike_on w (F x) (F b) a (each x b m)
 
--- the same width
-pub same_as_one : (w : Width) (x : Width) (o : Option Width) → AreAlike w x
-    → MayBeAlike (Some x) o → MayBeAlike (Some w) o
-same_as_one w x None a m = m
-same_as_one w x (Some b) a m = alike_on w x b a m
-
 -- what is made of two that are there
 pub made_of_two : (F : Width → Width → Width)
     → ((a b x y : Width) → AreAlike a x → AreAlike b y → AreAlike (F a b) (F x y))
@@ -36,33 +30,8 @@ made_of_two F each w x y (Some b) None a m k = k
 made_of_two F each w x y (Some b) (Some d) a m k = alike_on w (F x y) (F b d) a
     (each x y b d m k)
 
--- where none is there, nothing is made
-no_width_of : (o : Option Width) → MayBeAlike None o → o ≡ None
-no_width_of None m = refl
-no_width_of (Some b) m = absurd m
-
-pub none_of_one : (F : Width → Width) (o : Option Width) → MayBeAlike None o
-    → MayBeAlike None (option_map F o)
-none_of_one F None m = m
-none_of_one F (Some b) m = absurd m
-
-pub none_of_first : (F : Width → Width → Width) (o p : Option Width) → MayBeAlike None o
-    → MayBeAlike None (of_both F o p)
-none_of_first F None p m = m
-none_of_first F (Some b) p m = absurd m
-
-pub none_of_second : (F : Width → Width → Width) (o p : Option Width) → MayBeAlike None p
-    → MayBeAlike None (of_both F o p)
-none_of_second F None p m = tt
-none_of_second F (Some b) None m = m
-none_of_second F (Some b) (Some d) m = absurd m
-
 -- by what stands there
 module _ (es : List (List ℕ × TableWidth)) (shown : Widths) (s : Show es shown) (n : List ℕ) where
-  pub none_there : lookup (is_at (bytes_cmp n)) es ≡ None → MayBeAlike None (get shown n)
-  none_there e = subst (λ (o : Option TableWidth). MayBeAlike (option_map width_of o)
-      (get shown n)) e (s n)
-
   pub one_there : (x : TableWidth) → lookup (is_at (bytes_cmp n)) es ≡ Some x
       → MayBeAlike (Some (width_of x)) (get shown n)
   one_there x e = subst (λ (o : Option TableWidth). MayBeAlike (option_map width_of o)

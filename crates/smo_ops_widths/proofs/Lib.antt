@@ -10,8 +10,14 @@ pub mod ReadFrom
 pub mod NamesInserted
 pub mod NamesLeftOut
 pub mod CreatedBeside
+pub mod DeadLaws
+pub mod DeadNames
+pub mod DeadRead
+pub mod ReadNone
 pub mod FoundLaws
-pub mod CarryLaws
+pub mod AtHandLaws
+pub mod PutSizes
+pub mod KeptTables
 pub mod OperatorLists
 pub mod SkippedVersions
 mod WidestSteps

@@ -27,7 +27,7 @@ use Rattle.smo_ops_widths.proofs.WithinLaws.{MayBeWithin, AllWithin, over_within
 
 -- ---- at one name
 
-put_alike : (names : List (List ℕ)) (ms : List (Option Width)) (xs ys : Widths) (n : List ℕ)
+pub put_alike : (names : List (List ℕ)) (ms : List (Option Width)) (xs ys : Widths) (n : List ℕ)
     → get xs n ≡ get ys n → get (put_widths names ms xs) n ≡ get (put_widths names ms ys) n
 put_alike [] ms xs ys n e = e
 put_alike (m ∷ names) [] xs ys n e = e
@@ -43,7 +43,7 @@ less_alike (m ∷ names) xs ys n e = less_alike names (remove xs m) (remove ys m
     ∙ ap (λ (o : Option Width). cond (same n m) None o) e
     ∙ sym (get-remove nat_list_cmp_total ys m n))
 
-put_others : (names : List (List ℕ)) (ms : List (Option Width)) (xs : Widths) (n : List ℕ)
+pub put_others : (names : List (List ℕ)) (ms : List (Option Width)) (xs : Widths) (n : List ℕ)
     → among n names ≡ false → get (put_widths names ms xs) n ≡ get xs n
 put_others [] ms xs n e = refl
 put_others (m ∷ names) [] xs n e = refl
@@ -52,7 +52,7 @@ put_others (m ∷ names) (w ∷ ms) xs n e =
     put_others names ms (put_width m w xs) n h.1 ∙ put_at xs m w n
     ∙ ap (λ (b : Bool). cond b w (get xs n)) h.0
 
-less_others : (names : List (List ℕ)) (xs : Widths) (n : List ℕ) → among n names ≡ false
+pub less_others : (names : List (List ℕ)) (xs : Widths) (n : List ℕ) → among n names ≡ false
     → get (no_width names xs) n ≡ get xs n
 less_others [] xs n e = refl
 less_others (m ∷ names) xs n e =

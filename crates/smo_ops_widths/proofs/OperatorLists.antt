@@ -3,20 +3,16 @@ use Rattle.std.proofs.Common.{◌≡◌, ◌-◌, ◌<◌, ◌≤◌, ℕ, List,
 use Rattle.std.proofs.Common.{ap}
 use Rattle.std.proofs.Common.{subst, ◌∙◌, arith}
 use Rattle.std.proofs.lemmas.List.{take_all}
-use Rattle.std.specs.Prelude.{Some, None}
+use Rattle.std.specs.Prelude.{None}
 use Rattle.schema_catalog.specs.Tables.{Tables}
 use Rattle.smo_ops_types.specs.declared.op.Op.{Op}
 use Rattle.smo_ops_types.specs.Operators.{Operator, operator_of, operators_of, evolutions_of}
 use Rattle.smo_ops_spec.specs.After.{op_fault, schema_after, HaveFewNodes}
 use Rattle.smo_ops_spec.specs.Evolutions.{AllOperatorsAccepted}
-use Rattle.smo_ops_spec.specs.OperatorTable.{line, made_names}
 use Rattle.smo_ops_spec.proofs.OneMembers.{members_of_ones}
-use Rattle.smo_ops_spec.specs.Losses.{Loss}
-use Rattle.smo_ops_spec.specs.WaysBack.{WayBack, by_inverse, by_filling, no_way, way_back_over}
-use Rattle.smo_ops_spec.specs.WaysBack.{blank, filled_with, operator_of_way, derived}
 use Rattle.smo_ops_versions_spec.specs.Steps.{carrying_each, taken}
-use Rattle.smo_ops_versions_spec.specs.Ways.{back_over, step_back, step_by}
-use Rattle.smo_ops_widths.specs.Widths.{Widths, widths_over, widths_stepped, no_width}
+use Rattle.smo_ops_versions_spec.specs.Ways.{back_over, step_back}
+use Rattle.smo_ops_widths.specs.Widths.{Widths, widths_over, widths_stepped}
 use Rattle.smo_ops_widths.specs.declared.width.TableWidth.{TableWidth}
 use Rattle.smo_ops_widths.specs.Shown.{Show}
 
@@ -74,40 +70,6 @@ over_all tables next op (x ∷ xs) entries shown l e n s =
     (operators_of ys)) (widths_over tables (operator_of op) shown))) (rest_is x xs) s))
 
 -- ---- back over an operator, as the code goes
-
--- where no inverse is named: over nothing, or over what is derived
-module _ (loss : Loss) (before : Tables) (op : Operator) (entries : List (List ℕ × TableWidth))
-    (shown : Widths) where
-  by_no_way : (w : WayBack) → operator_of_way w ≡ None
-      → Show entries (no_width (line before op).consumed
-      (no_width (made_names (line before op).made) shown))
-      → Show entries (widths_stepped (step_by loss before op w) shown)
-  by_no_way (by_inverse i) e s = absurd (cc)
-  by_no_way (by_filling f) e s = absurd (cc)
-  by_no_way no_way e s = s
-
-  pub back_undone : derived before op ≡ None
-      → Show entries (no_width (line before op).consumed
-      (no_width (made_names (line before op).made) shown))
-      → Show entries (widths_stepped (step_back loss before op) shown)
-  back_undone e s = by_no_way (way_back_over before op) e s
-
-  by_some_way : (w : WayBack) (back : Operator) → operator_of_way w ≡ Some back
-      → Show entries (widths_over (schema_after before op) back shown)
-      → Show entries (widths_stepped (step_by loss before op w) shown)
-  by_some_way (by_inverse i) back e s =
-      let same : back ≡ i = cc in
-      subst (λ (o : Operator). Show entries (widths_over (schema_after before op) o shown)) same s
-  by_some_way (by_filling f) back e s =
-      let same : back ≡ filled_with blank f = cc in
-      subst (λ (o : Operator). Show entries (widths_over (schema_after before op) o shown)) same s
-  by_some_way no_way back e s = absurd (cc)
-
-  pub back_derived : (after : Tables) (back : Operator) → after ≡ schema_after before op
-      → derived before op ≡ Some back → Show entries (widths_over after back shown)
-      → Show entries (widths_stepped (step_back loss before op) shown)
-  back_derived after back a e s = by_some_way (way_back_over before op) back e
-      (subst (λ (t : Tables). Show entries (widths_over t back shown)) a s)
 
 -- with no operators, or over them all
 module _ (k : ℕ) (before after : Tables) (op : Operator) (entries : List (List ℕ × TableWidth))

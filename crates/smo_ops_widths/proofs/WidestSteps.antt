@@ -1,12 +1,16 @@
 -- The steps of the code that measures a version.
 use Rattle.std.proofs.Common.{◌≡◌, ◌+◌, ◌≤◌, ◌<◌, ℕ, suc, List, map, max, min, length, get_or, sym}
-use Rattle.std.proofs.Common.{◌⊎◌, Bool, false, inl, inr, ap, subst, ◌∙◌, arith}
+use Rattle.std.proofs.Common.{◌⊎◌, Bool, false, inl, inr, refl, ap, subst, ◌∙◌, arith}
 use Rattle.std.proofs.lemmas.Bool.{cases_lt}
 use Rattle.std.proofs.lemmas.Option.{slice_get_within}
-use Rattle.std.specs.Prelude.{Option, Some, None, slice_get}
+use Rattle.std.specs.Prelude.{Option, Some, None, slice_get, [], ◌∷◌}
+use Rattle.std.specs.List.{list_any}
+use Rattle.std.specs.BTreeMap.{is_at}
+use Rattle.std.specs.BTreeSet.{BTreeSet, contains}
+use Rattle.prima_base.specs.Order.{bytes_cmp}
 use Rattle.schema_catalog.specs.Tables.{Tables}
 use Rattle.smo_ops_types.specs.declared.version.Version.{Version}
-use Rattle.smo_ops_types.specs.Operators.{Operator, evolution_of, evolutions_of}
+use Rattle.smo_ops_types.specs.Operators.{Operator, operator_of, evolution_of, evolutions_of}
 use Rattle.smo_ops_types.specs.Commands.{PlainVersion, version_of}
 use Rattle.smo_ops_spec.specs.Evolutions.{schema_after_each, evolution_fault}
 use Rattle.smo_ops_spec.specs.Inverses.{inverse_fault, AllAcceptedInTurn}
@@ -17,6 +21,8 @@ use Rattle.smo_ops_widths.specs.declared.width.TableWidth.{TableWidth}
 use Rattle.smo_ops_widths.specs.Widths.{Widths, own_widths, widths_of, widths_stepped, with_version}
 use Rattle.smo_ops_widths.specs.Widths.{widest, widest_with, greatest_of}
 use Rattle.smo_ops_widths.specs.Creating.{AllLeaveOut, NameAll}
+use Rattle.smo_ops_widths.specs.Dead.{AreDead, AreDeadBefore}
+use Rattle.smo_ops_widths.proofs.DeadLaws.{none_dead, dead_before}
 use Rattle.smo_ops_widths.specs.Counted.{stopped}
 use Rattle.smo_ops_widths.specs.Shown.{Show}
 use Rattle.smo_ops_widths.proofs.StoppedLaws.{same_at_most, first_read}
@@ -26,6 +32,11 @@ use Rattle.smo_ops_widths.proofs.VersionLaws.{version_here}
 
 the_same : {v w : PlainVersion} → ◌≡◌ {A = Option PlainVersion} (Some v) (Some w) → v ≡ w
 the_same e = cc
+
+-- a set with no name has none
+pub none_in : (names : BTreeSet (List ℕ)) (n : List ℕ) → names.keys ≡ []
+    → contains bytes_cmp names n ≡ false
+none_in names n e = ap (list_any (is_at (bytes_cmp n))) e
 
 -- what going back over an operator does to widths
 abbrev pub GoesBack : List (List ℕ × TableWidth) → List (List ℕ × TableWidth) → Tables
@@ -158,6 +169,23 @@ module _ (vs : List Version) (op : List Operator) (inverse : List (List Operator
             sym (version_here vs stamp op inverse j v l is)
             ∙ sym (ap (slice_get all) same_place) ∙ here in
             subst (λ (x : PlainVersion). AllLeaveOut x.op n) (the_same is_this) (leaves n f).1
+
+    -- the dead tables before one operator more
+    pub dead_first : (none before : List ℕ → Bool) → ((n : List ℕ) → none n ≡ false)
+        → (only : Operator) → op ≡ only ∷ [] → AreDeadBefore only none before
+        → AreDead before (with_version (map version_of vs) stamp op inverse) (length vs)
+        (length vs + 1)
+    dead_first none before e only one d = dead_before all (length vs) (length vs + 1)
+        (new vs stamp op inverse) (omega arith) (new_here vs stamp op inverse) only one none before
+        d (none_dead all none e (length vs + 1))
+
+    pub dead_next : (after before : List ℕ → Bool) (k j : ℕ) (v : Version) → j + 1 ≡ k
+        → j < length vs → v ≡ get_or vs j v → AreDeadBefore (operator_of v.op) after before
+        → AreDead after (with_version (map version_of vs) stamp op inverse) k (length vs + 1)
+        → AreDead before (with_version (map version_of vs) stamp op inverse) j (length vs + 1)
+    dead_next after before k j v e l is d dead = dead_before all j (length vs + 1) (version_of v)
+        (omega (arith, l)) (version_here vs stamp op inverse j v l is) (operator_of v.op) refl after
+        before d (subst (λ (n : ℕ). AreDead after all n (length vs + 1)) (sym e) dead)
 
     -- and in the end
     pub most_last : (k most : ℕ) → k ≡ 0

@@ -1,5 +1,5 @@
 -- The widths that stand in the code.
-use Rattle.std.specs.Prelude.{ℕ, List, [], ◌∷◌, Option, ⊤}
+use Rattle.std.specs.Prelude.{ℕ, List, Option}
 use Rattle.std.specs.Option.{option_map}
 use Rattle.std.specs.FinMap.{get}
 use Rattle.std.specs.Map.{lookup}
@@ -20,10 +20,3 @@ seen entries n = option_map width_of (lookup (is_at (bytes_cmp n)) entries)
 -- these are the widths
 abbrev pub Show : List (List ℕ × TableWidth) → Widths → Type 0
 Show entries widths = (n : List ℕ) → MayBeAlike (seen entries n) (get widths n)
-
--- at most two widths are those of the tables that an operator makes
-abbrev pub AreMade : List (Option Width) → Option TableWidth → Option TableWidth → Type 0
-AreMade [] first second = ⊤
-AreMade (w ∷ []) first second = MayBeAlike (option_map width_of first) w
-AreMade (w ∷ x ∷ ws) first second = MayBeAlike (option_map width_of first) w
-    × MayBeAlike (option_map width_of second) x

@@ -2,9 +2,11 @@
 //! makes a version.
 #![tactic(auto)]
 
+mod dead;
 mod measure;
 mod names;
 mod new_version;
+mod operator;
 mod read_version;
 mod size;
 mod way;

@@ -6,12 +6,13 @@ ghost use Rattle.smo_ops_widths.specs.Widths.{Widths, measure, measure_of};
 ghost use Rattle.smo_ops_widths.specs.Widths.{sum_of_sizes, greatest};
 ghost use Rattle.smo_ops_widths.specs.Counted.{stopped, size_in};
 ghost use Rattle.smo_ops_widths.specs.Shown.{width_of, Show};
+ghost use Rattle.smo_ops_widths.specs.AtHand.{all_widths};
 
 use crate::size::size_of;
 use crate::width::TableWidth;
+use crate::widths::TableWidths;
 use prima_base::{ColType, Name};
 use schema_catalog::{Schema, Table};
-use std::collections::BTreeMap;
 
 // The sizes of these columns together.
 fn sum_of_sizes(columns: &[(Name, ColType)], sizes: &[(Name, u64)]) -> u64
@@ -34,8 +35,8 @@ fn measure(columns: &[(Name, ColType)], width: &TableWidth) -> u64
 }
 
 // The measure of the table, and 0 where it has no width.
-fn measure_of(table: &Table, widths: &BTreeMap<Name, TableWidth>) -> u64
-    ensures measure { (shown : Widths) → Show widths.now.entries shown
+fn measure_of(table: &Table, widths: &TableWidths) -> u64
+    ensures measure { (shown : Widths) → Show (all_widths widths.now) shown
         → result ≡ stopped (measure_of table.now.1 (get shown table.now.0)) }
     ensures within { result ≤ u64.MAX }
 {
@@ -46,8 +47,8 @@ fn measure_of(table: &Table, widths: &BTreeMap<Name, TableWidth>) -> u64
 }
 
 /// The greatest measure of the tables.
-pub(crate) fn greatest(schema: &Schema, widths: &BTreeMap<Name, TableWidth>) -> u64
-    ensures { (shown : Widths) → Show widths.now.entries shown
+pub(crate) fn greatest(schema: &Schema, widths: &TableWidths) -> u64
+    ensures { (shown : Widths) → Show (all_widths widths.now) shown
         → result ≡ stopped (greatest (entries schema.now) shown) }
 {
     let mut most: u64 = 0;

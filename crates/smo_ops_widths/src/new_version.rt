@@ -1,5 +1,5 @@
 ghost use Rattle.std.specs.Prelude.{◌≡◌, ◌+◌, ◌≤◌, ◌<◌, ℕ, suc, List, None, IfOk, length};
-ghost use Rattle.std.specs.Prelude.{◌-◌, max, true, false, get_or};
+ghost use Rattle.std.specs.Prelude.{◌-◌, ◌⊎◌, max, not, true, false, get_or};
 ghost use Rattle.std.specs.BTreeSet.{contains};
 ghost use Rattle.prima_base.specs.Order.{bytes_cmp};
 ghost use Rattle.smo_ops_types.specs.declared.version.Version.{Version};
@@ -14,21 +14,23 @@ ghost use Rattle.smo_ops_spec.specs.ValidPast.{AreVersions};
 ghost use Rattle.smo_ops_widths.specs.Widths.{greatest_of, widths_of, widest};
 ghost use Rattle.smo_ops_widths.specs.Widths.{widest_with, with_version};
 ghost use Rattle.smo_ops_widths.specs.Creating.{creates_one, NameAll};
+ghost use Rattle.smo_ops_widths.specs.Dead.{AreDead};
 ghost use Rattle.smo_ops_widths.specs.Counted.{stopped};
 ghost use Rattle.smo_ops_widths.specs.Shown.{Show};
+ghost use Rattle.smo_ops_widths.specs.AtHand.{all_widths};
 
+use crate::dead::go_before;
 use crate::measure::greatest;
-use crate::names::{creates_one, insert_named};
+use crate::names::{creates_one, creates_other, insert_named};
 use crate::read_version::widths_ahead;
 use crate::way::{carry, go_back};
-use crate::width::TableWidth;
-use crate::widths::own_widths;
+use crate::widths::{TableWidths, stored_widths};
 use prima_base::{Name, NoMemory};
 use schema_catalog::Schema;
 use smo_ops_operators::{schema_after, tables_at};
 use smo_ops_types::{Op, Versions};
 use std::alloc::Global;
-use std::collections::{BTreeMap, BTreeSet};
+use std::collections::BTreeSet;
 
 // At this number the measure of what makes a version stops.
 const MOST: u64 = 1 << 63;
@@ -60,41 +62,51 @@ fn measure_on(
     Ok(greatest(next, &widths))
 }
 
-// Whether version `k` creates no table, or one that is not among the names of later operators.
-fn is_covered(versions: &Versions, names: &BTreeSet<Name>, k: usize) -> bool
+// Whether version `k` has no tables, creates none, or creates one that is not among the names of
+// later operators, or one that is dead.
+fn is_covered(versions: &Versions, names: &BTreeSet<Name>, dead: &BTreeSet<Name>, k: usize) -> bool
     requires there { k ≤ length versions.now.list.items }
-    ensures { result ≡ true → (v : Version) × (k - 1 < length versions.now.list.items)
+    ensures { result ≡ true → (k ≡ 0) ⊎ ((v : Version) × (k - 1 < length versions.now.list.items)
         × (v ≡ get_or versions.now.list.items (k - 1) v) × (k - 1 + 1 ≡ k)
-        × (creates_one (contains bytes_cmp names.now) (operator_of v.op) ≡ false) }
+        × ((creates_one (contains bytes_cmp names.now) (operator_of v.op) ≡ false)
+        ⊎ (creates_one (λ n. not (contains bytes_cmp dead.now n)) (operator_of v.op) ≡ false))) }
 {
     if k == 0 {
-        return false;
+        return true;
     }
-    !creates_one(names, &versions.list[k - 1].op)
+    let op = &versions.list[k - 1].op;
+    if creates_one(names, op) {
+        return !creates_other(dead, op);
+    }
+    true
 }
 
 // The greatest measure of the tables of version `k`, which have these widths, and of the tables of
 // the version that the operator makes, read from version `k`. Where it is covered these are left
 // out: they are at least as wide where they are read from the version before, and a table that it
-// creates is as wide where it is read from the newest version.
+// creates is as wide where it is read from the newest version, or nothing is made of it; and where
+// there was no table nothing is read.
 fn measure_at(
     alloc: Global,
     versions: &Versions,
     op: &Op,
     next: &Schema,
     k: usize,
-    widths: &BTreeMap<Name, TableWidth>,
+    widths: &TableWidths,
     names: &BTreeSet<Name>,
+    dead: &BTreeSet<Name>,
 ) -> Result<u64, NoMemory>
     requires there { k < length versions.now.list.items }
     requires versions { AreVersions None no_tables (versions_of versions.now) }
     requires next { next.now ≡ schema_after_each
         (newest_from no_tables (versions_of versions.now)) (evolution_of op.now) }
     ensures { IfOk result (λ more. (stamp : ℕ) → (inverse : List (List Operator))
-        → Show widths.now.entries (widths_of (with_version (versions_of versions.now) stamp
+        → Show (all_widths widths.now) (widths_of (with_version (versions_of versions.now) stamp
         (evolution_of op.now) inverse) (length versions.now.list.items + 1) k)
         → NameAll (contains bytes_cmp names.now) (with_version (versions_of versions.now) stamp
         (evolution_of op.now) inverse) k
+        → AreDead (contains bytes_cmp dead.now) (with_version (versions_of versions.now) stamp
+        (evolution_of op.now) inverse) k (length versions.now.list.items + 1)
         → (most : ℕ) → stopped (greatest_of (with_version (versions_of versions.now) stamp
         (evolution_of op.now) inverse) (length versions.now.list.items)
         (length versions.now.list.items + 1)) ≤ most
@@ -105,7 +117,7 @@ fn measure_at(
 {
     let nothing = Schema::empty(alloc);
     let back = greatest(tables_at(&nothing, versions, k), widths);
-    if is_covered(versions, names, k) {
+    if is_covered(versions, names, dead, k) {
         return Ok(back);
     }
     let on = measure_on(alloc, versions, op, next, k)?;
@@ -133,10 +145,12 @@ pub fn widest(alloc: Global, versions: &Versions, op: &Op, inverse: &[Op]) -> Re
     let mut k = versions.list.len();
     let newest = tables_at(&nothing, versions, k);
     let next = schema_after(alloc, newest, op)?;
-    let mut widths = own_widths(alloc, &next)?;
-    go_back(alloc, newest, op, &next, inverse, &mut widths)?;
+    let mut widths = stored_widths(alloc, &next)?;
+    go_back(alloc, op, &next, inverse, &mut widths)?;
     let mut names = BTreeSet::new(alloc);
     insert_named(&mut names, op)?;
+    let mut dead = BTreeSet::new(alloc);
+    go_before(&mut dead, op)?;
     let on = measure_on(alloc, versions, op, &next, k)?;
     let begun = on.max(greatest(newest, &widths));
     let mut most = begun;
@@ -145,14 +159,14 @@ pub fn widest(alloc: Global, versions: &Versions, op: &Op, inverse: &[Op]) -> Re
         let version = &versions.list[k];
         go_back(
             alloc,
-            tables_at(&nothing, versions, k),
             &version.op,
             &version.schema,
             &version.inverse,
             &mut widths,
         )?;
         insert_named(&mut names, &version.op)?;
-        let more = measure_at(alloc, versions, op, &next, k, &widths, &names)?;
+        go_before(&mut dead, &version.op)?;
+        let more = measure_at(alloc, versions, op, &next, k, &widths, &names, &dead)?;
         most = most.max(more);
     }
     Ok(most.min(MOST))

@@ -6,10 +6,11 @@ ghost use Rattle.smo_ops_spec.specs.Past.{no_tables};
 ghost use Rattle.smo_ops_spec.specs.ValidPast.{AreVersions};
 ghost use Rattle.smo_ops_widths.specs.Widths.{widths_of};
 ghost use Rattle.smo_ops_widths.specs.Shown.{Show};
+ghost use Rattle.smo_ops_widths.specs.AtHand.{all_widths};
 
 use crate::way::{carry, go_back};
 use crate::width::TableWidth;
-use crate::widths::own_widths;
+use crate::widths::{TableWidths, stored_widths};
 use prima_base::{Name, NoMemory};
 use schema_catalog::Schema;
 use smo_ops_operators::tables_at;
@@ -23,14 +24,14 @@ pub(crate) fn widths_ahead(
     versions: &Versions,
     stored: usize,
     asked: usize,
-) -> Result<BTreeMap<Name, TableWidth>, NoMemory>
+) -> Result<TableWidths, NoMemory>
     requires order { stored ≤ asked }
     requires there { asked ≤ length versions.now.list.items }
-    ensures { IfOk result (λ m. Show m.entries
+    ensures { IfOk result (λ m. Show (all_widths m)
         (widths_of (versions_of versions.now) stored asked)) }
 {
     let nothing = Schema::empty(alloc);
-    let mut widths = own_widths(alloc, tables_at(&nothing, versions, stored))?;
+    let mut widths = stored_widths(alloc, tables_at(&nothing, versions, stored))?;
     let mut k = stored;
     while k < asked {
         let before = tables_at(&nothing, versions, k);
@@ -46,22 +47,21 @@ fn widths_behind(
     versions: &Versions,
     stored: usize,
     asked: usize,
-) -> Result<BTreeMap<Name, TableWidth>, NoMemory>
+) -> Result<TableWidths, NoMemory>
     requires versions { AreVersions None no_tables (versions_of versions.now) }
     requires order { asked ≤ stored }
     requires there { stored ≤ length versions.now.list.items }
-    ensures { IfOk result (λ m. Show m.entries
+    ensures { IfOk result (λ m. Show (all_widths m)
         (widths_of (versions_of versions.now) stored asked)) }
 {
     let nothing = Schema::empty(alloc);
-    let mut widths = own_widths(alloc, tables_at(&nothing, versions, stored))?;
+    let mut widths = stored_widths(alloc, tables_at(&nothing, versions, stored))?;
     let mut k = stored;
     while k > asked {
         k -= 1;
         let version = &versions.list[k];
         go_back(
             alloc,
-            tables_at(&nothing, versions, k),
             &version.op,
             &version.schema,
             &version.inverse,
@@ -86,7 +86,7 @@ pub fn widths_between(
         (widths_of (versions_of versions.now) stored asked)) }
 {
     if stored <= asked {
-        return widths_ahead(alloc, versions, stored, asked);
+        return widths_ahead(alloc, versions, stored, asked)?.into_map();
     }
-    widths_behind(alloc, versions, stored, asked)
+    widths_behind(alloc, versions, stored, asked)?.into_map()
 }

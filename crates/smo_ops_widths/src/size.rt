@@ -1,10 +1,12 @@
 //! The sizes of what stands for columns, by their names, and the nodes of trees in which each
 //! reference counts as the size of its column. Numbers stop at the greatest that there is.
 
-ghost use Rattle.std.specs.Prelude.{◌≡◌, ◌++◌, ℕ, List, map, max, min, IfOk, OnOk};
+ghost use Rattle.std.specs.Prelude.{◌≡◌, ◌++◌, ℕ, List, map, max, min, position, IfOk, OnOk};
 ghost use Rattle.prima_base.specs.Columns.{Column as OneColumn};
 ghost use Rattle.cond_expr.specs.Seen.{tree, test, trees_of, tests_of};
+ghost use Rattle.smo_ops_spec.specs.OneRow.{same};
 ghost use Rattle.smo_ops_widths.specs.Widths.{sized, trees_sized, test_sized, tests_sized};
+ghost use Rattle.smo_ops_widths.specs.Widths.{sized_as};
 ghost use Rattle.smo_ops_widths.specs.Counted.{size_in};
 
 use cond_expr::{Cond, Expr};
@@ -131,9 +133,34 @@ pub(crate) fn push_others(
 
 /// The same sizes.
 pub(crate) fn copy_sizes(alloc: Global, sizes: &[(Name, u64)]) -> Result<Vec<(Name, u64)>, NoMemory>
-    ensures { IfOk result (λ v. (n : List ℕ) → size_in v.items n ≡ size_in sizes.now n) }
+    ensures { IfOk result (λ v. v.items ≡ sizes.now) }
 {
     let mut copied = Vec::with_capacity(alloc, sizes.len())?;
-    push_others(&mut copied, sizes)?;
+    for (name, size) in sizes {
+        copied.push((name.copy()?, *size))?;
+    }
     Ok(copied)
+}
+
+// The place of the size that stands beside the name, if it is there.
+fn place_of(sizes: &[(Name, u64)], name: &Name) -> Option<usize>
+    ensures { result ≡ position (λ (e : List ℕ × ℕ). same name.now e.0) sizes.now }
+{
+    sizes.iter().position(|entry| name == &entry.0)
+}
+
+/// This is the size that stands beside the name: 1 need not be said where the name is not there.
+pub(crate) fn put_size(sizes: &mut Vec<(Name, u64)>, name: &Name, size: u64) -> Result<(), NoMemory>
+    ensures { OnOk result ((n : List ℕ) → size_in sizes.new.items n
+        ≡ sized_as name.now size (size_in sizes.old.items) n) }
+{
+    match place_of(sizes, name) {
+        Some(place) => sizes[place].1 = size,
+        None => {
+            if size != 1 {
+                sizes.push((name.copy()?, size))?;
+            }
+        }
+    }
+    Ok(())
 }

@@ -9,7 +9,7 @@ ghost use Rattle.smo_ops_widths.specs.Counted.{AreAlike, size_in, stopped};
 ghost use Rattle.smo_ops_widths.specs.Shown.{width_of};
 
 use crate::size::{
-    cond_nodes, copy_sizes, expr_nodes, push_greater, push_others, push_sized, size_of,
+    cond_nodes, copy_sizes, expr_nodes, push_greater, push_others, push_sized, put_size, size_of,
 };
 use cond_expr::{Cond, Expr};
 use prima_base::{ColType, Name, NoMemory};
@@ -151,54 +151,42 @@ pub(crate) fn joined(
     })
 }
 
-// The same width, but for the size of what stands for this column.
-fn with_size(
-    alloc: Global,
-    column: &Name,
-    size: u64,
-    width: &TableWidth,
-) -> Result<TableWidth, NoMemory>
+/// The same width, but for the size of what stands for this column.
+pub(crate) fn resized(column: &Name, size: u64, width: TableWidth) -> Result<TableWidth, NoMemory>
     ensures { IfOk result (λ w. AreAlike (width_of w)
-        (with_size (sized_as column.now size (size_in width.now.sizes.items))
-        (width_of width.now))) }
+        (with_size (sized_as column.now size (size_in width.sizes.items)) (width_of width))) }
 {
-    let mut sizes = Vec::new(alloc);
-    sizes.push((column.copy()?, size))?;
-    push_others(&mut sizes, &width.sizes)?;
+    let TableWidth {
+        pieces,
+        atoms,
+        cond,
+        mut sizes,
+    } = width;
+    put_size(&mut sizes, column, size)?;
     Ok(TableWidth {
-        pieces: width.pieces,
-        atoms: width.atoms,
-        cond: width.cond,
+        pieces,
+        atoms,
+        cond,
         sizes,
     })
 }
 
 /// That of a table with a column more, that is computed.
-pub(crate) fn added(
-    alloc: Global,
-    column: &Name,
-    expr: &Expr,
-    width: &TableWidth,
-) -> Result<TableWidth, NoMemory>
+pub(crate) fn added(column: &Name, expr: &Expr, width: TableWidth) -> Result<TableWidth, NoMemory>
     ensures { IfOk result (λ w. AreAlike (width_of w)
-        (with_size (sized_as column.now (sized (size_in width.now.sizes.items) (tree expr.now))
-        (size_in width.now.sizes.items)) (width_of width.now))) }
+        (with_size (sized_as column.now (sized (size_in width.sizes.items) (tree expr.now))
+        (size_in width.sizes.items)) (width_of width))) }
 {
     let size = expr_nodes(&width.sizes, expr);
-    with_size(alloc, column, size, width)
+    resized(column, size, width)
 }
 
 /// That of a table with a column under another name.
-pub(crate) fn renamed(
-    alloc: Global,
-    column: &Name,
-    into: &Name,
-    width: &TableWidth,
-) -> Result<TableWidth, NoMemory>
+pub(crate) fn renamed(column: &Name, into: &Name, width: TableWidth) -> Result<TableWidth, NoMemory>
     ensures { IfOk result (λ w. AreAlike (width_of w)
-        (with_size (sized_as into.now (size_in width.now.sizes.items column.now)
-        (size_in width.now.sizes.items)) (width_of width.now))) }
+        (with_size (sized_as into.now (size_in width.sizes.items column.now)
+        (size_in width.sizes.items)) (width_of width))) }
 {
     let size = size_of(&width.sizes, column);
-    with_size(alloc, into, size, width)
+    resized(into, size, width)
 }

@@ -17,9 +17,7 @@ use Rattle.smo_ops_versions_spec.specs.Lifelines.{Lifeline, covers, is_up_to, Co
 use Rattle.smo_ops_versions_spec.specs.Lifelines.{IsUpTo as GoesTo}
 use Rattle.store_image_spec.specs.Images.{StoredLine, IsUpTo, EndsUpTo, store_of}
 use Rattle.store_image_spec.specs.ShownPast.{cells_written, line_size}
-use Rattle.version_groups_tables.specs.declared.made_table.MadeTable.{MadeTable}
-use Rattle.version_groups_tables.specs.Places.{with_table, at_places}
-use Rattle.version_groups_tables.specs.Stored.{stored_as}
+use Rattle.version_groups.specs.StoredTables.{MadeTable, with_table, at_places, stored_as}
 use Rattle.version_groups.specs.Covering.{line_of}
 use Rattle.version_groups.specs.Representation.{AreUpTo}
 use Rattle.version_groups.specs.Sizes.{IsWritten, AreWritten, HasSize, HaveSizes}

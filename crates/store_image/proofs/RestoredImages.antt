@@ -27,8 +27,7 @@ use Rattle.store_image_spec.proofs.DueLifelines.{due_lifelines}
 use Rattle.store_image_reader.specs.Seen.{stored_seen, cells_seen, lines_seen}
 use Rattle.store_image_reader.specs.Ordered.{IsOrdered}
 use Rattle.store_image_reader.specs.declared.line.ReadLine.{ReadLine}
-use Rattle.version_groups_tables.specs.declared.made_table.MadeTable.{MadeTable}
-use Rattle.version_groups_tables.specs.Restoring.{stores_of}
+use Rattle.version_groups.specs.StoredTables.{MadeTable, stores_of}
 use Rattle.version_groups.specs.Covering.{line_of, AreOfLifelines}
 use Rattle.version_groups.specs.Groups.{Kept, versions_in, places_of, table_in}
 use Rattle.version_groups.specs.Restoring.{IsPastOf, store_columns}

@@ -26,7 +26,7 @@ use Rattle.store_image_spec.specs.Lengths.{image_length}
 use Rattle.store_image_spec.proofs.ImageLengths.{has_length}
 use Rattle.store_image_spec.proofs.SamePasts.{known_past}
 use Rattle.store_image_spec.proofs.ShownPasts.{is_past, table_shown}
-use Rattle.version_groups_tables.specs.declared.made_table.MadeTable.{MadeTable}
+use Rattle.version_groups.specs.StoredTables.{MadeTable}
 use Rattle.version_groups.specs.Covering.{line_of}
 use Rattle.version_groups.specs.Groups.{Kept, versions_in, places_of, table_in}
 use Rattle.version_groups.specs.Representation.{Represents, RepresentsTable, RepresentsEntry}

@@ -21,7 +21,7 @@ use Rattle.command_codec_spec.proofs.OneMember.{ones_of_code}
 use Rattle.store_image_spec.specs.Images.{VersionsOfOne}
 use Rattle.store_image_spec.specs.Encoding.{span_bytes, cell_bytes, stored_bytes}
 use Rattle.store_image_spec.proofs.ValidVersions.{version_writable}
-use Rattle.version_groups_tables.specs.declared.made_table.MadeTable.{MadeTable}
+use Rattle.version_groups.specs.StoredTables.{MadeTable}
 use Rattle.store_image.specs.ImageIn.{kept_line, CanBeWritten, AreValid}
 
 -- one part more

@@ -10,7 +10,7 @@ use Rattle.smo_ops_versions_spec.specs.Lifelines.{Lifeline}
 use Rattle.history_store.specs.Restoring.{IsInOrder}
 use Rattle.store_image_reader.specs.Seen.{stored_seen, cells_seen}
 use Rattle.store_image_reader.specs.declared.line.ReadLine.{ReadLine}
-use Rattle.version_groups_tables.specs.declared.made_table.MadeTable.{MadeTable}
+use Rattle.version_groups.specs.StoredTables.{MadeTable}
 use Rattle.version_groups.specs.Covering.{line_of}
 use Rattle.version_groups.specs.Groups.{Kept, versions_in}
 use Rattle.store_image_spec.specs.Images.{StoredLine, Image, IsImage, VersionsNamed, store_of}

@@ -1,7 +1,7 @@
 //! Writing an image.
 
 ghost use Rattle.std.specs.Prelude.{◌≡◌, ◌++◌, ◌<◌, ◌^◌, ◌∷◌, [], map, length, None, IfOk, OnOk};
-ghost use Rattle.std.specs.Prelude.{All};
+ghost use Rattle.std.specs.Prelude.{All, replicate};
 ghost use Rattle.std.specs.List.{flat_map, AllByRecursion};
 ghost use Rattle.prima_base.specs.Columns.{IsValid};
 ghost use Rattle.prima_base.specs.Order.{shown};
@@ -234,23 +234,26 @@ fn put_last(out: &mut Vec<u8>, last: Option<u64>) -> Result<(), NoMemory>
     }
 }
 
-// The bytes of the image of the groups, with a counter of the ledger.
+// The bytes of the image of the groups behind so many free ones, with a counter of the ledger.
 fn image_counted<L: Ledger>(
     alloc: Global,
     groups: &Groups,
     last: Option<u64>,
+    front: usize,
     blank: Blank,
 ) -> Result<Vec<u8>, NoMemory>
     requires versions { AreVersions None no_tables (versions_in groups.now) }
     requires name { blank.name ≡ L.name }
     requires parts { blank.parts ≡ L.parts }
     requires some { 0 < blank.parts }
-    ensures bytes { IfOk result (λ v. v.items ≡ image_bytes (image_in groups.now last)) }
+    ensures bytes { IfOk result (λ v. v.items
+        ≡ replicate front 0 ++ image_bytes (image_in groups.now last)) }
     ensures holds { OnOk result (GroupsHold groups.now) }
 {
     let mut steps: Steps<L> = fresh_steps(blank);
     let size = image_size(groups, &mut steps);
-    let mut out = Vec::with_capacity(alloc, size as usize)?;
+    let mut out = vec![in alloc; 0u8; front]?;
+    out.reserve((size as usize).saturating_add(1))?;
     put_last(&mut out, last)?;
     put_versions(&mut out, groups)?;
     put_all_stored(&mut out, groups.stored(), &mut steps)?;
@@ -261,16 +264,23 @@ fn image_counted<L: Ledger>(
 /// archive: each is accepted after the one before. What was written is valid: the tables, their
 /// values, and the names and constants in the versions' operators. The image of groups that
 /// represent a past with this last stamp shows just that past, and has as many bytes as its
-/// versions and sizes say. The bytes are counted first, and written into one buffer of just so
-/// many. The one error is `NoMemory`, where memory runs out.
-pub fn image_of(alloc: Global, groups: &Groups, last: Option<u64>) -> Result<Vec<u8>, NoMemory>
+/// versions and sizes say. The bytes are counted first, and written into one buffer, which has
+/// `front` bytes before them that are left free, each 0, and room for one byte after them. The one
+/// error is `NoMemory`, where memory runs out.
+pub fn image_of(
+    alloc: Global,
+    groups: &Groups,
+    last: Option<u64>,
+    front: usize,
+) -> Result<Vec<u8>, NoMemory>
     requires { AreVersions None no_tables (versions_in groups.now) }
-    ensures bytes { IfOk result (λ v. v.items ≡ image_bytes (image_in groups.now last)) }
+    ensures bytes { IfOk result (λ v. v.items
+        ≡ replicate front 0 ++ image_bytes (image_in groups.now last)) }
     ensures holds { OnOk result (GroupsHold groups.now) }
     ensures image { (past : Past) → Represents groups.now past → last ≡ past.last
         → OnOk result (IsImageOf past (image_in groups.now last)) }
 {
-    let bytes = image_counted::<Brand>(alloc, groups, last, Blank::new(1))?;
+    let bytes = image_counted::<Brand>(alloc, groups, last, front, Blank::new(1))?;
     an_image_shows_its_archive();
     Ok(bytes)
 }

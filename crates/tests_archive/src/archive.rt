@@ -6,7 +6,7 @@ ghost use Rattle.std.specs.Prelude.{◌≡◌, ◌<◌};
 use crate::counter::reads_are_counted;
 use crate::version::{tables_over_versions, versions_in_force};
 use answer_text::Listing;
-use archive_core_state::{ArchiveState, AskFault};
+use archive_core::{ArchiveState, AskFault};
 use lexer::tokens;
 use prima_base::{FOREVER, Period, Steps, Val};
 use prima_base_counter::fresh_steps;

@@ -11,7 +11,7 @@ ghost use Rattle.smo_ops_spec.specs.ValidPast.{AreVersions};
 ghost use Rattle.piece_ir_spec.specs.Beginnings.{asking};
 ghost use Rattle.piece_ir_spec.specs.UnfoldedPieces.{MayBeAsked};
 
-use archive_core_state::ArchiveState;
+use archive_core::ArchiveState;
 use cond_expr::Cond;
 use piece_ir::Piece;
 use prima_base::{FOREVER, Name};

@@ -1,7 +1,7 @@
 //! The adapters over files of the system.
+use cases_player::{ReaderSource, WriterSink};
 use prima_base::Failed;
 use prima_io::{Sink, Source};
-use script_cli::{ReaderSource, WriterSink};
 use std::fs;
 use std::test::Fail;
 

@@ -1,7 +1,7 @@
 //! The disk over a file of the system.
+use cases_player::FileDisk;
 use disk_model::Disk;
 use prima_base::Failed;
-use script_cli::FileDisk;
 use std::fs;
 use std::fs::{File, OpenOptions};
 use std::test::Fail;

@@ -1,7 +1,6 @@
 //! Runs over sources and sinks in memory, with replies written by hand.
-use cases_player::run_with_rules;
+use cases_player::{Status, Word, run_with_rules};
 use prima_io::{MemSink, MemSource, Sink, Source, SureSink, SureSource};
-use script_cli::{Status, Word};
 use std::alloc::{AllocError, Global};
 use std::process::Abort;
 use std::test::Fail;

@@ -10,3 +10,4 @@ pub mod CheckedCommands
 pub mod Room
 pub mod Installing
 pub mod Restoring
+pub mod StoredTables

@@ -14,3 +14,6 @@ mod range;
 pub use candidate::{column_asked, lend_rows};
 pub use filter::{ColumnTest, filter_for, hits_pass_filters, passes};
 pub use range::{high_cut, hits_are_between_the_cuts, hits_have_pinned_values, low_cut};
+pub use smo_ops::{
+    Change, OwnColumns, inserted_row, insertions_are_a_union, row_meets, row_with_sets,
+};

@@ -17,9 +17,8 @@ ghost use Rattle.version_groups_changes.specs.Changing.{changed_relation};
 use crate::pending_changes::{condition, given_row, lost_and_gained};
 use history_store::{GivenRow, PreparedTable, StoredTable};
 use prima_base::{ColType, Name, NoMemory};
-use smo_ops::{Change, OwnColumns, insertions_are_a_union};
 use std::alloc::Global;
-use version_groups_candidates::column_asked;
+use version_groups_candidates::{Change, OwnColumns, column_asked, insertions_are_a_union};
 
 // The rows, and the one that the change gives, borrowed by it; none where it is no INSERT.
 fn add_given<'a>(

@@ -36,13 +36,12 @@ use cond_expr::{CmpOp, Cond, Expr, pinned};
 use history_store::{BorrowedRows, GivenRow, StoredTable};
 use prima_base::{ColType, Name, NoMemory, Row, Steps, Val, Value};
 use prima_base_counter::fresh_steps;
-use smo_ops::{Change, OwnColumns, inserted_row, row_meets, row_with_sets};
 use std::alloc::Global;
 use std::marker::Brand;
 use std::sync::ledger::{Blank, Ledger};
 use version_groups_candidates::{
-    filter_for, high_cut, hits_are_between_the_cuts, hits_have_pinned_values, hits_pass_filters,
-    lend_rows, low_cut, passes,
+    Change, OwnColumns, filter_for, high_cut, hits_are_between_the_cuts, hits_have_pinned_values,
+    hits_pass_filters, inserted_row, lend_rows, low_cut, passes, row_meets, row_with_sets,
 };
 
 // The row that is borrowed.

@@ -21,11 +21,11 @@ use crate::row_value::{copy_values, lend_values, put_values};
 use cond_expr::{CmpOp, Cond, pinned};
 use history_store::{Cut, GivenRow};
 use prima_base::{NoMemory, Row, Value};
-use smo_ops::{OwnColumns, row_meets};
 use std::alloc::Global;
 use std::collections::BTreeMap;
 use std::marker::Model;
 use std::mem;
+use version_groups_candidates::{OwnColumns, row_meets};
 
 // A row of these values.
 fn row_of<'a>(alloc: Global, values: &[Value]) -> Result<GivenRow<'a>, NoMemory>

@@ -5,6 +5,7 @@ use Rattle.std.specs.FinMap.{get}
 use Rattle.prima_base.specs.Columns.{Column}
 use Rattle.schema_catalog.specs.Tables.{Tables}
 use Rattle.history_store.specs.Store.{Store}
+pub use Rattle.smo_ops_operators.specs.Names.{is_one_of}
 use Rattle.version_groups_tables.specs.declared.made_table.MadeTable.{MadeTable}
 
 abbrev pub stores_of : List MadeTable → List Store

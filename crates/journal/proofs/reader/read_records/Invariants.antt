@@ -1,16 +1,22 @@
-use Rattle.std.proofs.Common.{◌≡◌, ◌-◌, ◌<◌, ◌++◌, length, drop, map}
-use Rattle.journal.specs.Records.{before_gate, AreKnown}
-use Rattle.journal.specs.Reading.{records_in, gates}
+use Rattle.std.proofs.Common.{◌≡◌, ◌-◌, ◌^◌, ◌<◌, length}
+use Rattle.disk_model.specs.Meaning.{IfKnown}
+use Rattle.disk_model.specs.DeviceCalls.{Reads}
+use Rattle.journal.proofs.Walked.{IsWalked, IsPlaced}
 use Rattle.journal.proofs.reader.read_records.Given as goal
 
 abbrev pub invariant-records : goal.invariant-records
-invariant-records l = record {
-  inside : l.at < length l.bytes;
-  is : l.bytes ≡ before_gate (records_in l.recs.items) ++ drop l.at l.bytes;
-  end : l.at ≡ length (before_gate (records_in l.recs.items));
-  known : AreKnown (records_in l.recs.items);
-  places : map (λ rec. rec.at) l.recs.items ≡ gates 8 (records_in l.recs.items);
-}
+invariant-records g l =
+    let M = g.D.Disk.meaning in
+    let before = M l.initial.disk in
+    record {
+      reads : Reads before (M l.disk);
+      unfailed : (M l.disk).faults ≡ before.faults;
+      below : l.end < 2 ^ 64 - 1;
+      end : IfKnown before.seen (λ file. l.end ≡ length file);
+      inside : l.at < l.end;
+      placed : IsPlaced l.recs.items l.at;
+      walked : IfKnown before.seen (λ file. IsWalked file l.recs.items l.at l.gate);
+    }
 
 abbrev pub decreases-records : goal.decreases-records
-decreases-records l = length l.bytes - l.at
+decreases-records g l = 2 ^ 64 - l.at

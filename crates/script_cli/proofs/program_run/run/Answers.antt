@@ -17,7 +17,7 @@ use Rattle.script_cli.specs.declared.status.Status.TheVariants.{NotAJournal, Wor
 use Rattle.script_cli.proofs.ValidPasts.{of_script, still_made}
 use Rattle.script_cli_statement.proofs.ExplainedQueries.{tells_pieces}
 use Rattle.script_cli_statement.proofs.Errors.{error_told}
-use Rattle.script_cli_vault.specs.Shown.{need_of}
+use Rattle.script_cli_statement.specs.ArchiveOnDisk.{need_of}
 use Rattle.script_cli.proofs.SessionStatements.{statements_are_steps, commits_are_commands}
 use Rattle.script_cli.proofs.FetchedEntries.{fetches_are_of_the_answer}
 use Rattle.script_cli.proofs.Recording.{recorded_is, put_sound, put_accepted, still_sound}

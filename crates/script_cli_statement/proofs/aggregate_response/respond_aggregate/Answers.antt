@@ -4,7 +4,7 @@ use Rattle.temporal_lang_types.specs.Queries.{query_of}
 use Rattle.temporal_lang_spec.specs.Answers.{answer}
 use Rattle.temporal_lang_spec.specs.AggregateFaults.{fault_of_aggregate}
 use Rattle.time_aggregate.specs.Aggregated.{aggregated}
-use Rattle.archive_core.specs.State.{tells_periods}
+use Rattle.script_cli_vault.specs.ArchiveOnDisk.{tells_periods}
 use Rattle.answer_text.specs.Texts.{aggregates_text}
 use Rattle.script_cli_statement.specs.Replies.{aggregate_reply}
 use Rattle.script_cli_statement.specs.StopReasons.{SaidCounted}

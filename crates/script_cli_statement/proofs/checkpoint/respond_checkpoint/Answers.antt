@@ -1,10 +1,10 @@
 use Rattle.std.proofs.Common.{length, ap, sym, subst, refl, ◌∙◌, ⊎_elim, [], ◌∷◌, Some, None, Err}
 use Rattle.store_image_spec.specs.Encoding.{image_bytes}
-use Rattle.archive_core.specs.Fields.{standing_of, below, place_of}
-use Rattle.archive_core.specs.Checkpointing.{checkpoint_fault, image_of_archive, checkpoint_of}
+use Rattle.script_cli_vault.specs.ArchiveOnDisk.{standing_of, below, place_of, checkpoint_fault}
+use Rattle.script_cli_vault.specs.ArchiveOnDisk.{image_of_archive, checkpoint_of}
 use Rattle.script_cli_statement.specs.Due.{image_due}
 use Rattle.script_cli_statement.specs.Replies.{checkpoint_reply, put_image}
-use Rattle.archive_core.specs.State.{RepresentsPast}
+use Rattle.script_cli_vault.specs.ArchiveOnDisk.{RepresentsPast}
 use Rattle.script_cli_statement.specs.StopReasons.{StopCounted}
 use Rattle.script_cli_statement.specs.Responses.{Responds}
 use Rattle.script_cli_statement.proofs.OnePut.{put_one}

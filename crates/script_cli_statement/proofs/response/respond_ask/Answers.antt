@@ -3,7 +3,7 @@ use Rattle.prima_base.specs.Timed.{entries_of}
 use Rattle.temporal_lang_types.specs.Queries.{query_of}
 use Rattle.temporal_lang_spec.specs.Accepted.{fault_of_query}
 use Rattle.temporal_lang_spec.specs.Answers.{answer}
-use Rattle.archive_core.specs.State.{tells_periods}
+use Rattle.script_cli_vault.specs.ArchiveOnDisk.{tells_periods}
 use Rattle.answer_text.specs.Texts.{listing_text}
 use Rattle.script_cli_statement.specs.Replies.{query_reply}
 use Rattle.script_cli_statement.specs.StopReasons.{SaidCounted}

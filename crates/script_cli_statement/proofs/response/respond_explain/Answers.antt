@@ -3,7 +3,7 @@ use Rattle.piece_ir_spec.specs.Books.{book_of}
 use Rattle.piece_ir.specs.ExplainedPieces.{all_explained}
 use Rattle.temporal_lang_types.specs.Queries.{query_of}
 use Rattle.temporal_lang_spec.specs.Accepted.{fault_of_query}
-use Rattle.archive_core.specs.State.{pieces_told}
+use Rattle.script_cli_vault.specs.ArchiveOnDisk.{pieces_told}
 use Rattle.answer_text.specs.Texts.{explain_text}
 use Rattle.script_cli_statement.specs.Replies.{explain_reply}
 use Rattle.script_cli_statement.specs.StopReasons.{SaidCounted}

@@ -1,8 +1,7 @@
 use Rattle.std.proofs.Common.{ap, sym, subst, refl, ◌∙◌, ⊎_elim, [], ◌∷◌, Some, None, Err}
 use Rattle.smo_ops_types.specs.Commands.{command_of}
 use Rattle.archive_core_file_spec.specs.LogRecords.{logged}
-use Rattle.archive_core.specs.Fields.{below, place_of}
-use Rattle.archive_core.specs.Committing.{commit_fault}
+use Rattle.script_cli_vault.specs.ArchiveOnDisk.{below, place_of, commit_fault}
 use Rattle.script_cli_statement.specs.Due.{command_due}
 use Rattle.script_cli_statement.specs.Replies.{command_reply, put_command}
 use Rattle.script_cli_statement.specs.StopReasons.{StopCounted}

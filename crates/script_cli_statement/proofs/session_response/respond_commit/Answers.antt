@@ -1,6 +1,6 @@
 use Rattle.std.proofs.Common.{◌≡◌, refl, ap, sym, subst, ◌∙◌, ◌⊎◌, ⊎_elim, Some, None, Err, inl}
 use Rattle.std.proofs.Common.{inr, Ok}
-use Rattle.archive_core.specs.Fields.{below}
+use Rattle.script_cli_vault.specs.ArchiveOnDisk.{below}
 use Rattle.sessions.specs.declared.vault.VaultFault.TheVariants as vault
 use Rattle.sessions.specs.Meaning.{sessions_of}
 use Rattle.sessions.specs.Requests.{committing}

@@ -2,7 +2,7 @@ use Rattle.std.proofs.Common.{◌≡◌, refl, sym, subst}
 use Rattle.std.specs.Prelude.{OnOk}
 use Rattle.smo_ops_types.specs.Changes.{changes_of}
 use Rattle.temporal_lang_types.specs.Queries.{query_of}
-use Rattle.archive_core.specs.Fields.{below}
+use Rattle.script_cli_vault.specs.ArchiveOnDisk.{below}
 use Rattle.sessions.specs.Meaning.{sessions_of}
 use Rattle.sessions.specs.Requests.{beginning, buffering, aborting, opening, fetching, closing}
 use Rattle.sessions.specs.Requests.{request_of}

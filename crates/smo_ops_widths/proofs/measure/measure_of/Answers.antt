@@ -7,6 +7,7 @@ use Rattle.smo_ops_widths.specs.Counted.{stopped}
 use Rattle.smo_ops_widths.specs.Shown.{width_of}
 use Rattle.smo_ops_widths.proofs.AlikeLaws.{measures_same}
 use Rattle.smo_ops_widths.proofs.FoundLaws.{one_there}
+use Rattle.smo_ops_widths.specs.AtHand.{all_widths}
 use Rattle.smo_ops_widths.proofs.measure.measure_of.Goals as goal
 
 pub returns-in-Some-clause-measure : goal.returns-in-Some-clause-measure
@@ -17,5 +18,5 @@ returns-in-Some-clause-measure c = λ shown s.
     c.measure.ensures
     ∙ ap (λ (cs : List Column). stopped (measure cs (width_of w))) c.columns.ensures.value
     ∙ measures_same (Some (width_of w)) (get shown n)
-    (one_there c.args.widths.now.entries shown s n w (sym c.in-Some.ensures.value)) columns
+    (one_there (all_widths c.args.widths.now) shown s n w (sym c.in-Some.ensures)) columns
     ∙ ap (λ (m : List ℕ). stopped (measure_of columns (get shown m))) c.name.ensures.value

@@ -1,10 +1,9 @@
-use Rattle.std.proofs.Common.{true, List, ℕ, ap, ◌∙◌}
-use Rattle.std.specs.Prelude.{cond}
+use Rattle.std.proofs.Common.{sym, ◌∙◌}
 use Rattle.std.specs.BTreeSet.{contains}
-use Rattle.prima_base.specs.Order.{bytes_cmp, same}
+use Rattle.prima_base.specs.Order.{bytes_cmp}
+use Rattle.smo_ops_widths.proofs.NamesInserted.{there_already}
 use Rattle.smo_ops_widths.proofs.names.insert_copy.Goals as goal
 
-pub returns : goal.returns
-returns c = λ n. c.in_ok-_is_new.ensures.updates.0 n
-    ∙ ap (λ (key : List ℕ). cond (same key n) true (contains bytes_cmp c.args.names.now n))
-    c.in_ok-copy.ensures
+pub returns-else-not-contains : goal.returns-else-not-contains
+returns-else-not-contains c = there_already (contains bytes_cmp c.args.names.now) c.args.name.now
+    (sym c.contains.ensures ∙ c.if-not-contains.false)

@@ -8,6 +8,7 @@ use Rattle.smo_ops_widths.specs.Widths.{Widths, widths_of, with_version, greates
 use Rattle.smo_ops_widths.specs.Counted.{stopped}
 use Rattle.smo_ops_widths.specs.Shown.{Show}
 use Rattle.smo_ops_widths.proofs.VersionLaws.{last_step, tables_last}
+use Rattle.smo_ops_widths.specs.AtHand.{all_widths}
 use Rattle.smo_ops_widths.proofs.new_version.measure_on.Goals as goal
 
 pub returns : goal.returns
@@ -20,11 +21,11 @@ returns c = λ stamp inverse.
     let op = evolution_of c.args.op.now in
     let all = with_version (versions_of c.args.versions.now) stamp op inverse in
     let widths = widths_of all c.args.stored (length vs + 1) in
-    let shown = subst (λ (w : Widths). Show c.carry.new.widths.entries w)
+    let shown = subst (λ (w : Widths). Show (all_widths c.carry.new.widths) w)
     (last_step vs stamp op inverse c.tables_at-newest.result.now c.args.stored c.requires.there
     there)
     (c.in_ok-carry.ensures (widths_of (versions_of c.args.versions.now) c.args.stored (length vs))
-    (subst (λ (n : ℕ). Show c.in_ok-widths.widths.entries
+    (subst (λ (n : ℕ). Show (all_widths c.in_ok-widths.widths)
     (widths_of (versions_of c.args.versions.now) c.args.stored n)) count
     c.in_ok-widths.ensures)) in
     c.greatest.ensures widths shown

@@ -5,6 +5,7 @@ use Rattle.smo_ops_versions_spec.proofs.WaySteps.{taken_stays}
 use Rattle.smo_ops_widths.specs.Widths.{Widths, own_widths, widths_of, widths_stepped}
 use Rattle.smo_ops_widths.specs.Shown.{Show}
 use Rattle.smo_ops_widths.proofs.VersionLaws.{on_step}
+use Rattle.smo_ops_widths.specs.AtHand.{all_widths}
 use Rattle.smo_ops_widths.proofs.read_version.widths_ahead.Goals as goal
 
 pub loop-k-init : goal.loop-k-init
@@ -13,7 +14,7 @@ loop-k-init c =
     record {
       low = omega arith;
       high = c.requires.order;
-      shown = subst (λ (w : Widths). Show c.in_ok-widths.widths.entries w)
+      shown = subst (λ (w : Widths). Show (all_widths c.in_ok-widths.widths) w)
           (ap own_widths c.tables_at.ensures
           ∙ sym (taken_stays versions widths_stepped c.args.stored
           (own_widths (tables_from no_tables versions c.args.stored)))) c.in_ok-widths.ensures;
@@ -28,7 +29,7 @@ loop-k-preserved c =
     record {
       low = omega (arith, low);
       high = omega (arith, below);
-      shown = subst (λ (w : Widths). Show c.carry.new.widths.entries w)
+      shown = subst (λ (w : Widths). Show (all_widths c.carry.new.widths) w)
           (on_step vs c.loop-k.k c.index.result.now c.tables_at-before.result.now c.args.stored
           (omega (arith, below, there)) c.index.ensures c.tables_at-before.ensures low)
           (c.in_ok-carry.ensures
@@ -41,5 +42,5 @@ returns c =
     let test = c.loop-k-test.false in
     let high = c.loop-k.invariant.high in
     let end : c.loop-k.k ≡ c.args.asked = omega (arith, test, high) in
-    subst (λ n. Show c.loop-k.widths.entries
+    subst (λ n. Show (all_widths c.loop-k.widths)
     (widths_of (versions_of c.args.versions.now) c.args.stored n)) end c.loop-k.invariant.shown

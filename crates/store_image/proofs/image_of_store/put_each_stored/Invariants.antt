@@ -1,7 +1,7 @@
 use Rattle.std.proofs.Common.{◌≡◌, ◌<◌, ◌++◌, ℕ, map, drop, get_or}
 use Rattle.std.specs.List.{flat_map}
 use Rattle.store_image_spec.specs.Encoding.{stored_bytes}
-use Rattle.version_groups_tables.specs.declared.made_table.MadeTable.{MadeTable}
+use Rattle.version_groups.specs.StoredTables.{MadeTable}
 use Rattle.store_image.specs.ImageIn.{kept_line, TableHolds}
 use Rattle.store_image.proofs.image_of_store.put_each_stored.Given as goal
 

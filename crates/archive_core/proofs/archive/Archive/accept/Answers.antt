@@ -2,9 +2,7 @@ use Rattle.std.proofs.Common.{◌≡◌, sym, subst}
 use Rattle.std.proofs.lemmas.Result.{err_from_is_err_and}
 use Rattle.smo_ops_types.specs.Commands.{PlainCommand}
 use Rattle.smo_ops_spec.specs.Past.{Past}
-use Rattle.version_groups.specs.CheckedCommands.{checked_command}
-use Rattle.version_groups.specs.Steps.{Prepares}
-use Rattle.archive_core_replay.specs.Memory.{RepresentsPast}
+use Rattle.archive_core_replay.specs.Memory.{checked_command, Prepares, RepresentsPast}
 use Rattle.archive_core.proofs.archive.Archive.accept.Goals as goal
 
 pub returns-in_err-put-clause-untouched : goal.returns-in_err-put-clause-untouched

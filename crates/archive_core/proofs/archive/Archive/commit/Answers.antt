@@ -2,7 +2,7 @@ use Rattle.std.proofs.Common.{List, ap, sym, subst, ◌∙◌}
 use Rattle.smo_ops_types.specs.Changes.{changes_of}
 use Rattle.smo_ops_types.specs.Commands.{changing, PlainCommand}
 use Rattle.smo_ops_types.specs.declared.change.Change.{Change}
-use Rattle.version_groups.specs.Steps.{a_command}
+use Rattle.archive_core_replay.specs.Memory.{a_command}
 use Rattle.archive_core_file_spec.specs.LogRecords.{logged, record_of}
 use Rattle.archive_core_replay.specs.Memory.{accepted_command, IsAcceptedAfter, new_command_fault}
 use Rattle.archive_core_replay.proofs.Memory.{borrowed}

@@ -1,5 +1,5 @@
 use Rattle.std.proofs.Common.{length, ap, ◌∙◌}
-use Rattle.version_groups.specs.Groups.{Kept}
+use Rattle.archive_core.specs.State.{Kept}
 use Rattle.script_cli_vault.proofs.Committed.{something, newest_shown}
 use Rattle.script_cli_vault.proofs.vault.ArchiveVaultVault.newest.Goals as goal
 

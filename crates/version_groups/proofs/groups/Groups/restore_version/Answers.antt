@@ -14,8 +14,7 @@ use Rattle.version_groups_tables.specs.Evolving.{ComeNext}
 use Rattle.version_groups_tables.specs.Stored.{stored_as}
 use Rattle.version_groups_tables.specs.Places.{at_places}
 use Rattle.version_groups_tables.specs.Restoring.{stores_of, HaveColumns, BeginsOver, HasColumns}
-use Rattle.version_groups_tables.specs.Restoring.{OthersAre}
-use Rattle.smo_ops_operators.specs.Names.{is_one_of}
+use Rattle.version_groups_tables.specs.Restoring.{OthersAre, is_one_of}
 use Rattle.version_groups_tables.proofs.PlacedTables.{filter_alike}
 use Rattle.version_groups_tables.proofs.RestoredTables.{one_of_made, come_alike}
 use Rattle.version_groups.specs.Groups.{Kept, versions_in, newest_places, newest_group}
